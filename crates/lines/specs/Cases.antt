@@ -1,0 +1,107 @@
+-- 01, "Songs tried": the M cases, computed from quoted file, line and budget to the answer. In a string `\\` is one `\`.
+use mathlib.Core.Path.{_≡_, refl}
+use Prim.Native.Nat.{ℕ}
+use mathlib.Core.List.{List, [], _∷_, _++_}
+use lib.ListN.{length, replicate}
+use Prim.Native.String.{String}
+use Rattle.kinds.specs.Kind.{kindOf}
+use Rattle.macros.specs.Macro.{Table}
+use Rattle.macros.specs.Read.{Read, readFile}
+use Rattle.macros.specs.Read.Read.{refusedAt, table}
+use Rattle.macros.specs.Refusals.{number, place, fileNumber}
+use Rattle.macros.specs.Cases.{everything as macrosOpen}
+use Rattle.lines.specs.State.{State, freshStack, freshCounter, fresh, stackOf, counterOf, currentEntry, contents}
+use Rattle.lines.specs.Matching.{Span, span, byteFits, begins, isMember, inClass, fits, width, Copies, Allowed, Satisfies, Divides, endOf, Fewer, then, more, spare, repeated, isEnd, chosen, closing, tagText}
+use Rattle.lines.specs.Replacing.{unless, onto, puts, put, withStack, withCounter, withPointer, withValue, withIncrement, withEntry, fallen, moves, early, late, stores, callActs, acts, replaces, commandsAct, occur}
+use Rattle.lines.specs.Pass.{Occurrence, barred, unlessBarred, counting, match, goOn, matched, atEnd, onward, atByte, walk, pass, occurrences, occurred, outcome}
+use Rattle.lines.specs.Line.{isIn, unlessClosed, openFrom, newestFirst, closing as closingMacro, closedBy, isControl, due, follow, afterPass, textOf, passes, lineOf, passesOf, hadOccurrence, ending}
+use Rattle.lines.specs.Feeding.Kind.{refusedWith, out, withheld, controlled}
+use Rattle.lines.specs.Feeding.{Kind, Answer, Fed, bytes, same, withTrace, withNflag, flagOrder, macroOrder, orderOf, numberOf, placeOf, kindNumber, outputOf, kindOfDone, refusal, ofOrder, answered, answer, hasBadByte, feed, feeds}
+
+-- the name that opens all definitions for a computed case
+unfoldable pub everything : ℕ
+unfolding macrosOpen kindOf freshStack freshCounter fresh stackOf counterOf currentEntry contents byteFits begins isMember inClass fits width Copies Allowed Satisfies Divides endOf Fewer then more spare repeated isEnd chosen closing tagText unless onto puts put withStack withCounter withPointer withValue withIncrement withEntry fallen moves early late stores callActs acts replaces commandsAct occur barred unlessBarred counting match goOn matched atEnd onward atByte walk pass occurrences occurred outcome isIn unlessClosed openFrom newestFirst closingMacro closedBy isControl due follow afterPass textOf passes lineOf passesOf hadOccurrence ending same withTrace withNflag flagOrder macroOrder orderOf numberOf placeOf kindNumber outputOf kindOfDone refusal ofOrder answered answer hasBadByte feed feeds
+everything = 0
+
+-- what 01 says of a line: its number and place if it is refused, else its output; and its passes
+pub data Shown : Type 0 where
+  said : (output : List ℕ) → (passes : ℕ) → Shown
+  refused : (number : ℕ) → (place : ℕ) → (passes : ℕ) → Shown
+
+abbrev pub shownKind : ℕ → Kind → Shown
+shownKind n (refusedWith r) = refused (number r) (place r) n
+shownKind n (out t) = said t n
+shownKind n withheld = said [] n
+shownKind n controlled = said [] n
+
+abbrev pub shownAnswers : List Answer → List Shown
+shownAnswers [] = []
+shownAnswers (a ∷ as₁) = shownKind (a .passes) (a .kind) ∷ shownAnswers as₁
+
+-- lines fed to what reading made of a file
+abbrev pub fedTo : List Fed → Read → List Shown
+fedTo xs (refusedAt r p) = refused (fileNumber r) p 0 ∷ []
+fedTo xs (table ms) = shownAnswers (feeds ms fresh xs)
+
+-- a file, and lines with one budget for all
+abbrev pub lines : ℕ → List String → List Fed
+lines n [] = []
+lines n (s ∷ ss) = (n, bytes s) ∷ lines n ss
+
+abbrev pub song : String → ℕ → String → List Shown
+song f n s = fedTo ((n, bytes s) ∷ []) (readFile (bytes f))
+
+abbrev pub songs : String → List String → List Shown
+songs f ss = fedTo (lines 10000 ss) (readFile (bytes f))
+
+M4 : song "'int'='integer';" 262 "print" ≡ refused 31 0 262 ∷ []
+unfolding everything
+M4 = refl
+
+M5 : song "'int'='integer';" 263 "print" ≡ refused 32 0 263 ∷ []
+unfolding everything
+M5 = refl
+
+-- M1 to M13
+pub M-cases :
+    (song "'@{-*-?6*\\/?6*}'='o{1}';" 10000 "@-1/4" ≡ said (bytes "o-1/4") 2 ∷ []) ×
+    (song "'@{-*-?6*\\/?6*}'='o{1}';" 10000 "@1/4" ≡ said (bytes "o1/4") 2 ∷ []) ×
+    (song "'ab'<'abc';" 10000 "ababab" ≡ said (bytes "abcabcabc") 1 ∷ []) ×
+    (song "'int'='integer';" 262 "print" ≡ refused 31 0 262 ∷ []) ×
+    (song "'int'='integer';" 263 "print" ≡ refused 32 0 263 ∷ []) ×
+    (song "'?1*{[0-9]*}'<'{1}';" 10000 "Mozart's 38th symphony" ≡ said (bytes "8th symphony") 1 ∷ []) ×
+    (song "'a*-'<'X';" 10000 "baac" ≡ said (bytes "XbXcX") 1 ∷ []) ×
+    (song "'^'<'*';" 10000 "" ≡ said (bytes "*") 1 ∷ []) ×
+    (song "'a'='b';'a'='c';" 10000 "a" ≡ said (bytes "c") 3 ∷ []) ×
+    (song "'more &(a)*s'<'ok';" 10000 "more s" ≡ said (bytes "ok") 1 ∷ []) ×
+    (song "'a**'='b';" 10000 "" ≡ refused 14 3 0 ∷ []) ×
+    (song "'[z-a]'='b';" 10000 "" ≡ refused 13 4 0 ∷ []) ×
+    (song "'a'='{2}';" 10000 "" ≡ refused 16 7 0 ∷ [])
+unfolding everything
+M-cases = (refl, refl, refl, M4, M5, refl, refl, refl, refl, refl, refl, refl, refl)
+
+-- readings 19 to 25, and songs of 01 that are no M cases
+pub lineCases :
+    (songs "'a*-'<'X';" ("bb" ∷ "aa" ∷ []) ≡ said (bytes "XbXbX") 1 ∷ said (bytes "X") 1 ∷ []) ×
+    (songs "'avg({?2*},{?2*})'='({1}+{2})\\/2'&(1,a)&(2,b);'A'<'&(a)';'B'<'&(b)';" ("avg(26,42)" ∷ "A B" ∷ []) ≡ said (bytes "(26+42)/2") 6 ∷ said (bytes "26 42") 3 ∷ []) ×
+    (songs "'^'<'#(n+) ';" ("do" ∷ "$FOO" ∷ "re" ∷ []) ≡ said (bytes "1 do") 1 ∷ refused 23 0 0 ∷ said (bytes "2 re") 1 ∷ []) ×
+    (songs "'p'<'&(a=20)';'{x*}'<''&(1,+a);'{y*}'<''&(1,a+);'z'<'&(a+)q';" ("p" ∷ "xxxxxxxxxxxxxxxxxxxxxxxxxxxxxxxxxxxxxxxxxxxxxxxxxxx" ∷ "yyyyyyyyyyyyyyyyyyyyyyyyyyyyyyyyyyyyyyyyyyyyyyyyyyy" ∷ []) ≡ said (bytes "") 7 ∷ refused 34 0 3 ∷ refused 33 0 2 ∷ []) ×
+    (songs "'p'<'&(a=20)';'z'<'&(a+)q';'s'<'#(n=999999999)';'t'<'#(n+)';" ("p" ∷ "z" ∷ "s" ∷ "t" ∷ []) ≡ said (bytes "") 7 ∷ refused 34 0 3 ∷ said (bytes "") 5 ∷ refused 35 0 1 ∷ []) ×
+    (songs "'d'='&(-a)#(-n)x#(n)';" ("dd" ∷ []) ≡ said (bytes "1x11x1") 2 ∷ []) ×
+    (songs "'a'<'\\n';'^b'<'X';'b$'<'Y';" ("bab" ∷ []) ≡ said (bytes "X\nY") 3 ∷ []) ×
+    (song "'a'='b';" 0 "$NFLAG 1" ≡ said (bytes "") 0 ∷ []) ×
+    (song "'a'='b';" 0 "x" ≡ refused 31 0 0 ∷ []) ×
+    (song "" 0 "x" ≡ said (bytes "x") 0 ∷ []) ×
+    (song "'a'='$NFLAG 0';" 1 "a" ≡ said (bytes "") 1 ∷ []) ×
+    (songs "" ("$MACROS 'a'='b';" ∷ "a" ∷ "$TRACE 1" ∷ "$TRACE 1 " ∷ "$MACRO" ∷ "$MACRO'a'='b';'c'='d';" ∷ "$MACRO 'a**'='b';" ∷ "$" ∷ []) ≡ said (bytes "") 0 ∷ said (bytes "b") 2 ∷ said (bytes "") 0 ∷ refused 23 0 0 ∷ refused 23 0 0 ∷ refused 23 0 0 ∷ refused 14 4 0 ∷ refused 23 0 0 ∷ []) ×
+    (songs "'a'='b';" ("$NFLAG 1" ∷ "x" ∷ "a" ∷ "$NFLAG 0" ∷ "x" ∷ []) ≡ said (bytes "") 0 ∷ said (bytes "") 1 ∷ said (bytes "b") 2 ∷ said (bytes "") 0 ∷ said (bytes "x") 1 ∷ []) ×
+    (songs "'n'<'#(n)';'o'<'$TRACE 0'#(n=5);'q'<'$FOO'#(n=7);" ("o" ∷ "n" ∷ "q" ∷ "n" ∷ []) ≡ said (bytes "") 2 ∷ said (bytes "5") 5 ∷ refused 23 0 1 ∷ said (bytes "5") 5 ∷ [])
+unfolding everything
+lineCases = (refl, refl, refl, refl, refl, refl, refl, refl, refl, refl, refl, refl, refl, refl)
+
+-- 4, 21, 22 and 33 at their bounds
+pub lineBounds :
+    (fedTo ((1000000, replicate 1054 120) ∷ (1000001, replicate 1055 0) ∷ (10000, replicate 1055 0) ∷ (10000, 97 ∷ 0 ∷ []) ∷ (10000, 10 ∷ []) ∷ []) (readFile []) ≡ said (replicate 1054 120) 0 ∷ refused 4 0 0 ∷ refused 21 0 0 ∷ refused 22 0 0 ∷ refused 22 0 0 ∷ []) ×
+    (fedTo ((10000, replicate 50 97) ∷ (10000, replicate 51 97) ∷ []) (readFile (bytes "'{a*}'<'b'&(1,t);")) ≡ said (bytes "b") 1 ∷ refused 33 0 1 ∷ [])
+unfolding everything
+lineBounds = (refl, refl)

@@ -1,0 +1,160 @@
+-- 01, part 6 and "Who can cause a refusal": a line that is fed, and a list of lines.
+use Prim.Native.Nat.{ℕ, zero, suc}
+use mathlib.Core.Bool.{Bool, true, false, not, _&&_, _||_}
+use mathlib.Core.List.{List, [], _∷_}
+use lib.Dec.{leb, eqb}
+use lib.ListN.{length, drop}
+use Prim.Native.String.{String}
+use Prim.Native.String as Str
+use Prim.Native.Char.{code}
+use Rattle.macros.specs.Bounds.{mostLineBytes, mostBudget}
+use Rattle.macros.specs.Refusals.{Refusal, number, place}
+use Rattle.macros.specs.Refusals.Refusal.{ofHost, ofLine, ofFile, ofWork}
+use Rattle.macros.specs.Refusals.HostRefusal.{budgetTooLarge}
+use Rattle.macros.specs.Refusals.LineRefusal.{lineTooLong, badByte, badControl}
+use Rattle.macros.specs.Macro.{Table, pick}
+use Rattle.macros.specs.Read.{Read, readOnto}
+use Rattle.macros.specs.Read.Read.{refusedAt, table}
+use Rattle.lines.specs.State.{State}
+use Rattle.lines.specs.Matching.{begins}
+use Rattle.lines.specs.Line.{Ending, Line, passesOf, hadOccurrence, ending, lineOf}
+use Rattle.lines.specs.Line.Ending.{refused, done, control}
+
+-- CONTROL LINES
+
+-- what a control line does to table and state, or its refusal
+pub data Order : Type 0 where
+  wrong : Refusal → Order
+  orders : Table → State → Order
+
+abbrev pub bytes : String → List ℕ
+bytes Str.[] = []
+bytes (Str._∷_ c s) = code c ∷ bytes s
+
+unfoldable pub same : List ℕ → List ℕ → Bool
+same [] [] = true
+same [] (b ∷ bs) = false
+same (a ∷ l) [] = false
+same (a ∷ l) (b ∷ bs) = elim (eqb a b) [ true ↦ same l bs | false ↦ false ]
+
+unfoldable pub withTrace : ℕ → State → State
+withTrace n st = record { stacks = st .stacks; counters = st .counters; trace = n; nflag = st .nflag }
+
+unfoldable pub withNflag : ℕ → State → State
+withNflag n st = record { stacks = st .stacks; counters = st .counters; trace = st .trace; nflag = n }
+
+-- "`$TRACE 0`, `$TRACE 1`, `$NFLAG 0`, `$NFLAG 1`, exactly so, set a flag"; 23: "another word or value"
+unfoldable pub flagOrder : Table → State → List ℕ → Order
+flagOrder ms st t =
+    pick (same t (bytes "$TRACE 0")) (orders ms (withTrace 0 st))
+    (pick (same t (bytes "$TRACE 1")) (orders ms (withTrace 1 st))
+    (pick (same t (bytes "$NFLAG 0")) (orders ms (withNflag 0 st))
+    (pick (same t (bytes "$NFLAG 1")) (orders ms (withNflag 1 st)) (wrong (ofLine badControl)))))
+
+-- "A fault found in that reading gives its own number; else a count other than one gives 23."
+unfoldable pub macroOrder : Table → State → Read → Order
+macroOrder ms st (refusedAt r p) = wrong (ofFile r p)
+macroOrder ms st (table ks) = pick (eqb (length ks) (suc (length ms))) (orders ks st) (wrong (ofLine badControl))
+
+-- "`$MACRO` and the bytes after it, read as a macro file of one macro, adds the newest"
+unfoldable pub orderOf : Table → State → List ℕ → Order
+orderOf ms st t =
+    elim (begins (bytes "$MACRO") t) [
+      | true ↦ macroOrder ms st (readOnto ms (drop 6 t))
+      | false ↦ flagOrder ms st t
+    ]
+
+-- ANSWERS
+
+-- a line is refused, goes out with its text, is withheld, or was a control line
+pub data Kind : Type 0 where
+  refusedWith : Refusal → Kind
+  out : List ℕ → Kind
+  withheld controlled : Kind
+
+-- a line's answer, with the table and the state after it
+pub record Answer : Type 0 where
+  pub kind : Kind
+  pub passes : ℕ
+  pub table : Table
+  pub state : State
+
+-- 01's number, 0 if the line is taken
+unfoldable pub numberOf : Kind → ℕ
+numberOf (refusedWith r) = number r
+numberOf (out t) = 0
+numberOf withheld = 0
+numberOf controlled = 0
+
+unfoldable pub placeOf : Kind → ℕ
+placeOf (refusedWith r) = place r
+placeOf (out t) = 0
+placeOf withheld = 0
+placeOf controlled = 0
+
+-- "its kind (out, withheld, control)", as 1, 2 and 3, 0 if it is refused
+unfoldable pub kindNumber : Kind → ℕ
+kindNumber (refusedWith r) = 0
+kindNumber (out t) = 1
+kindNumber withheld = 2
+kindNumber controlled = 3
+
+-- the line that goes out; "a withheld or control line has length 0"
+unfoldable pub outputOf : Kind → List ℕ
+outputOf (refusedWith r) = []
+outputOf (out t) = t
+outputOf withheld = []
+outputOf controlled = []
+
+-- "withheld if NFLAG is 1 and it had no occurrence; otherwise it goes out"
+unfoldable pub kindOfDone : ℕ → Bool → List ℕ → Kind
+kindOfDone zero o t = out t
+kindOfDone (suc n) true t = out t
+kindOfDone (suc n) false t = withheld
+
+-- a refusal after n passes begun leaves table and state
+unfoldable pub refusal : Table → State → ℕ → Refusal → Answer
+refusal ms old n r = record { kind = refusedWith r; passes = n; table = ms; state = old }
+
+unfoldable pub ofOrder : Table → State → ℕ → Order → Answer
+ofOrder ms old n (wrong r) = refusal ms old n r
+ofOrder ms old n (orders ks st) = record { kind = controlled; passes = n; table = ks; state = st }
+
+-- the answer that a line's history makes
+unfoldable pub answered : Table → State → ℕ → Bool → Ending → Answer
+answered ms old n o (refused r) = refusal ms old n (ofWork r)
+answered ms old n o (done t st) = record { kind = kindOfDone (st .nflag) o t; passes = n; table = ms; state = st }
+answered ms old n o (control t st) = ofOrder ms old n (orderOf ms st t)
+
+unfoldable pub answer : Table → State → Line → Answer
+answer ms old l = answered ms old (length (passesOf l)) (hadOccurrence l) (ending l)
+
+-- FEEDING
+
+-- 22: "holds byte 0 or line feed"
+unfoldable pub hasBadByte : List ℕ → Bool
+hasBadByte [] = false
+hasBadByte (b ∷ bs) = elim (eqb b 0 || eqb b 10) [ true ↦ true | false ↦ hasBadByte bs ]
+
+-- a line fed to a table and a state: 4, 21 and 22 before any pass
+unfoldable pub feed : Table → State → ℕ → List ℕ → Answer
+feed ms st budget t =
+    elim (leb budget mostBudget) [
+      | false ↦ refusal ms st 0 (ofHost budgetTooLarge)
+      | true ↦ elim (leb (length t) mostLineBytes) [
+        | false ↦ refusal ms st 0 (ofLine lineTooLong)
+        | true ↦ elim (hasBadByte t) [
+          | true ↦ refusal ms st 0 (ofLine badByte)
+          | false ↦ answer ms st (lineOf ms st budget t)
+        ]
+      ]
+    ]
+
+-- a budget and a line
+abbrev pub Fed : Type 0
+Fed = ℕ × List ℕ
+
+-- lines fed in turn, each to the table and state that the last returned or left
+unfoldable pub feeds : Table → State → List Fed → List Answer
+feeds ms st [] = []
+feeds ms st (x ∷ xs) = let a : Answer = feed ms st (x .0) (x .1) in a ∷ feeds (a .table) (a .state) xs

@@ -1,0 +1,7 @@
+pub mod State
+pub mod Matching
+pub mod Replacing
+pub mod Pass
+pub mod Line
+pub mod Feeding
+pub mod Cases

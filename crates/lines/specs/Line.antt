@@ -1,0 +1,119 @@
+-- 01, part 6: a line, with all its passes.
+use Prim.Native.Nat.{ℕ, zero, suc}
+use mathlib.Core.Bool.{Bool, true, false, _||_}
+use mathlib.Core.List.{List, [], _∷_, reverse}
+use lib.Dec.{eqb}
+use lib.ListN.{length}
+use Rattle.macros.specs.Refusals.{WorkRefusal}
+use Rattle.macros.specs.Refusals.WorkRefusal.{budgetUsedUp}
+use Rattle.macros.specs.Macro.{Symbol, Macro, Table}
+use Rattle.macros.specs.Macro.Symbol.{equal, less}
+use Rattle.lines.specs.State.{State}
+use Rattle.lines.specs.Replacing.{Work, Done, onto}
+use Rattle.lines.specs.Replacing.Done.{bad, good}
+use Rattle.lines.specs.Pass.{Walk, pass, occurred, outcome}
+
+-- THE HISTORY OF A LINE
+
+-- a macro with its place in the table, the oldest at 0
+pub record Numbered : Type 0 where
+  pub number : ℕ
+  pub macro : Macro
+
+-- a pass: its macro, the text and the state at its start, and what happens in it
+pub record Pass : Type 0 where
+  pub which : Numbered
+  pub text : List ℕ
+  pub state : State
+  pub events : Walk
+
+-- how a line ends: refused, done, or a control line; with its final text and the state then
+pub data Ending : Type 0 where
+  refused : WorkRefusal → Ending
+  done : List ℕ → State → Ending
+  control : List ℕ → State → Ending
+
+-- the passes in turn, and then the end
+pub data Line : Type 0 where
+  ended : Ending → Line
+  passed : Pass → Line → Line
+
+-- WHICH MACROS ARE OPEN
+
+unfoldable pub isIn : ℕ → List ℕ → Bool
+isIn n [] = false
+isIn n (k ∷ ks) = elim (eqb n k) [ true ↦ true | false ↦ isIn n ks ]
+
+unfoldable pub unlessClosed : Bool → Numbered → List Numbered → List Numbered
+unlessClosed true e es = es
+unlessClosed false e es = e ∷ es
+
+-- the open macros of a table whose first has the number n
+unfoldable pub openFrom : ℕ → List ℕ → Table → List Numbered
+openFrom n closed [] = []
+openFrom n closed (m ∷ ms) = unlessClosed (isIn n closed) (record { number = n; macro = m }) (openFrom (suc n) closed ms)
+
+-- "Passes begin with the newest macro and go to older ones"
+unfoldable pub newestFirst : List ℕ → Table → List Numbered
+newestFirst closed ms = reverse (openFrom 0 closed ms)
+
+-- "A `<` macro that occurred is closed to this line; all others are open."
+unfoldable pub closing : Symbol → ℕ → List ℕ → List ℕ
+closing equal n closed = closed
+closing less n closed = n ∷ closed
+
+unfoldable pub closedBy : Numbered → List ℕ → List ℕ
+closedBy e closed = closing (e .macro .symbol) (e .number) closed
+
+-- THE PASSES
+
+-- "a line beginning with `$` is a control line"
+unfoldable pub isControl : List ℕ → Bool
+isControl [] = false
+isControl (b ∷ bs) = eqb b 36
+
+-- "Before each pass and at the end, .. a control line: no more passes"; "The line is done when every open macro has passed without one since the line's last occurrence"
+unfoldable pub due : Bool → List ℕ → State → List Numbered → (Numbered → List Numbered → Line) → Line
+due true t st todo next = ended (control t st)
+due false t st [] next = ended (done t st)
+due false t st (e ∷ es) next = next e es
+
+-- after a pass: refused; on to the older macros; "after a pass with an occurrence, again with the newest"
+unfoldable pub follow : Done → Bool → (Work → Line) → (Work → Line) → Line
+follow (bad r) o on again = ended (refused r)
+follow (good w) false on again = on w
+follow (good w) true on again = again w
+
+unfoldable pub afterPass : Pass → (Work → Line) → (Work → Line) → Line
+afterPass x on again = passed x (follow (outcome (x .events)) (occurred (x .events)) on again)
+
+-- the text that a pass made
+unfoldable pub textOf : Work → List ℕ
+textOf w = onto (w .out) []
+
+-- the passes from a text and a state on; todo: the open macros whose pass is due; "Each pass costs one of the budget.", 31: "another pass is due and the budget is used up"
+unfoldable pub passes : Table → ℕ → List ℕ → List Numbered → State → List ℕ → Line
+passes ms zero closed todo st t = due (isControl t) t st todo (λ e es. ended (refused budgetUsedUp))
+passes ms (suc budget) closed todo st t =
+    due (isControl t) t st todo
+    (λ e es. afterPass (record { which = e; text = t; state = st; events = pass (e .macro) t st })
+    (λ w. passes ms budget closed es st t)
+    (λ w. passes ms budget (closedBy e closed) (newestFirst (closedBy e closed) ms) (w .state) (textOf w)))
+
+-- a line from its start
+unfoldable pub lineOf : Table → State → ℕ → List ℕ → Line
+lineOf ms st budget t = passes ms budget [] (newestFirst [] ms) st t
+
+-- WHAT A LINE COMES TO
+
+unfoldable pub passesOf : Line → List Pass
+passesOf (ended e) = []
+passesOf (passed x l) = x ∷ passesOf l
+
+unfoldable pub hadOccurrence : Line → Bool
+hadOccurrence (ended e) = false
+hadOccurrence (passed x l) = occurred (x .events) || hadOccurrence l
+
+unfoldable pub ending : Line → Ending
+ending (ended e) = e
+ending (passed x l) = ending l

@@ -1,0 +1,129 @@
+-- 01, part 4: what an occurrence inserts and changes.
+use Prim.Native.Nat.{ℕ, suc, _+_, _-_}
+use mathlib.Core.Bool.{Bool, true, false}
+use mathlib.Core.List.{List, [], _∷_}
+use mathlib.Core.Option.{Option, none, some}
+use lib.Dec.{leb, ltb}
+use lib.ListN.{length, set}
+use Rattle.macros.specs.Bounds.{mostLineBytes, mostEntries, mostEntryBytes, mostCounter}
+use Rattle.macros.specs.Refusals.{WorkRefusal}
+use Rattle.macros.specs.Refusals.WorkRefusal.{newLineTooLong, tagTooLong, pointerTooHigh, counterTooHigh}
+use Rattle.macros.specs.Macro.{Mark, Piece, Sign, Move, Call, Action, Macro}
+use Rattle.macros.specs.Macro.Mark.{stack, counter}
+use Rattle.macros.specs.Macro.Sign.{plus, minus}
+use Rattle.macros.specs.Macro.Move.{still, before, after}
+use Rattle.macros.specs.Macro.Call.{insert, storeTag, setTo, storeText, setIncrement}
+use Rattle.macros.specs.Macro.Action.{text, tag, call}
+use Rattle.lines.specs.State.{Stack, Counter, State, stackOf, counterOf, contents}
+use Rattle.lines.specs.Matching.{Division, stops, tagText}
+
+infixl 20 _>>=_
+-- a moment of a pass: the new line so far, last byte first, its length, and the state
+pub record Work : Type 0 where
+  pub out : List ℕ
+  pub size : ℕ
+  pub state : State
+
+-- a step is refused, or done
+pub data Done : Type 0 where
+  bad : WorkRefusal → Done
+  good : Work → Done
+
+-- one step, and then another
+abbrev pub _>>=_ : Done → (Work → Done) → Done
+_>>=_ (bad r) k = bad r
+_>>=_ (good w) k = k w
+
+unfoldable pub unless : Bool → WorkRefusal → Work → Done
+unless true r w = good w
+unless false r w = bad r
+
+-- THE NEW LINE
+
+-- a text in front of bytes that stand last byte first
+unfoldable pub onto : List ℕ → List ℕ → List ℕ
+onto [] out = out
+onto (b ∷ bs) out = onto bs (b ∷ out)
+
+-- a text is inserted; 32: "the new line's 1,055th byte"
+unfoldable pub puts : List ℕ → Work → Done
+puts t w = let n : ℕ = w .size + length t in unless (leb n mostLineBytes) newLineTooLong (record { out = onto t (w .out); size = n; state = w .state })
+
+-- one byte is
+unfoldable pub put : ℕ → Work → Done
+put b w = unless (ltb (w .size) mostLineBytes) newLineTooLong (record { out = b ∷ w .out; size = suc (w .size); state = w .state })
+
+-- THE STATE
+
+unfoldable pub withStack : ℕ → Stack → Work → Work
+withStack i k w = record { out = w .out; size = w .size; state = record { stacks = set (w .state .stacks) (i - 97) k; counters = w .state .counters; trace = w .state .trace; nflag = w .state .nflag } }
+
+unfoldable pub withCounter : ℕ → Counter → Work → Work
+withCounter i k w = record { out = w .out; size = w .size; state = record { stacks = w .state .stacks; counters = set (w .state .counters) (i - 97) k; trace = w .state .trace; nflag = w .state .nflag } }
+
+unfoldable pub withPointer : ℕ → ℕ → Work → Work
+withPointer i n w = withStack i (record { pointer = n; entries = stackOf (w .state) i .entries }) w
+
+unfoldable pub withValue : ℕ → ℕ → Work → Work
+withValue i n w = withCounter i (record { value = n; increment = counterOf (w .state) i .increment }) w
+
+unfoldable pub withIncrement : ℕ → ℕ → Work → Work
+withIncrement i n w = withCounter i (record { value = counterOf (w .state) i .value; increment = n }) w
+
+unfoldable pub withEntry : ℕ → List ℕ → Work → Work
+withEntry i t w =
+    withStack i (record { pointer = stackOf (w .state) i .pointer; entries = set (stackOf (w .state) i .entries) (stackOf (w .state) i .pointer - 1) t }) w
+
+-- "A pointer or counter that would fall below 1 is 1."
+unfoldable pub fallen : ℕ → ℕ → ℕ
+fallen n by = elim (ltb by n) [ true ↦ n - by | false ↦ 1 ]
+
+-- the pointer moves by 1, the counter by its increment; 34: "pointer past 20", 35: "counter past its end"
+unfoldable pub moves : Mark → Sign → ℕ → Work → Done
+moves stack plus i w = let n : ℕ = stackOf (w .state) i .pointer + 1 in unless (leb n mostEntries) pointerTooHigh (withPointer i n w)
+moves stack minus i w = good (withPointer i (fallen (stackOf (w .state) i .pointer) 1) w)
+moves counter plus i w = let n : ℕ = counterOf (w .state) i .value + counterOf (w .state) i .increment in unless (leb n mostCounter) counterTooHigh (withValue i n w)
+moves counter minus i w = good (withValue i (fallen (counterOf (w .state) i .value) (counterOf (w .state) i .increment)) w)
+
+-- the move before the access
+unfoldable pub early : Mark → Move → ℕ → Work → Done
+early m still i w = good w
+early m (before s) i w = moves m s i w
+early m (after s) i w = good w
+
+-- the move after it
+unfoldable pub late : Mark → Move → ℕ → Work → Done
+late m still i w = good w
+late m (before s) i w = good w
+late m (after s) i w = moves m s i w
+
+-- 33: "a stored tag over 50 bytes"
+unfoldable pub stores : ℕ → List ℕ → Work → Done
+stores i t w = unless (leb (length t) mostEntryBytes) tagTooLong (withEntry i t w)
+
+-- WHAT ACTS, for the division of the line t whose spans end at qs
+
+unfoldable pub callActs : List ℕ → List Piece → List ℕ → Call → Work → Done
+callActs t es qs (insert m i v) w = early m v i w >>= (λ x. puts (contents (x .state) m i) x) >>= late m v i
+callActs t es qs (storeTag n i v) w = early stack v i w >>= stores i (tagText t (n - 1) es qs) >>= late stack v i
+callActs t es qs (setTo stack i n) w = good (withPointer i n w)
+callActs t es qs (setTo counter i n) w = good (withValue i n w)
+callActs t es qs (storeText i v x) w = early stack v i w >>= stores i x >>= late stack v i
+callActs t es qs (setIncrement i n) w = good (withIncrement i n w)
+
+unfoldable pub acts : List ℕ → List Piece → List ℕ → Action → Work → Done
+acts t es qs (text b) w = put b w
+acts t es qs (tag n) w = puts (tagText t (n - 1) es qs) w
+acts t es qs (call c) w = callActs t es qs c w
+
+unfoldable pub replaces : List ℕ → List Piece → List ℕ → List Action → Work → Done
+replaces t es qs [] w = good w
+replaces t es qs (a ∷ as₁) w = acts t es qs a w >>= replaces t es qs as₁
+
+unfoldable pub commandsAct : List ℕ → List Piece → List ℕ → List Call → Work → Done
+commandsAct t es qs [] w = good w
+commandsAct t es qs (c ∷ cs) w = callActs t es qs c w >>= commandsAct t es qs cs
+
+-- "For each occurrence replacement and then commands act, left to right, on the state that the next occurrence sees."
+unfoldable pub occur : Macro → List ℕ → Division → Work → Done
+occur m t d w = replaces t (m .pattern) (stops d) (m .replacement) w >>= commandsAct t (m .pattern) (stops d) (m .commands)

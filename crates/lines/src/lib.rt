@@ -1,0 +1,1 @@
+// Definitions only: states, divisions, passes, lines and lists of lines. They stand in specs/.

@@ -1,0 +1,28 @@
+-- 01, refusal 1: which tables are accepted.
+use Prim.Native.Nat.{ℕ, _≤_}
+use mathlib.Core.Path.{_≡_}
+use mathlib.Core.List.{List, [], _∷_}
+use lib.ListN.{length}
+use Rattle.macros.specs.Bounds.{mostMacros, mostMacroBytes}
+use Rattle.macros.specs.Macro.{Macro, Table}
+use Rattle.macros.specs.Formed.{Octets, Formed}
+use Rattle.macros.specs.Read.{Read, readFile}
+use Rattle.macros.specs.Read.Read.{table}
+use Rattle.macros.specs.Spell.{shortest}
+
+-- "some file spells it": a file that reading takes as this macro alone
+abbrev pub Spelled : Macro → Type 0
+Spelled m = (s : List ℕ) × Octets s × (readFile s ≡ table (m ∷ []))
+
+-- the same by its length: it is well formed, and its shortest spelling has at most 512 bytes
+abbrev pub Spellable : Macro → Type 0
+Spellable m = Formed m × (length (shortest m) ≤ mostMacroBytes)
+
+abbrev pub Each : (Macro → Type 0) → Table → Type 0
+Each P [] = Unit {0}
+Each P (m ∷ ms) = P m × Each P ms
+
+-- "at most 96 macros, each of which some file spells"
+pub record Accepted (ms : Table) : Type 0 where
+  pub count : length ms ≤ mostMacros
+  pub macros : Each Spellable ms

@@ -1,0 +1,42 @@
+-- 01, "Bounds and the fresh state": each bound once.
+use Prim.Native.Nat.{ℕ}
+
+-- the bytes of a macro file
+abbrev pub mostFileBytes : ℕ
+mostFileBytes = 32768
+
+-- the macros of a table
+abbrev pub mostMacros : ℕ
+mostMacros = 96
+
+-- the bytes from a macro's first quote to its `;`, both counted
+abbrev pub mostMacroBytes : ℕ
+mostMacroBytes = 512
+
+-- the tags of a pattern
+abbrev pub mostTags : ℕ
+mostTags = 99
+
+-- the bytes of a line
+abbrev pub mostLineBytes : ℕ
+mostLineBytes = 1054
+
+-- the stacks, and the counters, one for each lower case letter
+abbrev pub letters : ℕ
+letters = 26
+
+-- the entries of a stack, and so the largest pointer
+abbrev pub mostEntries : ℕ
+mostEntries = 20
+
+-- the bytes of an entry
+abbrev pub mostEntryBytes : ℕ
+mostEntryBytes = 50
+
+-- the largest counter, and the largest increment
+abbrev pub mostCounter : ℕ
+mostCounter = 999999999
+
+-- the largest budget
+abbrev pub mostBudget : ℕ
+mostBudget = 1000000

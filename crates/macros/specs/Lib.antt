@@ -1,0 +1,9 @@
+pub mod Bounds
+pub mod Refusals
+pub mod Macro
+pub mod Formed
+pub mod Read
+pub mod Write
+pub mod Spell
+pub mod Accepted
+pub mod Cases
