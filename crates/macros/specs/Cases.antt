@@ -168,12 +168,13 @@ readings = (refl, refl, refl, refl, refl, refl, refl, refl, refl, refl, refl, re
 
 -- every form of part 2, read and written out again
 pub forms :
+    (again "'\t[\ta]'<'\t&(a:\t:)';" ≡ (bytes "'\\t[\\ta]'<'\\t&(a:\\t:)';\n", 0, 0)) ×
     (again "x'a?/x/3*/y/-{?&*&(b)}[~a-z\\]-]'</and/'{01}&(a=0 9)&( b:x:)\\&(';" ≡ (bytes "'a?3*-{\\?\\&*&(b)}[~a-z\\]\\-]'<'{1}&(a=9)&(b:x:)\\&(';\n", 0, 0)) ×
     (again "'{^a#}#(n)*$'='&(+b)&(1,b-)#(n+)'x&(01,b)&#(n,7)&(b-:\\:\\n:)y#(n=3);" ≡ (bytes "'{^a\\#}#(n)*$'='&(+b)&(1,b-)#(n+)'&(1,b)#(n,7)&(b-:\\:\\n:)#(n=3);\n", 0, 0)) ×
     (again "'{a}'='&(-b)&(b+)&(b-)&(1,+b)&(1,-b)&(1,b+)&(-b:x:)&(b+:x:)#(-n)#(+n)#(n-)#(n)}';" ≡ (bytes "'{a}'='&(-b)&(b+)&(b-)&(1,+b)&(1,-b)&(1,b+)&(-b:x:)&(b+:x:)#(-n)#(+n)#(n-)#(n)}';\n", 0, 0)) ×
     (again "'a'='b';\n'c'<'d' x;" ≡ (bytes "'a'='b';\n'c'<'d';\n", 0, 0))
 unfolding everything
-forms = (refl, refl, refl, refl)
+forms = (refl, refl, refl, refl, refl)
 
 -- the shortest spellings of reading 18
 pub spellings :

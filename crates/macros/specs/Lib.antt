@@ -6,4 +6,7 @@ pub mod Read
 pub mod Write
 pub mod Spell
 pub mod Accepted
+pub mod RoundTrip
+pub mod Spelling
+pub mod ReadKeeps
 pub mod Cases

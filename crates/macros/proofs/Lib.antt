@@ -1,0 +1,13 @@
+pub mod Tests
+pub mod Styles
+pub mod Full
+pub mod Readings
+pub mod BackPattern
+pub mod BackCalls
+pub mod Whole
+pub mod Round
+pub mod Costs
+pub mod PaidPattern
+pub mod PaidCalls
+pub mod Paid
+pub mod Laws
