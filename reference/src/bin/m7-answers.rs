@@ -1,0 +1,36 @@
+//! `m7-answers FILE...` prints stored answers as protocol commands, so that
+//! any engine that serves the protocol can be run on them.
+
+use m7_reference::answers::{parse, Case, Check};
+use m7_reference::protocol::hex;
+use std::io::{self, BufWriter, Write};
+
+fn print(case: &Case, output: &mut impl Write) -> io::Result<()> {
+    writeln!(output, "read {}\nfresh", hex(&case.file))?;
+    for (_, check) in &case.checks {
+        match check {
+            Check::Line(budget, line) => writeln!(output, "feed {budget} {}", hex(line))?,
+            Check::Written(_) | Check::WrittenBytes(_) | Check::WritingRefused(_) => {
+                writeln!(output, "write")?
+            }
+            Check::Shortest(..) => writeln!(output, "spell")?,
+            Check::SameAs(file) | Check::DiffersFrom(file) => {
+                writeln!(output, "read {}\nwrite\nread {}", hex(file), hex(&case.file))?;
+            }
+            _ => {}
+        }
+    }
+    writeln!(output, "state")
+}
+
+fn main() -> io::Result<()> {
+    let mut output = BufWriter::new(io::stdout().lock());
+    for name in std::env::args().skip(1) {
+        let text = std::fs::read_to_string(&name)?;
+        let cases = parse(&text).map_err(|error| io::Error::other(format!("{name}: {error}")))?;
+        for case in &cases {
+            print(case, &mut output)?;
+        }
+    }
+    output.flush()
+}

@@ -1,0 +1,15 @@
+//! 01, "Bounds and the fresh state".
+
+pub const FILE_BYTES: usize = 32_768;
+pub const MACROS: usize = 96;
+pub const MACRO_BYTES: usize = 512;
+pub const TAGS: usize = 99;
+pub const LINE_BYTES: usize = 1_054;
+pub const LETTERS: usize = 26;
+pub const ENTRIES: usize = 20;
+pub const ENTRY_BYTES: usize = 50;
+pub const COUNTER_END: u64 = 999_999_999;
+pub const BUDGET_END: u64 = 1_000_000;
+
+/// 01, part 8: the budget of the program.
+pub const PROGRAM_BUDGET: u64 = 10_000;

@@ -1,0 +1,130 @@
+//! Cases at the bounds of 01, a little below and a little past them.
+
+use super::{Case, Random};
+
+/// A number from `middle` - 3 to `middle` + 3.
+fn near(random: &mut Random, middle: usize) -> usize {
+    middle - 3 + random.below(7)
+}
+
+fn case(file: String, lines: Vec<(u64, String)>) -> Case {
+    let bytes = |(budget, line): (u64, String)| (budget, line.into_bytes());
+    Case { file: file.into_bytes(), lines: lines.into_iter().map(bytes).collect() }
+}
+
+/// One case near one bound.
+pub fn bound_case(random: &mut Random) -> Case {
+    match random.below(9) {
+        0 => macro_bytes(random),
+        1 => macros(random),
+        2 => line_bytes(random),
+        3 => entry_bytes(random),
+        4 => tags(random),
+        5 => pointers(random),
+        6 => counters(random),
+        7 => file_bytes(random),
+        _ => closures(random),
+    }
+}
+
+/// A macro of about 512 bytes, its length in one of its parts.
+fn macro_bytes(random: &mut Random) -> Case {
+    let fill = |text: &str, count: usize| text.repeat(count);
+    let file = match random.below(6) {
+        0 => format!("'a'='{}';", fill("x", near(random, 505))),
+        1 => format!("'{}'='';", fill("a", near(random, 506))),
+        2 => format!("'a/{}/'='';", fill("'", near(random, 503))),
+        3 => format!("'a'='b'{};", fill("\n", near(random, 504))),
+        4 => format!("'a'='{}';", fill(":", near(random, 505))),
+        _ => format!("'[{}]'='b'", fill("c", near(random, 504))),
+    };
+    let before = *random.pick(&["", "; ", "'q'='';"]);
+    let text = "a".repeat(near(random, 506));
+    case(format!("{before}{file}"), vec![(3, text), (3, "a".to_string())])
+}
+
+/// About 96 macros, and more of them by control lines.
+fn macros(random: &mut Random) -> Case {
+    let file = "'q'='';".repeat(near(random, 95));
+    let added = "$MACRO 'a'='b';".to_string();
+    let two = "$MACRO'a'='b';'c'='d';".to_string();
+    let budget = near(random, 96) as u64;
+    case(file, vec![(9, two), (9, added.clone()), (9, added), (budget, "x".to_string())])
+}
+
+/// A line of about 1,054 bytes that grows or not.
+fn line_bytes(random: &mut Random) -> Case {
+    let files =
+        ["'b'<'cc';", "'$'<'x';", "'^'<'#(n+)';", "'{?1*}'<'{1}';", "'{b}'<'{1}{1}'&(1,a);"];
+    let file = random.pick(&files).to_string();
+    let line = |random: &mut Random| {
+        let length = near(random, 1_054);
+        let place = random.below(length);
+        format!("{}b{}", "a".repeat(place), "a".repeat(length - place - 1))
+    };
+    let lines = (0..3).map(|_| (5, line(random))).collect();
+    case(file, lines)
+}
+
+/// A stored tag and a stored text of about 50 bytes.
+fn entry_bytes(random: &mut Random) -> Case {
+    let step = *random.pick(&["a", "+a", "a-"]);
+    let text = "x".repeat(near(random, 48));
+    let file = format!("'{{a*}}'<'b&(a)'&(1,{step});'c'<'&({step}:{text}:)&(a)';");
+    let tag = "a".repeat(near(random, 50));
+    case(file, vec![(9, tag.clone()), (9, "c".to_string()), (9, tag)])
+}
+
+/// About 99 tags, nested or side by side.
+fn tags(random: &mut Random) -> Case {
+    let count = near(random, 99);
+    let pattern = match random.one_in(2) {
+        true => format!("{}a{}", "{".repeat(count), "}".repeat(count)),
+        false => format!("{}a", "{}".repeat(count)),
+    };
+    let n = near(random, 98);
+    case(format!("'{pattern}'<'[{{{n}}}]';"), vec![(9, "bab".to_string())])
+}
+
+/// A pointer moved about 20 times.
+fn pointers(random: &mut Random) -> Case {
+    let call = *random.pick(&["&(s+)", "&(+s)", "&(s+:x:)", "&(+s:y:)", "&(1,+s)", "&(1,s+)"]);
+    let line = "a".repeat(near(random, 19));
+    let file = format!("'{{a}}'<'{call}';'b'<'&(s-)&(-s)';");
+    case(file, vec![(9, line), (9, "bb".to_string()), (9, "aaa".to_string())])
+}
+
+/// A counter near its ends.
+fn counters(random: &mut Random) -> Case {
+    let value = *random.pick(&[1, 2, 999_999_990, 999_999_998, 999_999_999]);
+    let increment = *random.pick(&[1, 2, 4, 999_999_997, 999_999_998, 999_999_999]);
+    let call = *random.pick(&["#(n+)", "#(+n)", "#(n-)", "#(-n)"]);
+    let file = format!("'a'<'{call},';'b'<''#(n={value})#(n,{increment});");
+    let line = "a".repeat(1 + random.below(6));
+    case(file, vec![(9, "b".to_string()), (9, line), (9, "a".to_string())])
+}
+
+/// A file of about 32,768 bytes, or one that is so when written.
+fn file_bytes(random: &mut Random) -> Case {
+    let end = *random.pick(&["", "'a'='b';", "'", "/", "'a'", "''"]);
+    let length = near(random, 32_768) - end.len();
+    let file = match random.one_in(2) {
+        true => format!("{}{end}", "x".repeat(length)),
+        false => {
+            let most = format!("'a'='{}';", ":".repeat(200)).repeat(80);
+            format!("{most}'a'='{}';", "x".repeat(near(random, 120)))
+        }
+    };
+    case(file, vec![(99, "a".to_string())])
+}
+
+/// As many closures as a macro can have, over a long line.
+fn closures(random: &mut Random) -> Case {
+    let unit = *random.pick(&["a*", "a*-", "?1*-", "[ab]*-", "&(a)*-", "#(n)*-", "{a*-"]);
+    let count = 90 + random.below(10);
+    let close = if unit.starts_with('{') { "}".repeat(count) } else { String::new() };
+    let last = *random.pick(&["b", "$", "", "c$"]);
+    let file = format!("'{}{last}{close}'<'-';", unit.repeat(count));
+    let line = format!("{}{}", "a".repeat(near(random, 100)), random.pick(&["b", "bb", "", "c"]));
+    case(file, vec![(3, line), (3, "1a".repeat(near(random, 300)))])
+}

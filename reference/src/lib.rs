@@ -1,0 +1,25 @@
+//! An M7 engine written from document 01, with the standard library only.
+//!
+//! Data flows one way:
+//! `macros` (what a macro is), `read` and `write` and `spell` (macro files),
+//! `matching` (one division), `replace` (one occurrence), `pass`, `line`.
+//! `answers`, `generate`, `protocol` and `cases` serve the comparison with
+//! other engines.
+
+pub mod answers;
+pub mod bounds;
+pub mod cases;
+pub mod generate;
+pub mod kinds;
+pub mod line;
+pub mod macros;
+pub mod matching;
+pub mod pass;
+pub mod protocol;
+pub mod read;
+pub mod refusal;
+pub mod replace;
+pub mod spell;
+pub mod spelling;
+pub mod state;
+pub mod write;

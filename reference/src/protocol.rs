@@ -1,0 +1,127 @@
+//! The line protocol: one command a line, bytes as hex, one answer a line.
+
+use crate::line::{Answer, Engine, Kind, PassMade};
+use crate::read::read_file;
+use crate::refusal::Refusal;
+use crate::spell::shortest_length;
+use crate::state::State;
+use crate::write::write_table;
+
+/// Bytes as lower case hex; `-` for none.
+pub fn hex(bytes: &[u8]) -> String {
+    if bytes.is_empty() {
+        return "-".to_string();
+    }
+    bytes.iter().map(|byte| format!("{byte:02x}")).collect()
+}
+
+pub fn unhex(text: &str) -> Option<Vec<u8>> {
+    if text == "-" {
+        return Some(Vec::new());
+    }
+    if !text.is_ascii() || text.is_empty() || text.len() % 2 == 1 {
+        return None;
+    }
+    let pairs = (0..text.len()).step_by(2);
+    pairs.map(|at| u8::from_str_radix(&text[at..at + 2], 16).ok()).collect()
+}
+
+/// `no NUMBER PLACE`.
+pub fn refusal_words(refusal: Refusal) -> String {
+    format!("no {} {}", refusal.number, refusal.place)
+}
+
+/// `NUMBER PLACE PASSES KIND HEXTEXT`; kind 1 out, 2 withheld, 3 control,
+/// 0 refused.
+pub fn answer_words(answer: &Answer) -> String {
+    let passes = answer.passes;
+    match &answer.kind {
+        Kind::Out(text) => format!("0 0 {passes} 1 {}", hex(text)),
+        Kind::Withheld => format!("0 0 {passes} 2 -"),
+        Kind::Control => format!("0 0 {passes} 3 -"),
+        Kind::Refused(refusal) => format!("{} {} {passes} 0 -", refusal.number, refusal.place),
+    }
+}
+
+/// The shortest spelling length of each macro, oldest first; `-` for none.
+pub fn spell_words(engine: &Engine) -> String {
+    if engine.table.is_empty() {
+        return "-".to_string();
+    }
+    let lengths = engine.table.iter().map(|of| shortest_length(of).to_string());
+    lengths.collect::<Vec<_>>().join(" ")
+}
+
+/// One end of the protocol: a table and a state.
+pub struct Server {
+    pub engine: Engine,
+}
+
+impl Default for Server {
+    fn default() -> Server {
+        Server { engine: Engine::new(Vec::new()) }
+    }
+}
+
+impl Server {
+    /// Obeys one command and gives its answer.
+    pub fn obey(&mut self, command: &str) -> String {
+        let words: Vec<&str> = command.split_whitespace().collect();
+        match words.as_slice() {
+            ["read", file] => self.read(file),
+            ["feed", budget, line] => self.feed(budget, line),
+            ["passes", budget, line] => self.passes(budget, line),
+            ["fresh"] => {
+                self.engine.state = State::fresh();
+                "ok".to_string()
+            }
+            ["write"] => self.write(),
+            ["spell"] => spell_words(&self.engine),
+            ["state"] => self.engine.state.to_string(),
+            _ => "error unknown command".to_string(),
+        }
+    }
+
+    /// A refused file leaves the table; no file touches the state.
+    fn read(&mut self, file: &str) -> String {
+        let Some(file) = unhex(file) else {
+            return "error bad hex".to_string();
+        };
+        match read_file(&file) {
+            Ok(table) => {
+                self.engine.table = table;
+                format!("ok {}", self.engine.table.len())
+            }
+            Err(refusal) => refusal_words(refusal),
+        }
+    }
+
+    fn feed(&mut self, budget: &str, line: &str) -> String {
+        match (budget.parse(), unhex(line)) {
+            (Ok(budget), Some(line)) => answer_words(&self.engine.feed(&line, budget)),
+            _ => "error bad feed".to_string(),
+        }
+    }
+
+    /// The passes that feeding the line would make; table and state stay.
+    fn passes(&self, budget: &str, line: &str) -> String {
+        let (Ok(budget), Some(line)) = (budget.parse(), unhex(line)) else {
+            return "error bad passes".to_string();
+        };
+        let made = self.engine.history(&line, budget);
+        let word =
+            |one: &PassMade| format!("{}:{}:{}", one.number, one.occurrences, hex(&one.line));
+        let words: Vec<String> = made.iter().map(word).collect();
+        if words.is_empty() {
+            return "-".to_string();
+        }
+        words.join(" ")
+    }
+
+    fn write(&self) -> String {
+        match write_table(&self.engine.table) {
+            Ok(file) => format!("ok {}", hex(&file)),
+            Err(refusal) => refusal_words(refusal),
+        }
+    }
+}

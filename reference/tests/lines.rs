@@ -1,0 +1,216 @@
+//! Properties of lists of lines.
+
+#[allow(dead_code)]
+mod naive;
+
+use m7_reference::generate::{any_case, any_macro, bound_case, Random};
+use m7_reference::line::{Answer, Engine, Kind};
+use m7_reference::macros::{Macro, Symbol};
+use m7_reference::read::read_file;
+use m7_reference::refusal::Refusal;
+use m7_reference::spell::some_file_spells;
+use m7_reference::state::{Counter, Stack, State};
+
+const LISTS: usize = 12_000;
+const BUDGET_LISTS: usize = 4_000;
+const SMALL: usize = 15_000;
+
+fn number_of(answer: &Answer) -> u8 {
+    match &answer.kind {
+        Kind::Refused(refusal) => refusal.number,
+        _ => 0,
+    }
+}
+
+#[test]
+fn refused_lines_change_nothing() {
+    let mut random = Random::new(7);
+    let mut seen = [0; 36];
+    for list in 0..LISTS {
+        let case = match list % 20 {
+            0 => bound_case(&mut random),
+            _ => any_case(&mut random, 4, 6),
+        };
+        let mut engine = Engine::new(read_file(&case.file).unwrap_or_default());
+        for (budget, line) in &case.lines {
+            let before = engine.clone();
+            let answer = engine.feed(line, *budget);
+            seen[number_of(&answer) as usize] += 1;
+            if number_of(&answer) != 0 {
+                assert_eq!(engine, before);
+            }
+        }
+    }
+    println!("answers by number, 0 for lines taken: {seen:?}");
+    let wanted = [0, 4, 12, 13, 14, 15, 16, 19, 21, 22, 23, 31, 32, 33, 34, 35];
+    assert!(wanted.iter().all(|number| seen[*number] > 0), "{seen:?}");
+}
+
+fn within_bounds(state: &State) -> bool {
+    let stack = |stack: &Stack| {
+        let entry = |entry: &Vec<u8>| entry.len() <= 50 && !entry.contains(&0);
+        (1..=20).contains(&stack.pointer) && stack.entries.iter().all(entry)
+    };
+    let number = |number: u64| (1..=999_999_999).contains(&number);
+    let counter = |counter: &Counter| number(counter.value) && number(counter.increment);
+    state.stacks.iter().all(stack) && state.counters.iter().all(counter)
+}
+
+/// Table, state and text stay within the bounds, and the next line may get
+/// them.
+#[test]
+fn what_comes_out_is_within_the_bounds() {
+    let mut random = Random::new(11);
+    for list in 0..LISTS / 4 {
+        let case = match list % 3 {
+            0 => bound_case(&mut random),
+            _ => any_case(&mut random, 4, 6),
+        };
+        let mut engine = Engine::new(read_file(&case.file).unwrap_or_default());
+        for (budget, line) in &case.lines {
+            let answer = engine.feed(line, *budget);
+            assert!(within_bounds(&engine.state));
+            assert!(engine.table.len() <= 96 && engine.table.iter().all(some_file_spells));
+            assert!(answer.passes <= *budget);
+            if let Kind::Out(text) = &answer.kind {
+                assert!(text.len() <= 1_054 && !text.contains(&0));
+                assert!(text.first() != Some(&b'$'));
+            }
+        }
+    }
+}
+
+/// An answer other than 4 and 31 is the same under every larger budget, and
+/// a budget below its passes gives 31.
+#[test]
+fn a_larger_budget_gives_the_same_answer() {
+    let mut random = Random::new(8);
+    for _ in 0..BUDGET_LISTS {
+        let case = any_case(&mut random, 4, 4);
+        let mut engine = Engine::new(read_file(&case.file).unwrap_or_default());
+        for (budget, line) in &case.lines {
+            let before = engine.clone();
+            let answer = engine.feed(line, *budget);
+            if matches!(number_of(&answer), 4 | 31) {
+                continue;
+            }
+            for larger in [budget + 1, 1_000_000] {
+                let mut other = before.clone();
+                assert_eq!(other.feed(line, larger), answer);
+                assert_eq!(other, engine);
+            }
+            for smaller in [0, answer.passes / 2, answer.passes.saturating_sub(1)] {
+                if smaller >= answer.passes {
+                    continue;
+                }
+                let kind = Kind::Refused(Refusal::plain(31));
+                let wanted = Answer { kind, passes: smaller };
+                assert_eq!(before.clone().feed(line, smaller), wanted);
+            }
+        }
+    }
+}
+
+/// Longer lines have too many divisions to list.
+const TRIED: usize = 9;
+
+/// A line by the words of demand 3, without control lines.
+struct Naive<'a> {
+    table: &'a [Macro],
+    state: State,
+    line: Vec<u8>,
+    open: Vec<bool>,
+    /// Macros that have passed without an occurrence since the last one.
+    passed_over: Vec<bool>,
+    passes: u64,
+}
+
+impl Naive<'_> {
+    /// The newest open macro that has yet to pass.
+    fn next(&self) -> Option<usize> {
+        (0..self.table.len()).rev().find(|at| self.open[*at] && !self.passed_over[*at])
+    }
+
+    fn pass(&mut self, at: usize) -> Result<(), Refusal> {
+        self.passes += 1;
+        let (line, occurrences) = naive::pass(&self.table[at], &self.line, &mut self.state)?;
+        if occurrences == 0 {
+            self.passed_over[at] = true;
+            return Ok(());
+        }
+        self.line = line;
+        self.passed_over.fill(false);
+        self.open[at] = self.table[at].symbol == Symbol::Equals;
+        Ok(())
+    }
+
+    /// The kind of answer; none where the line cannot be tried.
+    fn run(&mut self, budget: u64) -> Option<Kind> {
+        while let Some(at) = self.next() {
+            if self.line.len() > TRIED || self.line.first() == Some(&b'$') {
+                return None;
+            }
+            if self.passes == budget {
+                return Some(Kind::Refused(Refusal::plain(31)));
+            }
+            if let Err(refusal) = self.pass(at) {
+                return Some(Kind::Refused(refusal));
+            }
+        }
+        let tried = self.line.len() <= TRIED && self.line.first() != Some(&b'$');
+        tried.then(|| Kind::Out(self.line.clone()))
+    }
+
+    /// No macro still open has a division at any place of the final text.
+    fn no_division_is_left(&self) {
+        for at in (0..self.table.len()).filter(|at| self.open[*at]) {
+            for place in 0..=self.line.len() {
+                let pattern = &self.table[at].pattern;
+                assert_eq!(naive::chosen(pattern, &self.line, place, &self.state), None);
+            }
+        }
+    }
+}
+
+/// The answer, and the state after it; none where the line cannot be tried.
+fn naive_line(engine: &Engine, line: &[u8], budget: u64) -> Option<(Answer, State)> {
+    let mut naive = Naive {
+        table: &engine.table,
+        state: engine.state.clone(),
+        line: line.to_vec(),
+        open: vec![true; engine.table.len()],
+        passed_over: vec![false; engine.table.len()],
+        passes: 0,
+    };
+    let kind = naive.run(budget)?;
+    let refused = matches!(kind, Kind::Refused(_));
+    if !refused {
+        naive.no_division_is_left();
+    }
+    let state = if refused { engine.state.clone() } else { naive.state };
+    Some((Answer { kind, passes: naive.passes }, state))
+}
+
+#[test]
+fn lines_are_those_of_demand_3() {
+    let mut random = Random::new(9);
+    let mut compared = 0;
+    for _ in 0..SMALL {
+        let count = 1 + random.below(3);
+        let table: Vec<Macro> = (0..count).map(|_| any_macro(&mut random, false)).collect();
+        let mut engine = Engine::new(table);
+        for _ in 0..3 {
+            let length = random.below(6);
+            let line: Vec<u8> = (0..length).map(|_| *random.pick(b"aaab1-")).collect();
+            let naive = naive_line(&engine, &line, 12);
+            let answer = engine.feed(&line, 12);
+            if let Some((wanted, state)) = naive {
+                assert_eq!(answer, wanted, "{:?} on {line:?}", engine.table);
+                assert_eq!(engine.state, state);
+                compared += 1;
+            }
+        }
+    }
+    println!("{compared} lines compared");
+    assert!(compared > SMALL);
+}

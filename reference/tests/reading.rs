@@ -1,0 +1,115 @@
+//! Properties of reading files, good and damaged.
+
+use m7_reference::bounds::FILE_BYTES;
+use m7_reference::generate::{any_file, any_macro, bound_case, Random};
+use m7_reference::macros::Table;
+use m7_reference::read::read_file;
+use m7_reference::refusal::{Refusal, INCOMPLETE};
+use m7_reference::spell::shortest_spelling;
+use m7_reference::write::write_table;
+
+const FILES: usize = 150_000;
+
+/// A fault depends on no byte after its place.
+fn later_bytes_do_not_matter(file: &[u8], refusal: Refusal, random: &mut Random) {
+    if refusal.place < file.len() {
+        let kept = &file[..=refusal.place];
+        let other = [kept, &any_file(random)].concat();
+        if !other.contains(&0) && other.len() <= FILE_BYTES {
+            assert_eq!(read_file(kept), Err(refusal));
+            assert_eq!(read_file(&other), Err(refusal));
+        }
+    }
+}
+
+/// Cut before its place, the file has no fault but its end.
+fn no_fault_showed_before(file: &[u8], refusal: Refusal) {
+    let cut = read_file(&file[..refusal.place]);
+    let end = Refusal::at(INCOMPLETE, refusal.place);
+    assert!(cut.is_ok() || cut == Err(end), "{:?}", String::from_utf8_lossy(file));
+}
+
+fn written_and_read_back(table: &Table) {
+    match write_table(table) {
+        Ok(file) => assert_eq!(read_file(&file).as_ref(), Ok(table)),
+        Err(refusal) => assert!(refusal.number == 10 || refusal.number == 18),
+    }
+}
+
+#[test]
+fn faults_show_at_their_first_byte() {
+    let mut random = Random::new(5);
+    let mut seen = [0; 20];
+    for number in 0..FILES {
+        let file = match number % 50 {
+            0 => bound_case(&mut random).file,
+            _ => any_file(&mut random),
+        };
+        match read_file(&file) {
+            Ok(table) => {
+                seen[0] += 1;
+                written_and_read_back(&table);
+            }
+            Err(refusal) => {
+                seen[refusal.number as usize] += 1;
+                assert!(refusal.place <= file.len());
+                if refusal.number > 11 {
+                    later_bytes_do_not_matter(&file, refusal, &mut random);
+                    no_fault_showed_before(&file, refusal);
+                }
+            }
+        }
+    }
+    println!("files by refusal number, 0 for none: {seen:?}");
+    assert!([0, 10, 11, 12, 13, 14, 15, 16, 17, 18, 19].iter().all(|number| seen[*number] > 40));
+}
+
+/// Text before a pattern moves every place and changes nothing else.
+#[test]
+fn text_before_a_pattern_moves_places() {
+    let mut random = Random::new(6);
+    for _ in 0..FILES / 10 {
+        let file = any_file(&mut random);
+        let moved = [b"; =<&(\\\n".as_slice(), &file].concat();
+        let wanted =
+            read_file(&file).map_err(|refusal| Refusal { place: refusal.place + 8, ..refusal });
+        assert_eq!(read_file(&moved), wanted);
+    }
+}
+
+/// For each byte of a macro's shortest spelling, whether a skip may stand
+/// before it: not in a class, and not after a `\` that escapes the byte.
+fn skip_places(spelling: &[u8]) -> Vec<bool> {
+    let (mut quotes, mut class, mut escaped) = (0, false, false);
+    let mut places = Vec::new();
+    for byte in spelling {
+        places.push(!class && !escaped);
+        let raw = !escaped;
+        escaped = raw && *byte == b'\\';
+        match byte {
+            b'\'' if raw && !class => quotes += 1,
+            b'[' if raw && !class => class = quotes == 1,
+            b']' if raw => class = false,
+            _ => {}
+        }
+    }
+    places
+}
+
+/// "The rest is read as if both and all between were not there."
+#[test]
+fn a_skip_changes_nothing() {
+    let mut random = Random::new(10);
+    for number in 0..FILES / 30 {
+        let made = any_macro(&mut random, number % 3 > 0);
+        let spelling = shortest_spelling(&made);
+        for (place, allowed) in skip_places(&spelling).into_iter().enumerate() {
+            let skip = *random.pick(&["//", "/x/", "/';\n[:}/"]);
+            let file = [&spelling[..place], skip.as_bytes(), &spelling[place..]].concat();
+            if allowed {
+                let text = String::from_utf8_lossy(&file);
+                assert_eq!(read_file(&file), Ok(vec![made.clone()]), "{text}");
+            }
+        }
+    }
+}
