@@ -4,4 +4,5 @@ pub mod Replacing
 pub mod Pass
 pub mod Line
 pub mod Feeding
+pub mod FeedKeeps
 pub mod Cases

@@ -91,6 +91,7 @@ afterPass x on again = passed x (follow (outcome (x .events)) (occurred (x .even
 unfoldable pub textOf : Work → List ℕ
 textOf w = onto (w .out) []
 
+-- A pass without an occurrence leaves text and state as they are.
 -- the passes from a text and a state on; todo: the open macros whose pass is due; "Each pass costs one of the budget.", 31: "another pass is due and the budget is used up"
 unfoldable pub passes : Table → ℕ → List ℕ → List Numbered → State → List ℕ → Line
 passes ms zero closed todo st t = due (isControl t) t st todo (λ e es. ended (refused budgetUsedUp))

@@ -95,7 +95,7 @@ unfoldable pub endOf : ℕ → Division → ℕ
 endOf p [] = p
 endOf p (span n q ∷ d) = endOf q d
 
--- fewer repeats at the first closure where the two differ
+-- fewer repeats at the first closure where the two differ; pieces without a closure have 1 in every division, and never differ
 unfoldable pub Fewer : Division → Division → Type 0
 Fewer [] b = ⊥
 Fewer (x ∷ a) [] = ⊥

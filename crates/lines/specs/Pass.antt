@@ -12,7 +12,8 @@ use Rattle.lines.specs.Replacing.Done.{bad, good}
 
 -- THE MATCH AT A PLACE
 
--- "An empty match at the end of the match just made in the same pass does not count."; last: where that ended, if there was one
+-- "An empty match at the end of the match just made in the same pass does not count."; last: where that ended, if there was one.
+-- Where the chosen division is empty there is no other: any other would have more repeats at the first closure where they differ.
 unfoldable pub barred : Option ℕ → ℕ → ℕ → Bool
 barred none p q = false
 barred (some l) p q = eqb l p && eqb q p

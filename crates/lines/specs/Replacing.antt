@@ -56,10 +56,14 @@ put b w = unless (ltb (w .size) mostLineBytes) newLineTooLong (record { out = b 
 -- THE STATE
 
 unfoldable pub withStack : ℕ → Stack → Work → Work
-withStack i k w = record { out = w .out; size = w .size; state = record { stacks = set (w .state .stacks) (i - 97) k; counters = w .state .counters; trace = w .state .trace; nflag = w .state .nflag } }
+withStack i k w =
+    let st : State = w .state in
+    record { out = w .out; size = w .size; state = record { stacks = set (st .stacks) (i - 97) k; counters = st .counters; trace = st .trace; nflag = st .nflag } }
 
 unfoldable pub withCounter : ℕ → Counter → Work → Work
-withCounter i k w = record { out = w .out; size = w .size; state = record { stacks = w .state .stacks; counters = set (w .state .counters) (i - 97) k; trace = w .state .trace; nflag = w .state .nflag } }
+withCounter i k w =
+    let st : State = w .state in
+    record { out = w .out; size = w .size; state = record { stacks = st .stacks; counters = set (st .counters) (i - 97) k; trace = st .trace; nflag = st .nflag } }
 
 unfoldable pub withPointer : ℕ → ℕ → Work → Work
 withPointer i n w = withStack i (record { pointer = n; entries = stackOf (w .state) i .entries }) w
@@ -97,7 +101,7 @@ late m still i w = good w
 late m (before s) i w = good w
 late m (after s) i w = moves m s i w
 
--- 33: "a stored tag over 50 bytes"
+-- 33: "a stored tag over 50 bytes"; a text stored by `&(i:text:)` is never longer, since reading keeps it to 50
 unfoldable pub stores : ℕ → List ℕ → Work → Done
 stores i t w = unless (leb (length t) mostEntryBytes) tagTooLong (withEntry i t w)
 

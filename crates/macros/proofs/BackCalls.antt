@@ -24,7 +24,8 @@ use Rattle.macros.specs.Read.Step.{on}
 use Rattle.macros.specs.Read.Turn.{closed, into}
 use Rattle.macros.specs.Write.{byte, callBytes, commandsBytes, digits, digitsBy, innerBytes, markOf, nameBytes, signByte}
 use Rattle.macros.specs.Spell.{isMark, markIn, needsText}
-use Rattle.macros.proofs.Tests.{absent, callTextSigns, clash, no-break, or-left, or-right, spares, textSigns}
+use Rattle.macros.specs.Spell.{textSigns, callTextSigns}
+use Rattle.macros.proofs.Tests.{absent, clash, no-break, or-left, or-right, spares}
 use Rattle.macros.proofs.Styles.{Fair, Style, actionBytes, actionLeaves, replacementBytes, textBytes}
 use Rattle.macros.proofs.Readings.{Reads, escaped-escape, move, then, withMark}
 use Rattle.macros.proofs.Readings.Reads.{next, stay}

@@ -22,7 +22,8 @@ use Rattle.macros.specs.Read.Step.{on}
 use Rattle.macros.specs.Write.{byte, closureBytes, escapeByte}
 use Rattle.macros.specs.Spell.{Before, behind, joins, joinsClass, needs, needsClass, none?}
 use Rattle.macros.specs.Spell.Before.{aRange, aSingle, bracket, tilde}
-use Rattle.macros.proofs.Tests.{absent, alnum, and-left, apart, clash, classSigns, first-alnum, no-break, or-left, or-right, second-alnum, spared, spares}
+use Rattle.macros.specs.Spell.{classSigns}
+use Rattle.macros.proofs.Tests.{absent, alnum, and-left, apart, clash, first-alnum, no-break, or-left, or-right, second-alnum, spared, spares}
 use Rattle.macros.proofs.Styles.{Fair, Style, classBytes, memberBytes, membersBytes, patternBytes, pieceBytes, pieceLeaves, unitBytes, unitLeaves}
 use Rattle.macros.proofs.Readings.{Reads, escaped-escape, move, settled, then}
 use Rattle.macros.proofs.Readings.Reads.{next, stay}

@@ -24,7 +24,7 @@ use Rattle.macros.specs.Read.Step.{done, on, stop}
 use Rattle.macros.specs.Write.{byte, callBytes, closureBytes, digits}
 use Rattle.macros.specs.Spell.{Before, behind, leaves, leavesMark, leavesUnit, shortest, spellAction, spellMember, spellPattern, spellPiece, spellText, spellUnit}
 use Rattle.macros.specs.Spell.Before.{aRange, aSingle, bracket, tilde}
-use Rattle.macros.proofs.Tests.{callTextSigns}
+use Rattle.macros.specs.Spell.{callTextSigns}
 use Rattle.macros.proofs.Readings.{settled, withMark}
 
 -- COSTS of what has been read, newest first, in the shortest spelling

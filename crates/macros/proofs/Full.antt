@@ -17,7 +17,8 @@ use Rattle.macros.specs.Read.Held.{marked, nothing, query, starred, unit
 use Rattle.macros.specs.Write.{callBytes, classMarks, commandsBytes, innerBytes, patternMarks, textMarks, writeAction, writeMember, writeMembers, writePattern, writePiece, writeReplacement, writeText, writeUnit, written}
 use Rattle.macros.specs.Spell.{Before, behind, isMark, joins, joinsClass, markIn, needs, needsClass, needsText, none?}
 use Rattle.macros.specs.Spell.Before.{aRange, aSingle, bracket, tilde}
-use Rattle.macros.proofs.Tests.{absent, adds-nothing, among-more, and-left, callTextSigns, clash, classSigns, holds, or-cases, single-among, textSigns}
+use Rattle.macros.specs.Spell.{classSigns, textSigns, callTextSigns}
+use Rattle.macros.proofs.Tests.{absent, adds-nothing, among-more, and-left, clash, holds, or-cases, single-among}
 use Rattle.macros.proofs.Styles.{actionBytes, actionLeaves, classBytes, full, memberBytes, membersBytes, patternBytes, pieceBytes, pieceLeaves, replacementBytes, spelled, textBytes, unitBytes, unitLeaves}
 
 -- what the full style leaves: never a raw `?`, `&` or `#`

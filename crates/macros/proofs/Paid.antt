@@ -25,7 +25,7 @@ use Rattle.macros.specs.Read.Next.{go, refuse}
 use Rattle.macros.specs.Read.Read.{refusedAt, table}
 use Rattle.macros.specs.Spell.{behind, leavesUnit, shortest, spellUnit}
 use Rattle.macros.specs.Accepted.{Each}
-use Rattle.macros.proofs.Tests.{callTextSigns}
+use Rattle.macros.specs.Spell.{callTextSigns}
 use Rattle.macros.proofs.Readings.{settled, withMark}
 use Rattle.macros.proofs.Round.{read-go, read-refuse}
 use Rattle.macros.proofs.Costs.{Done, Fit, Good, byte-most, cost, cost-once, costActions, costText, either, figures, gap, gapMark, load, loadCall, slack, slackMark, top, topMark}

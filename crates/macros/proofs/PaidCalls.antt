@@ -22,7 +22,8 @@ use Rattle.macros.specs.Read.Step.{done, on}
 use Rattle.macros.specs.Read.Turn.{closed, into, textOf, wrong}
 use Rattle.macros.specs.Write.{byte, callBytes, commandsBytes, digits, digitsBy, innerBytes, nameBytes}
 use Rattle.macros.specs.Spell.{isMark, leavesMark, markIn, needsText, shortest, spellAction, spellReplacement, spellText}
-use Rattle.macros.proofs.Tests.{callTextSigns, clash, textSigns, unbroken, within-left, within-right}
+use Rattle.macros.specs.Spell.{textSigns, callTextSigns}
+use Rattle.macros.proofs.Tests.{clash, unbroken, within-left, within-right}
 use Rattle.macros.proofs.Styles.{spelled}
 use Rattle.macros.proofs.Readings.{withMark}
 use Rattle.macros.proofs.Whole.{mark-byte}

@@ -23,7 +23,8 @@ use Rattle.macros.specs.Read.Step.{on}
 use Rattle.macros.specs.Write.{byte}
 use Rattle.macros.specs.Spell.{Before, behind, joins, joinsClass, leaves, leavesUnit, needs, needsClass, none?, spellMember, spellMembers, spellPiece, spellUnit}
 use Rattle.macros.specs.Spell.Before.{aRange, aSingle, bracket, tilde}
-use Rattle.macros.proofs.Tests.{clash, classSigns, unbroken, within-left, within-right}
+use Rattle.macros.specs.Spell.{classSigns}
+use Rattle.macros.proofs.Tests.{clash, unbroken, within-left, within-right}
 use Rattle.macros.proofs.Readings.{settled}
 use Rattle.macros.proofs.BackPattern.{needs-free}
 use Rattle.macros.proofs.Costs.{Fit, Good, byte-least, byte-most, context, cost, cost-once, cost-star, cost-star-dash, costMembers, either, gap, gapClass, heldClass, load, loadClass, negs, slack, top}

@@ -14,7 +14,7 @@ use Rattle.macros.specs.Macro.Action.{call, tag, text}
 use Rattle.macros.specs.Read.{Held, hold}
 use Rattle.macros.specs.Read.Held.{nothing, starred, unit}
 use Rattle.macros.specs.Write.{byte, callBytes, classMarks, closureBytes, commandsBytes, digits, innerBytes, patternMarks, symbolSign, textMarks}
-use Rattle.macros.specs.Spell.{Before, behind, leaves, leavesMark, leavesUnit, markIn, needs, needsClass, needsText, none?, shortest, spellAction, spellMember, spellMembers, spellPattern, spellPiece, spellReplacement, spellText, spellUnit}
+use Rattle.macros.specs.Spell.{callTextSigns, Before, behind, leaves, leavesMark, leavesUnit, markIn, needs, needsClass, needsText, none?, shortest, spellAction, spellMember, spellMembers, spellPattern, spellPiece, spellReplacement, spellText, spellUnit}
 use Rattle.macros.specs.Spell.Before.{bracket, tilde}
 
 -- the bytes that get a `\` even where they need none
@@ -74,7 +74,7 @@ patternBytes y h (p ∷ ps) = pieceBytes y h p ++ patternBytes y (pieceLeaves y 
 
 unfoldable pub textBytes : Style → List ℕ → List ℕ
 textBytes y [] = []
-textBytes y (b ∷ t) = byte (y .textToo b || among (47 ∷ 58 ∷ 39 ∷ 59 ∷ 10 ∷ 92 ∷ []) b) b ++ textBytes y t
+textBytes y (b ∷ t) = byte (y .textToo b || among callTextSigns b) b ++ textBytes y t
 
 unfoldable pub actionBytes : Style → Option Mark → Action → List ℕ
 actionBytes y a (text b) = byte (y .textToo b || needsText a b) b

@@ -111,16 +111,6 @@ pub unbroken : (b : ℕ) → breaks b ≡ false → (eqb b 39 ≡ false) × (eqb
 unfolding breaks among
 unbroken b f = let l : List ℕ = 39 ∷ 59 ∷ 10 ∷ [] in (absent l b 39 f refl, absent l b 59 f refl, absent l b 10 f refl)
 
--- what needs its `\` in a class, in a replacement and in a call's text, wherever it stands
-abbrev pub classSigns : List ℕ
-classSigns = 93 ∷ 39 ∷ 59 ∷ 10 ∷ 92 ∷ []
-
-abbrev pub textSigns : List ℕ
-textSigns = 47 ∷ 39 ∷ 59 ∷ 10 ∷ 92 ∷ 123 ∷ []
-
-abbrev pub callTextSigns : List ℕ
-callTextSigns = 47 ∷ 58 ∷ 39 ∷ 59 ∷ 10 ∷ 92 ∷ []
-
 -- RANGES
 
 pub within-left : (a z b : ℕ) → within a z b ≡ true → a ≤ b

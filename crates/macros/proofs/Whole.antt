@@ -24,7 +24,8 @@ use Rattle.macros.specs.Read.Held.{nothing}
 use Rattle.macros.specs.Write.{byte, callBytes, closureBytes, commandsBytes, digits, digitsBy, escapeByte, innerBytes, markOf, nameBytes, signByte, symbolSign}
 use Rattle.macros.specs.Spell.{Before, behind, needsClass, none?}
 use Rattle.macros.specs.Spell.Before.{aRange, aSingle, bracket, tilde}
-use Rattle.macros.proofs.Tests.{alnum, callTextSigns, clash, first-alnum, second-alnum, within-left, within-right}
+use Rattle.macros.specs.Spell.{callTextSigns}
+use Rattle.macros.proofs.Tests.{alnum, clash, first-alnum, second-alnum, within-left, within-right}
 use Rattle.macros.proofs.Styles.{Style, actionBytes, actionLeaves, classBytes, memberBytes, membersBytes, patternBytes, pieceBytes, pieceLeaves, replacementBytes, spelled, textBytes, unitBytes}
 use Rattle.macros.proofs.BackPattern.{formed-tail}
 

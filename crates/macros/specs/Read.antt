@@ -8,7 +8,8 @@ use lib.ListN.{length}
 use Rattle.macros.specs.Bounds.{mostFileBytes, mostMacros, mostMacroBytes, mostTags, mostEntryBytes}
 use Rattle.macros.specs.Refusals.{FileRefusal}
 use Rattle.macros.specs.Refusals.FileRefusal.{fileTooLong, zeroByte, incomplete, badClass, noUnit, badBrace, badCall, noElement, macroTooLong, tooManyMacros}
-use Rattle.macros.specs.Macro.{Closure, Member, Mark, PatternUnit, Piece, Sign, Move, Call, Action, Symbol, Macro, Table, pick, among, within, lower, digit, isRange, markByte, tags, elements, depth}
+use Rattle.macros.specs.Macro.{Closure, Member, Mark, PatternUnit, Piece, Sign, Move, Call, Action, Symbol, Macro, Table}
+use Rattle.macros.specs.Macro.{pick, among, within, lower, digit, isRange, markByte, tags, elements, depth}
 use Rattle.macros.specs.Macro.Closure.{once, oneOrMore, zeroOrMore}
 use Rattle.macros.specs.Macro.Member.{single, range}
 use Rattle.macros.specs.Macro.Mark.{stack, counter}

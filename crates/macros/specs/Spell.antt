@@ -1,4 +1,5 @@
 -- The shortest spelling of a macro: a `\` only where the byte would be read otherwise without it.
+-- Of `?` and a digit, or `&` or `#` and `(`, either may have the `\`; here the second has it.
 use Prim.Native.Nat.{ℕ, _+_}
 use mathlib.Core.Bool.{Bool, true, false, not, _&&_, _||_}
 use mathlib.Core.List.{List, [], _∷_, _++_}
@@ -49,16 +50,20 @@ leaves right = nothing
 pub data Before : Type 0 where
   bracket tilde aSingle aRange : Before
 
--- the byte would not be a member: a leading `~`, or a `-` behind a single member that is not the last
+-- the byte would not be a member: a leading `~`, or, behind a single member, a `-` that is not the last member
 unfoldable pub joinsClass : Before → Bool → ℕ → Bool
 joinsClass bracket isLast b = eqb b 126
 joinsClass tilde isLast b = false
 joinsClass aSingle isLast b = eqb b 45 && not isLast
 joinsClass aRange isLast b = false
 
--- a member needs its `\`: always `] \ ' ;` and line feed
+-- the bytes that need their `\` anywhere in a class: `] ' ; LF \`
+abbrev pub classSigns : List ℕ
+classSigns = 93 ∷ 39 ∷ 59 ∷ 10 ∷ 92 ∷ []
+
+-- a member needs its `\`
 unfoldable pub needsClass : Before → Bool → ℕ → Bool
-needsClass f isLast b = among (93 ∷ 39 ∷ 59 ∷ 10 ∷ 92 ∷ []) b || joinsClass f isLast b
+needsClass f isLast b = among classSigns b || joinsClass f isLast b
 
 unfoldable pub none? : List Member → Bool
 none? [] = true
@@ -97,18 +102,25 @@ spellPattern h (p ∷ ps) = spellPiece h p ++ spellPattern (leaves p) ps
 
 -- REPLACEMENT AND COMMANDS
 
--- a call's text: always `: / \ ' ;` and line feed
+-- the bytes that need their `\` in a call's text: `/ : ' ; LF \`
+abbrev pub callTextSigns : List ℕ
+callTextSigns = 47 ∷ 58 ∷ 39 ∷ 59 ∷ 10 ∷ 92 ∷ []
+
 unfoldable pub spellText : List ℕ → List ℕ
 spellText [] = []
-spellText (b ∷ t) = byte (among (47 ∷ 58 ∷ 39 ∷ 59 ∷ 10 ∷ 92 ∷ []) b) b ++ spellText t
+spellText (b ∷ t) = byte (among callTextSigns b) b ++ spellText t
 
 unfoldable pub isMark : Option Mark → Bool
 isMark none = false
 isMark (some m) = true
 
--- a literal of a replacement: always `{ / \ ' ;` and line feed; `(` behind `&` or `#`
+-- the bytes that need their `\` anywhere in a replacement: `/ ' ; LF \ {`
+abbrev pub textSigns : List ℕ
+textSigns = 47 ∷ 39 ∷ 59 ∷ 10 ∷ 92 ∷ 123 ∷ []
+
+-- a literal of a replacement needs its `\`; so does `(` behind `&` or `#`
 unfoldable pub needsText : Option Mark → ℕ → Bool
-needsText a b = among (47 ∷ 39 ∷ 59 ∷ 10 ∷ 92 ∷ 123 ∷ []) b || eqb b 40 && isMark a
+needsText a b = among textSigns b || eqb b 40 && isMark a
 
 -- the `&` or `#` that a byte is
 unfoldable pub markIn : ℕ → Option Mark

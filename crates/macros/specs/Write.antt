@@ -147,7 +147,8 @@ pub data Written : Type 0 where
   refused : FileRefusal → ℕ → Written
   file : List ℕ → Written
 
--- "Each macro on a line ended by line feed, oldest first", behind the bytes s: "The first byte that makes a macro longer than 512 gives 18, the 32,769th of the file 10, whichever comes first (18 if the same)"
+-- "Each macro on a line ended by line feed, oldest first", behind the bytes s:
+-- "The first byte that makes a macro longer than 512 gives 18, the 32,769th of the file 10, whichever comes first (18 if the same)"
 unfoldable pub writeFrom : List ℕ → Table → Written
 writeFrom s [] = file s
 writeFrom s (m ∷ ms) =

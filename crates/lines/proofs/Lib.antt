@@ -1,0 +1,9 @@
+pub mod KeepTests
+pub mod KeepBytes
+pub mod KeepState
+pub mod KeepWork
+pub mod KeepPass
+pub mod KeepLine
+pub mod KeepAnswers
+pub mod KeepOrders
+pub mod FeedKeeps

@@ -1,0 +1,61 @@
+-- WHAT FEEDING KEEPS: from an accepted table and a state in range every answer is within 01's bounds.
+-- Ruled out, each by an edit in must-fail/: a counter that falls to 0; a refused control line that leaves the state of its passes.
+use Prim.Native.Nat.{ℕ, _≤_}
+use mathlib.Core.Path.{_≡_}
+use mathlib.Core.Logic.{_⊎_}
+use mathlib.Core.List.{List, [], _∷_}
+use lib.ListN.{length}
+use Rattle.macros.specs.Bounds.{mostLineBytes}
+use Rattle.macros.specs.Refusals.{Refusal}
+use Rattle.macros.specs.Macro.{Table}
+use Rattle.macros.specs.Formed.{Between, Bytes, Octets}
+use Rattle.macros.specs.Accepted.{Accepted}
+use Rattle.lines.specs.State.{State, InRange, AllOf, fresh}
+use Rattle.lines.specs.Feeding.{Answer, Fed, numberOf, placeOf, outputOf, feed, feeds}
+use Rattle.lines.specs.Feeding.Kind.{refusedWith}
+
+-- the numbers with a place: "(10 to 19, else 0)"
+abbrev pub Placed : ℕ → Type 0
+Placed n = Between 10 19 n
+
+-- 0 for a line that is taken, and the refusals that a line can meet: the host's 4, the table writer's, the sender's, the table's at work
+abbrev pub Number : ℕ → Type 0
+Number n = (n ≡ 0) ⊎ (n ≡ 4) ⊎ Placed n ⊎ Between 21 23 n ⊎ Between 31 35 n
+
+-- the answer a to a line that was fed to the table ms and the state st
+pub record Kept (ms : Table) (st : State) (budget : ℕ) (a : Answer) : Type 0 where
+  -- the table after the line is accepted
+  pub table : Accepted (a .table)
+  -- the state after it is in range
+  pub state : InRange (a .state)
+  -- the line that goes out has at most 1,054 bytes
+  pub fits : length (outputOf (a .kind)) ≤ mostLineBytes
+  -- and none of them is 0
+  pub bytes : Bytes (outputOf (a .kind))
+  -- the passes are at most the budget
+  pub passes : a .passes ≤ budget
+  -- a refused line leaves table and state as they were
+  pub refused : (r : Refusal) → a .kind ≡ refusedWith r → (a .table ≡ ms) × (a .state ≡ st)
+  -- the number is one that a line can be answered with
+  pub number : Number (numberOf (a .kind))
+  -- the place is 0 unless the number is 10 to 19
+  pub place : Placed (numberOf (a .kind)) ⊎ (placeOf (a .kind) ≡ 0)
+
+-- THE LAW: any bytes, with any budget, fed to an accepted table and a state in range
+abbrev pub FeedKeeps : Type 0
+FeedKeeps = (ms : Table) (st : State) (budget : ℕ) (t : List ℕ) → Accepted ms → InRange st → Octets t → Kept ms st budget (feed ms st budget t)
+
+-- the fresh state is in range
+abbrev pub FreshInRange : Type 0
+FreshInRange = InRange fresh
+
+-- an answer for each line, each kept from the table and state that the last returned or left
+abbrev pub EachKept : Table → State → List Fed → List Answer → Type 0
+EachKept ms st [] [] = Unit {0}
+EachKept ms st [] (a ∷ answers) = ⊥
+EachKept ms st (x ∷ xs) [] = ⊥
+EachKept ms st (x ∷ xs) (a ∷ answers) = Kept ms st (x .0) a × EachKept (a .table) (a .state) xs answers
+
+-- THE LAW OF A WHOLE LIST: lines of any bytes, from an accepted table and the fresh state
+abbrev pub FeedsKeep : Type 0
+FeedsKeep = (ms : Table) (xs : List Fed) → Accepted ms → AllOf (λ (x : Fed). Octets (x .1)) xs → EachKept ms fresh xs (feeds ms fresh xs)

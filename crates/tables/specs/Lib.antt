@@ -1,0 +1,6 @@
+pub mod Form
+pub mod FormLaws
+pub mod Walk
+pub mod PatternWalk
+pub mod ActionWalk
+pub mod Check
