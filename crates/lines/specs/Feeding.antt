@@ -1,6 +1,6 @@
 -- 01, part 6 and "Who can cause a refusal": a line that is fed, and a list of lines.
 use Prim.Native.Nat.{ℕ, zero, suc}
-use mathlib.Core.Bool.{Bool, true, false, not, _&&_, _||_}
+use mathlib.Core.Bool.{Bool, true, false, _||_}
 use mathlib.Core.List.{List, [], _∷_}
 use lib.Dec.{leb, eqb}
 use lib.ListN.{length, drop}
@@ -99,7 +99,7 @@ kindNumber (out t) = 1
 kindNumber withheld = 2
 kindNumber controlled = 3
 
--- the line that goes out; "a withheld or control line has length 0"
+-- the line that goes out, whose length the answer carries; "a withheld or control line has length 0". A refused line writes no output at all
 unfoldable pub outputOf : Kind → List ℕ
 outputOf (refusedWith r) = []
 outputOf (out t) = t

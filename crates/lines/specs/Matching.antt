@@ -101,7 +101,7 @@ Fewer [] b = ⊥
 Fewer (x ∷ a) [] = ⊥
 Fewer (span m q ∷ a) (span n r ∷ b) = (m < n) ⊎ ((m ≡ n) × Fewer a b)
 
--- THE CHOSEN DIVISION, "with the most repeats at the first closure, then at the second, and so on"
+-- THE CHOSEN DIVISION, "with the most repeats at the first closure, then at the second, and so on"; Choice.antt states that it is that one
 
 -- the division that the rest of the pattern has at a place from which the line has these bytes
 abbrev pub Rest : Type 0

@@ -2,7 +2,6 @@
 use Prim.Native.Nat.{ℕ, suc, _+_, _-_}
 use mathlib.Core.Bool.{Bool, true, false}
 use mathlib.Core.List.{List, [], _∷_}
-use mathlib.Core.Option.{Option, none, some}
 use lib.Dec.{leb, ltb}
 use lib.ListN.{length, set}
 use Rattle.macros.specs.Bounds.{mostLineBytes, mostEntries, mostEntryBytes, mostCounter}
@@ -40,7 +39,7 @@ unless false r w = bad r
 
 -- THE NEW LINE
 
--- a text in front of bytes that stand last byte first
+-- a text joined to the end of a line that stands last byte first
 unfoldable pub onto : List ℕ → List ℕ → List ℕ
 onto [] out = out
 onto (b ∷ bs) out = onto bs (b ∷ out)
@@ -49,7 +48,7 @@ onto (b ∷ bs) out = onto bs (b ∷ out)
 unfoldable pub puts : List ℕ → Work → Done
 puts t w = let n : ℕ = w .size + length t in unless (leb n mostLineBytes) newLineTooLong (record { out = onto t (w .out); size = n; state = w .state })
 
--- one byte is
+-- the same of one byte
 unfoldable pub put : ℕ → Work → Done
 put b w = unless (ltb (w .size) mostLineBytes) newLineTooLong (record { out = b ∷ w .out; size = suc (w .size); state = w .state })
 

@@ -6,15 +6,15 @@ use Prim.Native.Nat.{_+_, ℕ}
 use native.Mathlib.Omega.{arith}
 use lib.ListN.{length}
 use Rattle.macros.specs.Bounds.{mostMacroBytes}
-use Rattle.macros.specs.Macro.{Table, pick}
+use Rattle.macros.specs.Macro.{Macro, Table, pick}
 use Rattle.macros.specs.Formed.{Bytes, Octets}
 use Rattle.macros.specs.Read.{atEnd, readFile, readFrom}
 use Rattle.macros.specs.Read.Reader.{between}
 use Rattle.macros.specs.Write.{writeOut}
 use Rattle.macros.specs.Spell.{shortest}
-use Rattle.macros.specs.Accepted.{Each, Spellable}
+use Rattle.macros.specs.Accepted.{Each, Spellable, Spelled}
 use Rattle.macros.specs.RoundTrip.{RoundTrip, WrittenOnce}
-use Rattle.macros.specs.Spelling.{NoShorter, ShortestReads, SomeFileSpells}
+use Rattle.macros.specs.Spelling.{AcceptedMeans, NoShorter, ShortestReads, SomeFileSpells}
 use Rattle.macros.specs.ReadKeeps.{ReadKeeps}
 use Rattle.macros.proofs.Styles.{bare, fair-bare, fair-full, full, shortest-bare, spelled}
 use Rattle.macros.proofs.Full.{written-full}
@@ -63,6 +63,16 @@ unfolding readFile
 some-file-spells m = (
   λ h. (shortest m, octets (shortest m) (rw (shortest-bare m) (whole-spelled bare m (h .0))), shortest-reads m (h .0) (h .1)),
   λ f. let r = produced [] 0 (f .0) (m ∷ []) tt (omega arith) (f .1) (f .2) in (r .each .0 .formed, r .each .0 .short),
+)
+
+each-map : (P Q : Macro → Type 0) → ((m : Macro) → P m → Q m) → (ms : Table) → Each P ms → Each Q ms
+each-map P Q f [] e = tt
+each-map P Q f (m ∷ ms) e = (f m (e .0), each-map P Q f ms (e .1))
+
+pub accepted-means : AcceptedMeans
+accepted-means ms = (
+  λ a. (a .count, each-map Spellable Spelled (λ m. some-file-spells m .0) ms (a .macros)),
+  λ h. record { count = h .0; macros = each-map Spelled Spellable (λ m. some-file-spells m .1) ms (h .1) },
 )
 
 -- READING

@@ -6,7 +6,7 @@ use lib.ListN.{length}
 use Rattle.macros.specs.Bounds.{mostMacros, mostMacroBytes}
 use Rattle.macros.specs.Macro.{Macro, Table}
 use Rattle.macros.specs.Formed.{Octets, Formed}
-use Rattle.macros.specs.Read.{Read, readFile}
+use Rattle.macros.specs.Read.{readFile}
 use Rattle.macros.specs.Read.Read.{table}
 use Rattle.macros.specs.Spell.{shortest}
 

@@ -57,13 +57,13 @@ FormedPieces (end ∷ ps) = FormedPieces ps
 FormedPieces (left ∷ ps) = (tags ps < mostTags) × FormedPieces ps
 FormedPieces (right ∷ ps) = (0 < depth ps) × FormedPieces ps
 
--- no brace is open at the end, and there is an element
+-- the pieces, newest first: no brace is open at the end, and there is an element
 pub record FormedPattern (ps : List Piece) : Type 0 where
   pub pieces : FormedPieces ps
   pub shut : depth ps ≡ 0
   pub someElement : 0 < elements ps
 
--- the largest number that a pointer or a counter is set to
+-- the largest number that a pointer, or a counter or its increment, is set to
 unfoldable pub limit : Mark → ℕ
 limit stack = mostEntries
 limit counter = mostCounter

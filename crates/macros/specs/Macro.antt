@@ -96,6 +96,7 @@ digit = within 48 57
 unfoldable pub isRange : ℕ → ℕ → Bool
 isRange a z = (digit a && digit z || (upper a && upper z || lower a && lower z)) && leb a z
 
+-- the byte of a mark
 unfoldable pub markByte : Mark → ℕ
 markByte stack = 38
 markByte counter = 35

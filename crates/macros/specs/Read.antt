@@ -8,7 +8,7 @@ use lib.ListN.{length}
 use Rattle.macros.specs.Bounds.{mostFileBytes, mostMacros, mostMacroBytes, mostTags, mostEntryBytes}
 use Rattle.macros.specs.Refusals.{FileRefusal}
 use Rattle.macros.specs.Refusals.FileRefusal.{fileTooLong, zeroByte, incomplete, badClass, noUnit, badBrace, badCall, noElement, macroTooLong, tooManyMacros}
-use Rattle.macros.specs.Macro.{Closure, Member, Mark, PatternUnit, Piece, Sign, Move, Call, Action, Symbol, Macro, Table}
+use Rattle.macros.specs.Macro.{Member, Mark, PatternUnit, Piece, Sign, Move, Call, Action, Symbol, Macro, Table}
 use Rattle.macros.specs.Macro.{pick, among, within, lower, digit, isRange, markByte, tags, elements, depth}
 use Rattle.macros.specs.Macro.Closure.{once, oneOrMore, zeroOrMore}
 use Rattle.macros.specs.Macro.Member.{single, range}
@@ -56,12 +56,13 @@ pub data Phase : Type 0 where
   tagNamed : ℕ → ℕ → Move → Phase
   texted : ℕ → Move → List ℕ → Phase
 
--- where a call stands
+-- where a call other than a pattern's stands
 pub data Place : Type 0 where
   inReplacement : Front → List Action → Place
   asCommand : Front → List Action → List Call → Place
 
--- the open part of a macro
+-- the open part of a macro: a pattern, behind `\` in it, behind `[`, in a class, behind `\` there, behind `&(` or `#(`, behind the letter;
+-- before the symbol; before the replacement; a replacement, behind `\` in it, in `{n}`; a call, its text, behind `\` there; the commands
 pub data Part : Type 0 where
   pattern : Held → List Piece → Part
   patternEscape : List Piece → Part
@@ -96,7 +97,7 @@ escaped b = pick (eqb b 110) 10 (pick (eqb b 116) 9 b)
 
 -- PATTERN
 
--- the bytes that are never literals without `\`: `' ; LF * \ [ ^ $ { }`
+-- the bytes that, like `/`, are never literals without `\`: `' ; LF * \ [ ^ $ { }`
 unfoldable pub signs : List ℕ
 signs = 39 ∷ 59 ∷ 10 ∷ 42 ∷ 92 ∷ 91 ∷ 94 ∷ 36 ∷ 123 ∷ 125 ∷ []
 
@@ -112,7 +113,7 @@ hold b = pick (eqb b 63) query (pick (eqb b 38) (marked stack) (pick (eqb b 35) 
 unfoldable pub patternEnd : List Piece → Step
 patternEnd ps = pick (eqb (depth ps) 0) (pick (ltb 0 (elements ps)) (on (awaitSymbol ps)) (stop noElement)) (stop badBrace)
 
--- one of the signs: 12, 14 and 15 show here
+-- one of the signs, the last of them `}`: 12, 14, 15 and 17 show here
 unfoldable pub sign : List Piece → ℕ → Step
 sign ps b =
     pick (eqb b 39) (patternEnd ps)
@@ -216,7 +217,8 @@ unfoldable pub numberEnd : (ℕ → Call) → Option ℕ → Turn
 numberEnd c none = wrong
 numberEnd c (some n) = closed (c n)
 
--- a byte of a call in a replacement or, if cmd, of a command
+-- a byte of a call in a replacement: `&(i)`, `&(n,i)`, `&(i=n)`, `&(i:text:)`, `#(i)`, `#(i=n)`, `#(i,n)`, with signs where 01 has them.
+-- A command (cmd) has no `)` behind the letter, and no sign in a counter's call
 unfoldable pub callByte : Bool → Phase → ℕ → Turn
 callByte cmd (begun stack) b =
     pick (digit b) (into (tagged (b - 48)))
@@ -265,7 +267,7 @@ turned pl ph b (textOf i v) = on (callText pl i v [])
 turned pl ph b (closed c) = pick (numberFits (tags (frontOf pl .pieces)) c) (on (placed pl c)) (stop badCall)
 turned pl ph b wrong = otherwise (calling pl ph) b
 
--- "`&(i:text:)` stores text, at most 50 bytes, ended by the first `:` without `\`"
+-- "`&(i:text:)` stores text, at most 50 bytes, ended by the first `:` without `\`"; 12 at a raw quote, `;` or line feed, 16 at the 51st byte
 unfoldable pub textByte : Place → ℕ → Move → List ℕ → ℕ → Step
 textByte pl i v t b =
     pick (eqb b 58) (on (calling pl (texted i v t)))

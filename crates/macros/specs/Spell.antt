@@ -5,7 +5,7 @@ use mathlib.Core.Bool.{Bool, true, false, not, _&&_, _||_}
 use mathlib.Core.List.{List, [], _∷_, _++_}
 use mathlib.Core.Option.{Option, none, some}
 use lib.Dec.{eqb}
-use Rattle.macros.specs.Macro.{Closure, Member, Mark, PatternUnit, Piece, Action, Macro, pick, among, markByte}
+use Rattle.macros.specs.Macro.{Member, Mark, PatternUnit, Piece, Action, Macro, pick, among, markByte}
 use Rattle.macros.specs.Macro.Closure.{once, oneOrMore, zeroOrMore}
 use Rattle.macros.specs.Macro.Member.{single, range}
 use Rattle.macros.specs.Macro.Mark.{stack, counter}

@@ -5,13 +5,13 @@ use mathlib.Core.Path.{_≡_}
 use mathlib.Core.List.{List, [], _∷_}
 use mathlib.Core.Logic.{_↔_}
 use lib.ListN.{length}
-use Rattle.macros.specs.Bounds.{mostMacroBytes}
-use Rattle.macros.specs.Macro.{Macro}
+use Rattle.macros.specs.Bounds.{mostMacros, mostMacroBytes}
+use Rattle.macros.specs.Macro.{Macro, Table}
 use Rattle.macros.specs.Formed.{Octets, Formed}
 use Rattle.macros.specs.Read.{readFile}
 use Rattle.macros.specs.Read.Read.{table}
 use Rattle.macros.specs.Spell.{shortest}
-use Rattle.macros.specs.Accepted.{Spelled, Spellable}
+use Rattle.macros.specs.Accepted.{Spelled, Spellable, Each, Accepted}
 
 -- A well-formed macro whose shortest spelling is no longer than a macro may be: a file of that spelling reads as this macro alone.
 abbrev pub ShortestReads : Type 0
@@ -24,3 +24,7 @@ NoShorter = (m : Macro) (s : List ℕ) → Octets s → readFile s ≡ table (m 
 -- So some file spells a macro exactly if it is well formed and its shortest spelling is no longer than a macro may be.
 abbrev pub SomeFileSpells : Type 0
 SomeFileSpells = (m : Macro) → Spellable m ↔ Spelled m
+
+-- So a table is accepted exactly if it has at most 96 macros, each of which some file spells.
+abbrev pub AcceptedMeans : Type 0
+AcceptedMeans = (ms : Table) → Accepted ms ↔ ((length ms ≤ mostMacros) × Each Spelled ms)

@@ -52,6 +52,7 @@ digits n = digitsBy n n
 
 -- PATTERN
 
+-- a range's ends are letters or digits, which need no `\`
 unfoldable pub writeMember : Member → List ℕ
 writeMember (single c) = byte (among classMarks c) c
 writeMember (range a z) = a ∷ 45 ∷ z ∷ []
@@ -148,7 +149,7 @@ pub data Written : Type 0 where
   file : List ℕ → Written
 
 -- "Each macro on a line ended by line feed, oldest first", behind the bytes s:
--- "The first byte that makes a macro longer than 512 gives 18, the 32,769th of the file 10, whichever comes first (18 if the same)"
+-- "The first byte that makes a macro longer than 512 gives 18, the 32,769th of the file 10, whichever comes first (18 if the same)"; their places are length s + 512 and 32,768
 unfoldable pub writeFrom : List ℕ → Table → Written
 writeFrom s [] = file s
 writeFrom s (m ∷ ms) =
