@@ -1,3 +1,17 @@
+pub mod CopyLaws
+pub mod MoreLaws
+pub mod ClosureLaws
+pub mod ChoiceLaws
+pub mod TagLaws
+pub mod MatchLaws
+pub mod CopiedLaws
+pub mod PassLaws
+pub mod StepLaws
+pub mod RoomLaws
+pub mod OpenLaws
+pub mod LineLaws
+pub mod FeedLaws
+pub mod Demand3
 pub mod KeepTests
 pub mod KeepBytes
 pub mod KeepState

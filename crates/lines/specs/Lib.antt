@@ -4,5 +4,9 @@ pub mod Replacing
 pub mod Pass
 pub mod Line
 pub mod Feeding
+pub mod Choice
+pub mod Tags
+pub mod Room
 pub mod FeedKeeps
+pub mod Demand
 pub mod Cases

@@ -1,0 +1,60 @@
+-- Copied bytes: copying composes, one byte at a time over the line.
+use mathlib.Core.Path.{_≡_, refl, sym, ap, _∙_, subst}
+use mathlib.Core.Bool.{Bool, true, false}
+use mathlib.Core.List.{List, [], _∷_, _++_, append-nil, append-assoc}
+use Prim.Native.Nat.{ℕ, suc, _-_, _≤_, _<_}
+use native.Mathlib.Omega.{arith}
+use lib.Dec.{ltb}
+use lib.ListN.{length, take, drop, getD, length-drop}
+use lib.Seq.{slice, slice-empty, drop-cons, take-suc, drop-append-le, length-take-le}
+use Rattle.macros.specs.Bounds.{mostLineBytes}
+use Rattle.macros.specs.Refusals.{WorkRefusal}
+use Rattle.macros.specs.Refusals.WorkRefusal.{newLineTooLong}
+use Rattle.lines.specs.Replacing.{Work, unless, onto, put}
+use Rattle.lines.specs.Replacing.Done.{good}
+use Rattle.lines.specs.Line.{textOf}
+use Rattle.lines.specs.Demand.{Copied}
+
+onto-nil : (l o : List ℕ) → onto l o ≡ onto l [] ++ o
+unfolding onto
+onto-nil [] o = refl
+onto-nil (b ∷ l) o = onto-nil l (b ∷ o) ∙ sym (append-assoc (onto l []) (b ∷ []) o) ∙ ap (λ (x : List ℕ). x ++ o) (sym (onto-nil l (b ∷ [])))
+
+-- nothing is copied between a place and itself
+pub copied-none : (t : List ℕ) (p q : ℕ) (w : Work) → q ≡ p → Copied (slice q p t) w w
+copied-none t p q w e =
+    subst (λ (s : List ℕ). Copied s w w) (sym (slice-empty p t) ∙ ap (λ (j : ℕ). slice j p t) (sym e)) (record { line = sym (append-nil (textOf w)); state = refl })
+
+pub copied-append : (l m : List ℕ) (w v x : Work) → Copied l w v → Copied m v x → Copied (l ++ m) w x
+copied-append l m w v x h g =
+    record { line = g .line ∙ ap (λ (s : List ℕ). s ++ m) (h .line) ∙ append-assoc (textOf w) l m; state = g .state ∙ h .state }
+
+unless-good : (b : Bool) (r : WorkRefusal) (x v : Work) → unless b r x ≡ good v → v ≡ x
+unfolding unless
+unless-good true r x v e = cc
+unless-good false r x v e = absurd (let z : _≡_ {A = ℕ} 0 1 = cc in omega arith)
+
+pub put-copied : (b : ℕ) (w v : Work) → put b w ≡ good v → Copied (b ∷ []) w v
+unfolding put textOf onto
+put-copied b w v h =
+    let e = unless-good (ltb (w .size) mostLineBytes) newLineTooLong (record { out = b ∷ w .out; size = suc (w .size); state = w .state }) v h in
+    record { line = ap (λ (y : Work). onto (y .out) []) e ∙ onto-nil (w .out) (b ∷ []); state = ap (λ (y : Work). y .state) e }
+
+-- the byte b at place p of the line t
+module _ (t : List ℕ) (p b : ℕ) (bs : List ℕ) (e : b ∷ bs ≡ drop p t) where
+  pub byte-inside : p < length t
+  byte-inside = let a : suc (length bs) ≡ length t - p = ap length e ∙ length-drop p t in omega arith
+
+  byte-cons : b ∷ bs ≡ getD t p 0 ∷ drop (suc p) t
+  byte-cons = e ∙ drop-cons t p 0 byte-inside
+
+  pub byte-rest : bs ≡ drop (suc p) t
+  byte-rest = let c = byte-cons in cc
+
+  byte-is : b ≡ getD t p 0
+  byte-is = let c = byte-cons in cc
+
+  pub slice-next : (a : ℕ) → a ≤ p → slice a (suc p) t ≡ slice a p t ++ (b ∷ [])
+  slice-next a l =
+      let n : length (take p t) ≡ p = length-take-le p t (let i : p < length t = byte-inside in omega arith) in
+      ap (drop a) (take-suc t p 0 byte-inside) ∙ drop-append-le a (take p t) (getD t p 0 ∷ []) (omega arith) ∙ ap (λ (x : ℕ). slice a p t ++ (x ∷ [])) (sym byte-is)

@@ -1,0 +1,161 @@
+-- The passes of a line that is not refused do what demand 3 says of them, and leave no open macro with a division at its end.
+use mathlib.Core.Path.{_≡_, refl, sym, ap, _∙_, subst}
+use mathlib.Core.Bool.{Bool, true, false, false≢true}
+use mathlib.Core.Logic.{_⊎_, inl, inr, _↔_}
+use mathlib.Core.List.{List, [], _∷_}
+use mathlib.Core.Option.{Option, none, some}
+use Prim.Native.Nat.{ℕ, zero, suc, _≤_}
+use native.Mathlib.Omega.{arith}
+use lib.ListN.{length, getElem?}
+use lib.Seq.{slice, take-length}
+use Rattle.macros.specs.Refusals.{WorkRefusal}
+use Rattle.macros.specs.Refusals.WorkRefusal.{budgetUsedUp}
+use Rattle.macros.specs.Macro.{Macro, Table, pick}
+use Rattle.lines.specs.State.{State}
+use Rattle.lines.specs.Matching.{Divides}
+use Rattle.lines.specs.Replacing.{Work, Done, onto}
+use Rattle.lines.specs.Replacing.Done.{bad, good}
+use Rattle.lines.specs.Pass.{Walk, ended, occurs, pass, occurred, outcome}
+use Rattle.lines.specs.Line.{Numbered, Pass, Line, passed, refused, done, control, isIn, newestFirst, closedBy, isControl, due, follow, afterPass, textOf, passes, lineOf, ending}
+use Rattle.lines.specs.Line.{Line.ended as lineEnded}
+use Rattle.lines.specs.Demand.{Nowhere, Walks, Copied, Due, PassHolds, closedAfter, sinceAfter, Passes, closedIn}
+use Rattle.lines.proofs.PassLaws.{Good, pass-walks}
+use Rattle.lines.proofs.OpenLaws.{in-cons, Todo, todo-next, todo-all}
+
+-- the line is not refused
+abbrev pub NotRefused : Line → Type 0
+NotRefused l = (r : WorkRefusal) → ending l ≡ refused r → ⊥
+
+-- WHAT A PASS COMES TO
+
+none-some : (p : ℕ) → _≡_ {A = Option ℕ} none (some p) → ⊥
+none-some p e = let z : _≡_ {A = ℕ} 0 1 = cc in omega arith
+
+abbrev startOf : State → Work
+startOf st = record { out = []; size = 0; state = st }
+
+-- the whole text copied is the text
+all-copied : (t : List ℕ) (st : State) (v : Work) → Copied (slice 0 (length t) t) (startOf st) v → (textOf v ≡ t) × (v .state ≡ st)
+unfolding textOf onto
+all-copied t st v h = (h .line ∙ take-length t, h .state)
+
+module _ (m : Macro) (t : List ℕ) (st : State) where
+  passed-over : (k : Walk) → Walks m t 0 none (startOf st) k → (occurred k ≡ false) ↔ Nowhere st m t
+  unfolding occurred
+  passed-over (ended (bad r)) h = absurd h
+  passed-over (ended (good x)) h = (
+    λ f p l d g. h .1 p (omega arith) (omega arith) d (subst (λ (s : State). Divides s t (m .pattern) p d) (sym (h .0 .state)) g) (λ z. absurd (none-some p z)),
+    λ f. refl,
+  )
+  passed-over (occurs o k) h = (
+    λ f. absurd (false≢true (sym f)),
+    λ f. absurd (f (o .place) (h .1 .inside) (o .division) (subst (λ (s : State). Divides s t (m .pattern) (o .place) (o .division)) (h .0 .state) (h .1 .divides))),
+  )
+
+  -- a pass without an occurrence leaves text and state as they were
+  nothing-changed : (k : Walk) → Walks m t 0 none (startOf st) k → (v : Work) → outcome k ≡ good v → occurred k ≡ false → (textOf v ≡ t) × (v .state ≡ st)
+  unfolding outcome occurred
+  nothing-changed (ended (bad r)) h v e f = absurd h
+  nothing-changed (ended (good x)) h v e f = all-copied t st v (subst (λ (y : Work). Copied (slice 0 (length t) t) (startOf st) y) (let z : x ≡ v = cc in z) (h .0))
+  nothing-changed (occurs o k) h v e f = absurd (false≢true (sym f))
+
+-- THE PASSES
+
+module _ (ms : Table) (closed since : List ℕ) (st : State) (t : List ℕ) where
+  due-holds : (b : Bool) → isControl t ≡ b → (todo : List Numbered) (next : Numbered → List Numbered → Line) → Todo (Due ms closed since) todo → NotRefused (due b t st todo next)
+      → ((e : Numbered) (es : List Numbered) → isControl t ≡ false → Todo (Due ms closed since) (e ∷ es) → NotRefused (next e es) → Passes ms closed since t st (next e es))
+      → Passes ms closed since t st (due b t st todo next)
+  unfolding due
+  due-holds true c todo next a k h = (refl, refl, c)
+  due-holds false c [] next a k h = (refl, refl, c, a)
+  due-holds false c (e ∷ es) next a k h = h e es c a k
+
+  -- what follows a pass of the macro e whose events are k
+  module _ (e : Numbered) (k : Walk) (on again : Work → Line) (plain : isControl t ≡ false) (d : Due ms closed since (e .number) (e .macro))
+      (newest : (i : ℕ) (m : Macro) → Due ms closed since i m → i ≤ e .number) (walks : Good k → Walks (e .macro) t 0 none (startOf st) k)
+      (ons : (w : Work) → NotRefused (on w) → Passes ms closed (e .number ∷ since) t st (on w))
+      (agains : (w : Work) → NotRefused (again w) → Passes ms (closedBy e closed) [] (textOf w) (w .state) (again w)) where
+    follow-good : NotRefused (follow (outcome k) (occurred k) on again) → Good k
+    unfolding follow ending
+    follow-good h r z = h r (ap (λ (a : Done). ending (follow a (occurred k) on again)) z)
+
+    follow-holds : Good k → (a : Done) (o : Bool) → outcome k ≡ a → occurred k ≡ o → NotRefused (follow a o on again)
+        → (v : Work) × (a ≡ good v) × Passes ms (pick o (closedBy e closed) closed) (pick o [] (e .number ∷ since)) (textOf v) (v .state) (follow a o on again)
+    unfolding follow ending pick
+    follow-holds g (bad r) o ea eo h = absurd (g r ea)
+    follow-holds g (good w) false ea eo h =
+        let c = nothing-changed (e .macro) t st k (walks g) w ea eo in
+        (w, refl, subst (λ (s : List ℕ). Passes ms closed (e .number ∷ since) s (w .state) (on w)) (sym (c .0)) (subst (λ (s : State). Passes ms closed (e .number ∷ since) t s (on w)) (sym (c .1)) (ons w h)))
+    follow-holds g (good w) true ea eo h = (w, refl, agains w h)
+
+    after-holds : NotRefused (afterPass (record { which = e; text = t; state = st; events = k }) on again)
+        → Passes ms closed since t st (afterPass (record { which = e; text = t; state = st; events = k }) on again)
+    unfolding afterPass ending
+    after-holds h =
+        let g : Good k = follow-good h in (
+          record { text = refl; state = refl; plain = plain; due = d; newest = newest; passedOver = passed-over (e .macro) t st k (walks g); walks = walks g },
+          follow-holds g (outcome k) (occurred k) refl refl h,
+        )
+
+passes-hold : (ms : Table) (budget : ℕ) (closed since : List ℕ) (todo : List Numbered) (st : State) (t : List ℕ) → Todo (Due ms closed since) todo
+    → NotRefused (passes ms budget closed todo st t) → Passes ms closed since t st (passes ms budget closed todo st t)
+unfolding passes ending
+passes-hold ms zero closed since todo st t a h =
+    due-holds ms closed since st t (isControl t) refl todo (λ e es. lineEnded (refused budgetUsedUp)) a h (λ e es c b k. absurd (k budgetUsedUp refl))
+passes-hold ms (suc budget) closed since todo st t a h =
+    due-holds ms closed since st t (isControl t) refl todo
+    (λ e es. afterPass (record { which = e; text = t; state = st; events = pass (e .macro) t st })
+    (λ w. passes ms budget closed es st t)
+    (λ w. passes ms budget (closedBy e closed) (newestFirst (closedBy e closed) ms) (w .state) (textOf w)))
+    a h
+    (λ e es c b.
+    after-holds ms closed since st t e (pass (e .macro) t st) (λ w. passes ms budget closed es st t)
+    (λ w. passes ms budget (closedBy e closed) (newestFirst (closedBy e closed) ms) (w .state) (textOf w))
+    c (b .0) (b .1) (pass-walks (e .macro) t st)
+    (λ w. passes-hold ms budget closed (e .number ∷ since) es st t (todo-next ms closed since e es b))
+    (λ w. passes-hold ms budget (closedBy e closed) [] (newestFirst (closedBy e closed) ms) (w .state) (textOf w) (todo-all ms (closedBy e closed))))
+
+-- THE LAW
+pub line-holds : (ms : Table) (st : State) (budget : ℕ) (t : List ℕ) → NotRefused (lineOf ms st budget t) → Passes ms [] [] t st (lineOf ms st budget t)
+unfolding lineOf
+line-holds ms st budget t h = passes-hold ms _ [] [] (newestFirst [] ms) st t (todo-all ms []) h
+
+-- WHAT IS LEFT AT THE END
+
+-- the open macros that passed since the last occurrence have nothing anywhere
+abbrev Empty : Table → List ℕ → List ℕ → List ℕ → State → Type 0
+Empty ms closed since t st = (i : ℕ) (m : Macro) → getElem? ms i ≡ some m → isIn i closed ≡ false → isIn i since ≡ true → Nowhere st m t
+
+empty-next : (ms : Table) (closed since : List ℕ) (t : List ℕ) (st : State) (x : Pass) → PassHolds ms closed since t st x → (v : Work) → outcome (x .events) ≡ good v
+    → Empty ms closed since t st → (o : Bool) → occurred (x .events) ≡ o
+    → Empty ms (pick o (closedBy (x .which) closed) closed) (pick o [] (x .which .number ∷ since)) (textOf v) (v .state)
+unfolding pick isIn
+empty-next ms closed since t st x h v e g true o i m at f s = absurd (false≢true s)
+empty-next ms closed since t st x h v e g false o i m at f s =
+    let c = nothing-changed (x .which .macro) t st (x .events) (h .walks) v e o in
+    subst (λ (l : List ℕ). Nowhere (v .state) m l) (sym (c .0)) (subst (λ (z : State). Nowhere z m t) (sym (c .1)) (go (in-cons i (x .which .number) since true s)))
+  where
+    go : ((i ≡ x .which .number) × (_≡_ {A = Bool} true true)) ⊎ ((i ≡ x .which .number → ⊥) × (isIn i since ≡ true)) → Nowhere st m t
+    go (inl y) =
+        let a : getElem? ms i ≡ some (x .which .macro) = subst (λ (j : ℕ). getElem? ms j ≡ some (x .which .macro)) (sym (y .0)) (h .due .0) in
+        let b : x .which .macro ≡ m = cc in
+        subst (λ (k : Macro). Nowhere st k t) b (h .passedOver .0 o)
+    go (inr y) = g i m at f (y .1)
+
+-- THE LAW
+module _ (ms : Table) (s : List ℕ) (z : State) (i : ℕ) (m : Macro) (at : getElem? ms i ≡ some m) where
+  pub left-nothing : (closed since : List ℕ) (t : List ℕ) (st : State) (l : Line) → Passes ms closed since t st l → Empty ms closed since t st
+      → ending l ≡ done s z → isIn i (closedIn closed l) ≡ false → Nowhere z m s
+  unfolding ending
+  left-nothing closed since t st (lineEnded (refused r)) h g e f = absurd h
+  left-nothing closed since t st (lineEnded (control r y)) h g e f = absurd (let n : _≡_ {A = ℕ} 0 1 = cc in omega arith)
+  left-nothing closed since t st (lineEnded (done r y)) h g e f =
+      let a : t ≡ s = cc in
+      let b : st ≡ z = cc in
+      subst (λ (x : State). Nowhere x m s) b (subst (λ (l : List ℕ). Nowhere st m l) a (go (isIn i since) refl))
+    where
+      go : (o : Bool) → isIn i since ≡ o → Nowhere st m t
+      go true o = g i m at f o
+      go false o = absurd (h .3 i m (at, f, o))
+  left-nothing closed since t st (passed x l) h g e f =
+      left-nothing (closedAfter x closed) (sinceAfter x since) (textOf (h .1 .0)) (h .1 .0 .state) l (h .1 .2) (empty-next ms closed since t st x (h .0) (h .1 .0) (h .1 .1) g (occurred (x .events)) refl) e f
