@@ -1,5 +1,5 @@
 -- 01, part 3, "A tag runs from the end of what precedes its left brace to the end of what precedes its right.": the law of a division's tags.
--- It rules out must-fail/late_tag.
+-- It rules out must-fail/late_tag and must-fail/inner_brace_ends.
 use mathlib.Core.Path.{_≡_}
 use Prim.Native.Nat.{ℕ, zero, suc}
 use mathlib.Core.List.{List, [], _∷_, _++_}
