@@ -132,7 +132,7 @@ pub record Taken (ms : Table) (st : State) (t : List ℕ) (l : Line) (a : Answer
   pub passes : Passes ms [] [] t st l
   pub number : a .passes ≡ length (passesOf l)
 
--- one that goes out or is withheld, s its final text: its passes make text, kind and new state, and the table stays
+-- one that goes out or is withheld, s its final text: its passes make text, kind and new state, and the table stays [taken_line_loses_state]
 pub record Finished (ms : Table) (l : Line) (a : Answer) (s : List ℕ) : Type 0 where
   pub final : ending l ≡ done s (a .state)
   pub kind : a .kind ≡ kindOfDone (a .state .nflag) (hadOccurrence l) s
