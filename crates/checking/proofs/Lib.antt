@@ -1,0 +1,6 @@
+pub mod ByteLaws
+pub mod PatternLaws
+pub mod ActionLaws
+pub mod WalkLaws
+pub mod ZeroLaws
+pub mod SlotLaws

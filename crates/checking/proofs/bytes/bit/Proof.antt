@@ -1,0 +1,15 @@
+-- `checking::bytes::bit` meets its contract. Assumes nothing.
+use Rattle.tables.specs.Walk.{bit}
+use borrow.Author.Needs.{needs}
+use Rattle.checking.proofs.bytes.bit.Statement.{statement}
+use Rattle.checking.proofs.bytes.bit.Tie as tie
+
+cast-result : tie.Need-cast-result
+cast-result c = search needs
+
+returns : tie.Need-returns
+unfolding bit
+returns c = search needs
+
+pub bit-spec : {M : Type 1} → statement M
+bit-spec = tie.close (tie.spec cast-result returns)

@@ -1,0 +1,25 @@
+-- `checking::pattern::range_step` meets its contract. Assumes nothing.
+use mathlib.Core.Path.{_∙_, sym}
+use Rattle.tables.specs.Walk.{given}
+use Rattle.tables.specs.PatternWalk.{rangeStep}
+use Rattle.checking.specs.PatternCode.{insideOf, spotOf, nextOf}
+use borrow.Author.Needs.{needs}
+use Rattle.checking.proofs.pattern.range_step.Statement.{statement}
+use Rattle.checking.proofs.pattern.range_step.Tie as tie
+
+is-range-requires : tie.Need-is-range-requires
+is-range-requires c κs = search needs
+
+moved-requires : tie.Need-moved-requires
+moved-requires c κs = search needs
+
+returns : tie.Need-returns
+unfolding given rangeStep insideOf spotOf nextOf
+returns c = c .moved .ensures ∙ rw (sym (c .before .before .is-range .ensures), c .before .if1 .taken)
+
+returns-2 : tie.Need-returns-2
+unfolding given rangeStep insideOf spotOf nextOf
+returns-2 c = rw (sym (c .before .is-range .ensures), c .if1 .left)
+
+pub range-step-spec : {M : Type 1} → statement M
+range-step-spec = tie.close (tie.spec is-range-requires moved-requires returns returns-2)

@@ -1,0 +1,15 @@
+pub mod Laws
+pub mod Numbers
+pub mod Writing
+pub mod Classes
+pub mod Signs
+pub mod Elements
+pub mod Insides
+pub mod Phases
+pub mod Naming
+pub mod Ending
+pub mod Texts
+pub mod Marks
+pub mod Waiting
+pub mod Replacing
+pub mod Commanding

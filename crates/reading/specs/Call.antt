@@ -1,0 +1,156 @@
+-- Calls: what reading one says of the machine, at every place where it may stand.
+use Prim.Native.Nat.{ℕ, _+_, _-_, _*_, _%_, _≤_, _<_}
+use mathlib.Core.Path.{_≡_}
+use mathlib.Core.Bool.{Bool, true, false, _&&_}
+use mathlib.Core.List.{List, [], _∷_, reverse}
+use mathlib.Core.Option.{Option, none, some}
+use lib.Dec.{eqb}
+use lib.ListN.{length}
+use Rattle.macros.specs.Macro.{Macro, Mark, Sign, Move, Call, pick, within, lower, digit, tags}
+use Rattle.macros.specs.Macro.Mark.{stack, counter}
+use Rattle.macros.specs.Macro.Move.{still, before, after}
+use Rattle.macros.specs.Formed.{numberFits}
+use Rattle.macros.specs.Read.{Part, Place, Phase, Turn, callByte, isCommand, frontOf, placed, isSign, signOf, isStill, numberEnd as closing}
+use Rattle.macros.specs.Read.Part.{calling, callText}
+use Rattle.macros.specs.Read.Phase.{begun, tagged, texted}
+use Rattle.macros.specs.Read.Turn.{into, wrong}
+use Rattle.macros.specs.Read.Read.{refusedAt}
+use Rattle.tables.specs.Form.{callItems, moveCode, four}
+use Rattle.reading.specs.Scan.{faultOf, run, Reached, Here}
+use Rattle.reading.specs.Number.{Eats, most}
+use Rattle.reading.specs.Items.{Wrote}
+use Rattle.reading.specs.declared.Fault.{Fault}
+use Rattle.reading.specs.declared.Fault.the-variants.{Incomplete}
+use Rattle.reading.specs.declared.Next.{Next}
+use Rattle.reading.specs.declared.Next.the-variants.{Byte, Refused as NoByte}
+use Rattle.reading.specs.declared.Number.{Number}
+use Rattle.reading.specs.declared.Number.the-variants.{Got, Refused as NoNumber}
+use Rattle.reading.specs.declared.Name.{Name}
+use Rattle.reading.specs.declared.Name.the-variants.{Got as GotName, Refused as NoName}
+use Rattle.reading.specs.declared.Ended.{Ended}
+use Rattle.reading.specs.declared.Ended.the-variants.{Upto, Refused as NoEnd}
+
+-- `#` if true, else `&`
+abbrev pub markOf : Bool → Mark
+markOf true = counter
+markOf false = stack
+
+-- LETTERS AND THEIR SIGNS
+
+-- a sign's part of its move's code
+unfoldable pub signCode : ℕ → ℕ
+signCode b = pick (eqb b 43) 1 2
+
+-- phases that take a letter with at most one sign, where sg says whether one may stand: at the first byte b; behind a sign; behind a letter
+pub record Names (cmd sg : Bool) (b : ℕ) (start : Phase) (sgn : Sign → Phase) (nam : ℕ → Move → Phase) : Type 0 where
+  pub first : callByte cmd start b ≡ pick (isSign b && sg) (into (sgn (signOf b))) (pick (lower b) (into (nam b still)) wrong)
+  pub second : (x : Sign) (c : ℕ) → callByte cmd (sgn x) c ≡ pick (lower c) (into (nam c (before x))) wrong
+  pub third : (i c : ℕ) → (isSign c && sg) ≡ true → callByte cmd (nam i still) c ≡ into (nam i (after (signOf c)))
+
+-- the letter i with a move of the code m, read from b at p on, and the byte c behind them at q
+pub record Letter (s : List ℕ) (a p b : ℕ) (sg : Bool) (i m c q : ℕ) : Type 0 where
+  pub move : Move
+  pub code : m ≡ moveCode move
+  pub here : Here s a q c
+  pub solid : c ≡ 32 → ⊥
+  pub further : p < q
+  -- no sign that could still join
+  pub last : isStill move ≡ true → (isSign c && sg) ≡ false
+  pub answer : (pl : Place) (start : Phase) (sgn : Sign → Phase) (nam : ℕ → Move → Phase) → Names (isCommand pl) sg b start sgn nam → (ms : List Macro)
+      → run s a ms false p (calling pl start) ≡ run s a ms false q (calling pl (nam i move))
+
+-- what reading a letter says
+abbrev pub Naming : List ℕ → ℕ → ℕ → ℕ → Bool → Name → Type 0
+Naming s a p b sg (GotName i m c q) = Letter s a p b sg i m c q
+Naming s a p b sg (NoName f q) = (q ≤ length s) × ((pl : Place) (start : Phase) (sgn : Sign → Phase) (nam : ℕ → Move → Phase) → Names (isCommand pl) sg b start sgn nam → (ms : List Macro) → run s a ms false p (calling pl start) ≡ refusedAt (faultOf f) q)
+
+-- THE ENDS OF CALLS
+
+-- the machine comes from p in the state F to q in the state G, at every place of a replacement or, if cmd, of a command, behind a pattern of k tags
+abbrev pub Comes : List ℕ → ℕ → Bool → ℕ → (Place → Part) → ℕ → (Place → Part) → ℕ → Type 0
+Comes s a cmd k F p G q = (pl : Place) → isCommand pl ≡ cmd → tags (frontOf pl .pieces) ≡ k → (ms : List Macro) → run s a ms false p (F pl) ≡ run s a ms false q (G pl)
+
+-- the call read from p up to q, from the state F on, and its items written from n up to e; x bytes of room come from what was read before p
+pub record Called (s : List ℕ) (a p : ℕ) (old out : List ℕ) (n x : ℕ) (cmd : Bool) (k : ℕ) (F : Place → Part) (q e : ℕ) : Type 0 where
+  pub call : Call
+  pub wrote : Wrote old out n (callItems call)
+  pub used : e ≡ n + length (callItems call)
+  pub room : e ≤ n + x + 2 * (q - p)
+  pub further : p < q
+  pub reached : Reached s a q
+  pub answer : Comes s a cmd k F p (λ pl. placed pl call) q
+
+-- what reading to the end of a call says
+abbrev pub Ends : List ℕ → ℕ → ℕ → List ℕ → List ℕ → ℕ → ℕ → Bool → ℕ → (Place → Part) → Ended → Type 0
+Ends s a p old out n x cmd k F (Upto q e) = Called s a p old out n x cmd k F q e
+Ends s a p old out n x cmd k F (NoEnd f q) = (q ≤ length s) × ((pl : Place) → isCommand pl ≡ cmd → tags (frontOf pl .pieces) ≡ k → (ms : List Macro) → run s a ms false p (F pl) ≡ refusedAt (faultOf f) q)
+
+-- a whole call, in a pattern of k tags
+abbrev pub CalledFrom : List ℕ → ℕ → ℕ → List ℕ → List ℕ → ℕ → Mark → Bool → ℕ → Ended → Type 0
+CalledFrom s a p old out n m cmd k r = Ends s a p old out n 0 cmd k (λ pl. calling pl (begun m)) r
+
+-- a counter's knows no tags
+abbrev pub CounterFrom : List ℕ → ℕ → ℕ → List ℕ → List ℕ → ℕ → Bool → Ended → Type 0
+CounterFrom s a p old out n cmd r = (k : ℕ) → CalledFrom s a p old out n counter cmd k r
+
+-- phases that take a number of at most top and a `)`: their calls
+pub record Sets (code i top : ℕ) (ph : Option ℕ → Phase) (c : ℕ → Call) : Type 0 where
+  pub eats : (pl : Place) → Eats true (λ o. calling pl (ph o))
+  pub others : (cmd : Bool) (o : Option ℕ) (b : ℕ) → digit b ≡ false → (b ≡ 41 → ⊥) → callByte cmd (ph o) b ≡ wrong
+  pub closes : (cmd : Bool) (o : Option ℕ) → callByte cmd (ph o) 41 ≡ closing c o
+  pub fits : (k v : ℕ) → numberFits k (c v) ≡ within 1 top v
+  pub items : (v : ℕ) → callItems (c v) ≡ code ∷ i ∷ four v
+
+abbrev pub SetFrom : List ℕ → ℕ → ℕ → List ℕ → List ℕ → ℕ → ℕ → ℕ → ℕ → Ended → Type 0
+SetFrom s a p old out n code i top r = (ph : Option ℕ → Phase) (c : ℕ → Call) → Sets code i top ph c → (cmd : Bool) (k : ℕ) → Ends s a p old out n 4 cmd k (λ pl. calling pl (ph none)) r
+
+-- behind a tag's number w, of which v is kept
+abbrev pub TagFrom : List ℕ → ℕ → ℕ → List ℕ → List ℕ → ℕ → ℕ → ℕ → Ended → Type 0
+TagFrom s a p old out n v k r = (w : ℕ) → v ≡ most w → (cmd : Bool) → Ends s a p old out n 0 cmd k (λ pl. calling pl (tagged w)) r
+
+-- TEXT
+
+-- what a byte of a text of k bytes says, spelled from p up to q
+abbrev pub Texting : List ℕ → ℕ → ℕ → ℕ → Next → Type 0
+Texting s a p k (Byte b q) = (p ≤ q) × (q < length s) × (q ≤ a + 512) × (k < 50) × ((pl : Place) (i : ℕ) (v : Move) (t : List ℕ) → length t ≡ k → (ms : List Macro) → run s a ms false p (callText pl i v t) ≡ run s a ms false (q + 1) (callText pl i v (b ∷ t)))
+Texting s a p k (NoByte f q) = (q ≤ length s) × ((pl : Place) (i : ℕ) (v : Move) (t : List ℕ) → length t ≡ k → (ms : List Macro) → run s a ms false p (callText pl i v t) ≡ refusedAt (faultOf f) q)
+
+-- the text t, newest byte first, read from p up to q and written from n up to e
+pub record TextRead (s : List ℕ) (a p : ℕ) (old out : List ℕ) (n q e : ℕ) : Type 0 where
+  pub text : List ℕ
+  pub wrote : Wrote old out n (reverse text)
+  pub used : e ≡ n + length text
+  pub short : length text ≤ 50
+  pub room : length text < q - p
+  pub reached : Reached s a q
+  pub answer : (pl : Place) (i : ℕ) (v : Move) (ms : List Macro) → run s a ms false p (callText pl i v []) ≡ run s a ms false q (calling pl (texted i v text))
+
+abbrev pub TextFrom : List ℕ → ℕ → ℕ → List ℕ → List ℕ → ℕ → Ended → Type 0
+TextFrom s a p old out n (Upto q e) = TextRead s a p old out n q e
+TextFrom s a p old out n (NoEnd f q) = (q ≤ length s) × ((pl : Place) (i : ℕ) (v : Move) (ms : List Macro) → run s a ms false p (callText pl i v []) ≡ refusedAt (faultOf f) q)
+
+-- behind a text of k bytes
+unfoldable pub padding : ℕ → List ℕ
+padding k = pick (eqb (k % 2) 0) [] (0 ∷ [])
+
+-- behind the `:` of the letter i, whose move has the code m
+abbrev pub StoreFrom : List ℕ → ℕ → ℕ → List ℕ → List ℕ → ℕ → ℕ → ℕ → Ended → Type 0
+StoreFrom s a p old out n i m r = (v : Move) → m ≡ moveCode v → (cmd : Bool) (k : ℕ) → Ends s a p old out n 4 cmd k (λ pl. callText pl i v []) r
+
+-- REFUSALS HANDED ON
+
+abbrev pub nextEnd : Next → Ended
+nextEnd (Byte b q) = NoEnd Incomplete q
+nextEnd (NoByte f q) = NoEnd f q
+
+abbrev pub numberEnd : Number → Ended
+numberEnd (Got n m b q) = NoEnd Incomplete q
+numberEnd (NoNumber f q) = NoEnd f q
+
+abbrev pub nameEnd : Name → Ended
+nameEnd (GotName i m b q) = NoEnd Incomplete q
+nameEnd (NoName f q) = NoEnd f q
+
+abbrev pub nextName : Next → Name
+nextName (Byte b q) = NoName Incomplete q
+nextName (NoByte f q) = NoName f q

@@ -1,0 +1,403 @@
+// Calls of a replacement and of commands, from behind their `&(` or `#(` to behind their `)`.
+use crate::Ended;
+use crate::Fault;
+use crate::Name;
+use crate::Next;
+use crate::Number;
+use crate::items::put_item;
+use crate::scan::any_byte;
+use crate::scan::call_byte;
+use crate::scan::digits;
+use crate::scan::escaped_byte;
+use crate::scan::is_break;
+use crate::scan::is_lower;
+use crate::scan::next_byte;
+use crate::scan::wrong_byte;
+ghost use mathlib.Core.Path.{_≡_};
+ghost use mathlib.Core.Bool.{Bool, true, false, _&&_};
+ghost use mathlib.Core.List.{[], _∷_};
+ghost use Prim.Native.Nat.{_≤_, _<_, _*_, _+_, _-_, _%_};
+ghost use lib.ListN.{length};
+ghost use Rattle.macros.specs.Macro.{digit};
+ghost use Rattle.macros.specs.Macro.Mark.{stack};
+ghost use Rattle.macros.specs.Read.{isSign};
+ghost use Rattle.tables.specs.Form.{four};
+ghost use Rattle.reading.specs.Scan.{Reached, Here};
+ghost use Rattle.reading.specs.Items.{Wrote};
+ghost use Rattle.reading.specs.Call.{CalledFrom, CounterFrom, Naming, Texting, TextFrom, SetFrom, TagFrom, StoreFrom, markOf, signCode, padding, nextName, nextEnd, numberEnd, nameEnd};
+
+// REFUSALS HANDED ON
+
+pub(crate) fn next_end(n: Next) -> Ended
+    ensures { λ r. ⌜ r ≡ nextEnd n ⌝ }
+{
+    match n {
+        Next::Byte(_, q) => Ended::Refused(Fault::Incomplete, q),
+        Next::Refused(f, q) => Ended::Refused(f, q),
+    }
+}
+
+pub(crate) fn number_end(n: Number) -> Ended
+    ensures { λ r. ⌜ r ≡ numberEnd n ⌝ }
+{
+    match n {
+        Number::Got(_, _, _, q) => Ended::Refused(Fault::Incomplete, q),
+        Number::Refused(f, q) => Ended::Refused(f, q),
+    }
+}
+
+fn name_end(n: Name) -> Ended
+    ensures { λ r. ⌜ r ≡ nameEnd n ⌝ }
+{
+    match n {
+        Name::Got(_, _, _, q) => Ended::Refused(Fault::Incomplete, q),
+        Name::Refused(f, q) => Ended::Refused(f, q),
+    }
+}
+
+fn next_name(n: Next) -> Name
+    ensures { λ r. ⌜ r ≡ nextName n ⌝ }
+{
+    match n {
+        Next::Byte(_, q) => Name::Refused(Fault::Incomplete, q),
+        Next::Refused(f, q) => Name::Refused(f, q),
+    }
+}
+
+// LETTERS AND THEIR SIGNS
+
+// Whether a byte is a sign, where one may stand.
+fn takes_sign(b: u8, signs: bool) -> bool
+    ensures { λ r. ⌜ r ≡ (isSign b && signs) ⌝ }
+{
+    if b == b'+' {
+        return signs;
+    }
+    if b == b'-' {
+        return signs;
+    }
+    false
+}
+
+fn sign_code(b: u8) -> u8
+    ensures { λ r. ⌜ r ≡ signCode b ⌝ }
+{
+    if b == b'+' {
+        return 1;
+    }
+    2
+}
+
+// A letter behind the sign b.
+fn signed_name(s: &[u8], a: usize, at: usize, b: u8, signs: bool) -> Name
+    requires { ⌜ Here (now s) a at b × ((isSign b && signs) ≡ true) ⌝ }
+    ensures { λ r. ⌜ Naming (now (s .entry)) a at b signs r ⌝ }
+{
+    let next = call_byte(s, a, at + 1);
+    let Next::Byte(c, q) = next else {
+        return next_name(next);
+    };
+    if !is_lower(c) {
+        return Name::Refused(wrong_byte(c), q);
+    }
+    let last = call_byte(s, a, q + 1);
+    let Next::Byte(d, z) = last else {
+        return next_name(last);
+    };
+    Name::Got(c, sign_code(b), d, z)
+}
+
+// A letter, perhaps with a sign before or behind it; b is its first byte.
+fn name(s: &[u8], a: usize, at: usize, b: u8, signs: bool) -> Name
+    requires { ⌜ Here (now s) a at b × (b ≡ 32 → ⊥) ⌝ }
+    ensures { λ r. ⌜ Naming (now (s .entry)) a at b signs r ⌝ }
+{
+    if takes_sign(b, signs) {
+        return signed_name(s, a, at, b, signs);
+    }
+    if !is_lower(b) {
+        return Name::Refused(wrong_byte(b), at);
+    }
+    let next = call_byte(s, a, at + 1);
+    let Next::Byte(c, q) = next else {
+        return next_name(next);
+    };
+    if !takes_sign(c, signs) {
+        return Name::Got(b, 0, c, q);
+    }
+    let last = call_byte(s, a, q + 1);
+    let Next::Byte(d, z) = last else {
+        return next_name(last);
+    };
+    Name::Got(b, 2 + sign_code(c), d, z)
+}
+
+// NUMBERS
+
+fn low_byte(v: u64) -> u8
+    ensures { λ r. ⌜ r ≡ v % 256 ⌝ }
+{
+    (v % 256) as u8
+}
+
+fn put_number(out: &mut [u8], n: usize, v: u64)
+    requires { ⌜ (n + 4 ≤ length (now out)) × (v ≤ 1000000000) ⌝ }
+    ensures { λ _. ⌜ Wrote (now (out .entry)) (now (out .exit)) n (four v) ⌝ }
+{
+    put_item(out, n, low_byte(v), low_byte(v / 256));
+    put_item(out, n + 2, low_byte(v / 65536), low_byte(v / 16777216));
+}
+
+// A number, at most `top`, behind the `=` or `,` of the letter i, and its `)`: 16 there if it is out of range.
+fn set_call(
+    s: &[u8],
+    out: &mut [u8],
+    a: usize,
+    at: usize,
+    n: usize,
+    code: u8,
+    i: u8,
+    top: u64,
+) -> Ended
+    requires { ⌜ Reached (now s) a at × (n + 4 + 2 * (a + 513 - at) ≤ length (now out)) × (top ≤ 999999999) ⌝ }
+    ensures { λ r. ⌜ SetFrom (now (s .entry)) a at (now (out .entry)) (now (out .exit)) n code i top r ⌝ }
+{
+    let number = digits(s, a, at, true);
+    let Number::Got(v, some, b, q) = number else {
+        return number_end(number);
+    };
+    if b != b')' {
+        return Ended::Refused(wrong_byte(b), q);
+    }
+    if !some {
+        return Ended::Refused(Fault::BadCall, q);
+    }
+    if v < 1 {
+        return Ended::Refused(Fault::BadCall, q);
+    }
+    if top < v {
+        return Ended::Refused(Fault::BadCall, q);
+    }
+    put_item(out, n, code, i);
+    put_number(out, n + 2, v);
+    Ended::Upto(q + 1, n + 6)
+}
+
+// Behind a tag's number v, whose next byte is b: 16 at the `)` if the pattern has no such tag.
+fn tag_call(
+    s: &[u8],
+    out: &mut [u8],
+    a: usize,
+    at: usize,
+    b: u8,
+    n: usize,
+    v: u64,
+    tags: usize,
+) -> Ended
+    requires { ⌜ Here (now s) a at b × (b ≡ 32 → ⊥) × (digit b ≡ false) × (n + 2 * (a + 513 - at) ≤ length (now out)) × (tags ≤ 99) ⌝ }
+    ensures { λ r. ⌜ TagFrom (now (s .entry)) a at (now (out .entry)) (now (out .exit)) n v tags r ⌝ }
+{
+    if b != b',' {
+        return Ended::Refused(wrong_byte(b), at);
+    }
+    let next = call_byte(s, a, at + 1);
+    let Next::Byte(c, q) = next else {
+        return next_end(next);
+    };
+    let named = name(s, a, q, c, true);
+    let Name::Got(i, m, d, z) = named else {
+        return name_end(named);
+    };
+    if d != b')' {
+        return Ended::Refused(wrong_byte(d), z);
+    }
+    if v < 1 {
+        return Ended::Refused(Fault::BadCall, z);
+    }
+    if (tags as u64) < v {
+        return Ended::Refused(Fault::BadCall, z);
+    }
+    put_item(out, n, 64 + m, i);
+    put_item(out, n + 2, 42, v as u8);
+    Ended::Upto(z + 1, n + 4)
+}
+
+// TEXT
+
+// A byte of a text that has k bytes so far, from b on, with its last place: a raw quote, `;` or line feed is 12, the 51st byte 16.
+fn text_byte(s: &[u8], a: usize, at: usize, b: u8, k: usize) -> Next
+    requires { ⌜ Here (now s) a at b × (b ≡ 58 → ⊥) ⌝ }
+    ensures { λ r. ⌜ Texting (now (s .entry)) a at k r ⌝ }
+{
+    if is_break(b) {
+        return Next::Refused(Fault::Incomplete, at);
+    }
+    if 50 <= k {
+        return Next::Refused(Fault::BadCall, at);
+    }
+    if b != b'\\' {
+        return Next::Byte(b, at);
+    }
+    let raw = any_byte(s, a, at + 1);
+    let Next::Byte(e, z) = raw else {
+        return raw;
+    };
+    Next::Byte(escaped_byte(e), z)
+}
+
+// A text up to its `:`, written from n on.
+fn put_text(s: &[u8], out: &mut [u8], a: usize, first: usize, n: usize) -> Ended
+    requires { ⌜ Reached (now s) a first × (n + 2 * (a + 513 - first) ≤ length (now out)) ⌝ }
+    ensures { λ r. ⌜ TextFrom (now (s .entry)) a first (now (out .entry)) (now (out .exit)) n r ⌝ }
+{
+    let mut at = first;
+    let mut k: usize = 0;
+    loop {
+        let next = next_byte(s, a, at);
+        let Next::Byte(b, q) = next else {
+            return next_end(next);
+        };
+        if b == b':' {
+            return Ended::Upto(q + 1, n + k);
+        }
+        let text = text_byte(s, a, q, b, k);
+        let Next::Byte(c, z) = text else {
+            return next_end(text);
+        };
+        out[n + k] = c;
+        at = z + 1;
+        k = k + 1;
+    }
+}
+
+// A zero behind a text that has an odd length; the text stands from n to e.
+fn pad(out: &mut [u8], n: usize, e: usize) -> usize
+    requires { ⌜ (n ≤ e) × (e < length (now out)) ⌝ }
+    ensures { λ r. ⌜ Wrote (now (out .entry)) (now (out .exit)) e (padding (e - n)) × (r ≡ e + length (padding (e - n))) ⌝ }
+{
+    if (e - n) % 2 == 0 {
+        return e;
+    }
+    out[e] = 0;
+    e + 1
+}
+
+// Behind the `:` of the letter i with the move m. The text's length is stored when it is known.
+fn text_call(s: &[u8], out: &mut [u8], a: usize, at: usize, n: usize, i: u8, m: u8) -> Ended
+    requires { ⌜ Reached (now s) a at × (n + 4 + 2 * (a + 513 - at) ≤ length (now out)) × (m ≤ 4) ⌝ }
+    ensures { λ r. ⌜ StoreFrom (now (s .entry)) a at (now (out .entry)) (now (out .exit)) n i m r ⌝ }
+{
+    let text = put_text(s, out, a, at, n + 4);
+    let Ended::Upto(q, e) = text else {
+        return text;
+    };
+    let next = call_byte(s, a, q);
+    let Next::Byte(b, z) = next else {
+        return next_end(next);
+    };
+    if b != b')' {
+        return Ended::Refused(wrong_byte(b), z);
+    }
+    let end = pad(out, n + 4, e);
+    put_item(out, n + 2, 43, (e - (n + 4)) as u8);
+    put_item(out, n, 72 + m, i);
+    Ended::Upto(z + 1, end)
+}
+
+// CALLS
+
+fn stack_call(
+    s: &[u8],
+    out: &mut [u8],
+    a: usize,
+    at: usize,
+    n: usize,
+    cmd: bool,
+    tags: usize,
+) -> Ended
+    requires { ⌜ Reached (now s) a at × (n + 2 * (a + 513 - at) ≤ length (now out)) × (tags ≤ 99) ⌝ }
+    ensures { λ r. ⌜ CalledFrom (now (s .entry)) a at (now (out .entry)) (now (out .exit)) n stack cmd tags r ⌝ }
+{
+    let number = digits(s, a, at, true);
+    let Number::Got(v, some, b, q) = number else {
+        return number_end(number);
+    };
+    if some {
+        return tag_call(s, out, a, q, b, n, v, tags);
+    }
+    let named = name(s, a, q, b, true);
+    let Name::Got(i, m, c, z) = named else {
+        return name_end(named);
+    };
+    if c == b':' {
+        return text_call(s, out, a, z + 1, n, i, m);
+    }
+    if c == b'=' {
+        if 0 < m {
+            return Ended::Refused(Fault::BadCall, z);
+        }
+        return set_call(s, out, a, z + 1, n, 80, i, 20);
+    }
+    if c != b')' {
+        return Ended::Refused(wrong_byte(c), z);
+    }
+    if cmd {
+        return Ended::Refused(Fault::BadCall, z);
+    }
+    put_item(out, n, 48 + m, i);
+    Ended::Upto(z + 1, n + 2)
+}
+
+fn counter_call(s: &[u8], out: &mut [u8], a: usize, at: usize, n: usize, cmd: bool) -> Ended
+    requires { ⌜ Reached (now s) a at × (n + 2 * (a + 513 - at) ≤ length (now out)) ⌝ }
+    ensures { λ r. ⌜ CounterFrom (now (s .entry)) a at (now (out .entry)) (now (out .exit)) n cmd r ⌝ }
+{
+    let next = call_byte(s, a, at);
+    let Next::Byte(b, q) = next else {
+        return next_end(next);
+    };
+    let named = name(s, a, q, b, !cmd);
+    let Name::Got(i, m, c, z) = named else {
+        return name_end(named);
+    };
+    if c == b',' {
+        if 0 < m {
+            return Ended::Refused(Fault::BadCall, z);
+        }
+        return set_call(s, out, a, z + 1, n, 96, i, 999999999);
+    }
+    if c == b'=' {
+        if 0 < m {
+            return Ended::Refused(Fault::BadCall, z);
+        }
+        return set_call(s, out, a, z + 1, n, 88, i, 999999999);
+    }
+    if c != b')' {
+        return Ended::Refused(wrong_byte(c), z);
+    }
+    if cmd {
+        return Ended::Refused(Fault::BadCall, z);
+    }
+    put_item(out, n, 56 + m, i);
+    Ended::Upto(z + 1, n + 2)
+}
+
+// One call behind its `&(` or, if counter, `#(`, in a replacement or, if cmd, as a command.
+pub(crate) fn call(
+    s: &[u8],
+    out: &mut [u8],
+    a: usize,
+    at: usize,
+    n: usize,
+    counter: bool,
+    cmd: bool,
+    tags: usize,
+) -> Ended
+    requires { ⌜ Reached (now s) a at × (n + 2 * (a + 513 - at) ≤ length (now out)) × (tags ≤ 99) ⌝ }
+    ensures { λ r. ⌜ CalledFrom (now (s .entry)) a at (now (out .entry)) (now (out .exit)) n (markOf counter) cmd tags r ⌝ }
+{
+    if counter {
+        return counter_call(s, out, a, at, n, cmd);
+    }
+    stack_call(s, out, a, at, n, cmd, tags)
+}

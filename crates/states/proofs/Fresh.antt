@@ -1,0 +1,108 @@
+-- The form of the fresh state, as the bytes that are stored.
+use Prim.Native.Nat.{ℕ, zero, suc, _+_, _-_, _*_}
+use mathlib.Core.Path.{_≡_, refl, sym, ap, _∙_}
+use mathlib.Core.List.{List, [], _∷_, _++_, append-assoc}
+use native.Mathlib.Nat.{mul-suc, add-comm}
+use native.Mathlib.Omega.{arith}
+use lib.ListN.{length, replicate, length-append, length-replicate, replicate-append-replicate}
+use Rattle.lines.specs.State.{AllOf, fresh, freshStack, freshCounter, EntryInRange, StackInRange, CounterInRange, InRange}
+use Rattle.states.specs.Form.{pointersForm, valuesForm, incrementsForm, entryForm, entriesForm, stacksForm, stateForm}
+use Rattle.states.specs.Access.{replaced, ones}
+use Rattle.states.proofs.Replaced.{replaced-left, replaced-right, replaced-whole, replaced-behind, length-ones, ones-append}
+
+pointers-ones : (n : ℕ) → pointersForm (replicate n freshStack) ≡ replicate n 1
+unfolding pointersForm freshStack
+pointers-ones zero = refl
+pointers-ones (suc n) = ap (λ (t : List ℕ). 1 ∷ t) (pointers-ones n)
+
+values-ones : (n : ℕ) → valuesForm (replicate n freshCounter) ≡ ones n
+unfolding valuesForm freshCounter ones
+values-ones zero = refl
+values-ones (suc n) = rw (values-ones n)
+
+increments-ones : (n : ℕ) → incrementsForm (replicate n freshCounter) ≡ ones n
+unfolding incrementsForm freshCounter ones
+increments-ones zero = refl
+increments-ones (suc n) = rw (increments-ones n)
+
+run : (w n : ℕ) → replicate w 0 ++ replicate (w * n) 0 ≡ replicate {A = ℕ} (w * suc n) 0
+run w n = replicate-append-replicate w (w * n) 0 ∙ ap (λ (k : ℕ). replicate k 0) (add-comm w (w * n) ∙ sym (mul-suc w n))
+
+entries-zero : (n : ℕ) → entriesForm (replicate n []) ≡ replicate (50 * n) 0
+unfolding entriesForm entryForm
+entries-zero zero = refl
+entries-zero (suc n) = ap (λ (t : List ℕ). replicate 50 0 ++ t) (entries-zero n) ∙ run 50 n
+
+stack-zero : entriesForm (freshStack .entries) ≡ replicate 1000 0
+unfolding freshStack
+stack-zero = entries-zero 20
+
+stacks-zero : (n : ℕ) → stacksForm (replicate n freshStack) ≡ replicate (1000 * n) 0
+unfolding stacksForm
+stacks-zero zero = refl
+stacks-zero (suc n) = ap (λ (t : List ℕ). t ++ stacksForm (replicate n freshStack)) stack-zero ∙ ap (λ (t : List ℕ). replicate 1000 0 ++ t) (stacks-zero n) ∙ run 1000 n
+
+-- zeros, then the 26 pointers, then the 52 numbers
+stored : (b u o : List ℕ) (m : ℕ) → length b ≡ 236 + m → length u ≡ 26 → length o ≡ 208
+    → replaced (replaced (replaced b 0 (replicate (length b) 0)) 2 u) 28 o ≡ 0 ∷ 0 ∷ ((u ++ o) ++ replicate m 0)
+stored b u o m h hu ho =
+    let z : List ℕ = replicate 234 0 ++ replicate m 0 in
+    let both : length (u ++ o) ≡ 234 = length-append u o ∙ omega arith in
+    let front : length {A = ℕ} (replicate 234 0) ≡ 234 = length-replicate {A = ℕ} 234 0 in
+    let sum : 2 + (234 + m) ≡ 236 + m = omega arith in
+    let zeros : replaced b 0 (replicate (length b) 0) ≡ (0 ∷ 0 ∷ []) ++ z =
+    replaced-whole b (replicate (length b) 0) (sym (length-replicate {A = ℕ} (length b) 0))
+    ∙ ap (λ (k : ℕ). replicate k 0) h
+    ∙ sym (ap (λ (t : List ℕ). (0 ∷ 0 ∷ []) ++ t) (replicate-append-replicate 234 m 0) ∙ replicate-append-replicate 2 (234 + m) 0 ∙ ap (λ (k : ℕ). replicate k 0) sum) in
+    let long : length z ≡ 234 + m = length-append (replicate 234 0) (replicate m 0) ∙ omega (arith, length-replicate {A = ℕ} m 0) in
+    let all : length ((0 ∷ 0 ∷ []) ++ z) ≡ 236 + m = omega arith in
+    ap (λ (t : List ℕ). replaced (replaced t 2 u) 28 o) zeros
+    ∙ replaced-behind ((0 ∷ 0 ∷ []) ++ z) 2 28 u o (omega arith) (omega arith)
+    ∙ replaced-right (0 ∷ 0 ∷ []) z 2 0 (u ++ o) refl
+    ∙ ap (λ (t : List ℕ). 0 ∷ 0 ∷ t)
+    (replaced-left (replicate 234 0) (replicate m 0) 0 (u ++ o) (omega arith) ∙ ap (λ (t : List ℕ). t ++ replicate m 0) (replaced-whole (replicate 234 0) (u ++ o) (omega arith)))
+
+form : stateForm fresh ≡ 0 ∷ 0 ∷ ((replicate 26 1 ++ ones 52) ++ replicate 26000 0)
+unfolding stateForm fresh
+form =
+    ap (λ (t : List ℕ). 0 ∷ 0 ∷ t)
+    (ap (λ (t : List ℕ). t ++ (valuesForm (replicate 26 freshCounter) ++ (incrementsForm (replicate 26 freshCounter) ++ stacksForm (replicate 26 freshStack)))) (pointers-ones 26)
+    ∙ ap (λ (t : List ℕ). replicate 26 1 ++ (t ++ (incrementsForm (replicate 26 freshCounter) ++ stacksForm (replicate 26 freshStack)))) (values-ones 26)
+    ∙ ap (λ (t : List ℕ). replicate 26 1 ++ (ones 26 ++ (t ++ stacksForm (replicate 26 freshStack)))) (increments-ones 26)
+    ∙ ap (λ (t : List ℕ). replicate 26 1 ++ t) (sym (append-assoc (ones 26) (ones 26) (stacksForm (replicate 26 freshStack))) ∙ ap (λ (t : List ℕ). t ++ stacksForm (replicate 26 freshStack)) (ones-append 26 26))
+    ∙ sym (append-assoc (replicate 26 1) (ones 52) (stacksForm (replicate 26 freshStack)))
+    ∙ ap (λ (t : List ℕ). (replicate 26 1 ++ ones 52) ++ t) (stacks-zero 26))
+
+pub fresh-stored : (b z p e : List ℕ) → length b ≡ 26236 → z ≡ replaced b 0 (replicate (length b - 0) 0) → p ≡ replaced z 2 (replicate (28 - 2) 1) → e ≡ replaced p 28 (ones 52) → e ≡ stateForm fresh
+fresh-stored b z p e h hz hp he =
+    let all : length b - 0 ≡ length b = omega arith in
+    he
+    ∙ ap (λ (t : List ℕ). replaced t 28 (ones 52)) (hp ∙ ap (λ (t : List ℕ). replaced t 2 (replicate 26 1)) (hz ∙ ap (λ (k : ℕ). replaced b 0 (replicate k 0)) all))
+    ∙ stored b (replicate 26 1) (ones 52) 26000 h (length-replicate {A = ℕ} 26 1) (length-ones 52)
+    ∙ sym form
+
+-- the fresh state is in range
+
+all-replicate : {A : Type 0} (P : A → Type 0) (n : ℕ) (x : A) → P x → AllOf P (replicate n x)
+all-replicate P zero x h = tt
+all-replicate P (suc n) x h = (h, all-replicate P n x h)
+
+fresh-stack : StackInRange freshStack
+unfolding freshStack
+fresh-stack = record { pointer = (omega arith, omega arith); count = length-replicate {A = List ℕ} 20 []; entries = all-replicate EntryInRange 20 [] (tt, omega arith) }
+
+fresh-counter : CounterInRange freshCounter
+unfolding freshCounter
+fresh-counter = record { value = (omega arith, omega arith); increment = (omega arith, omega arith) }
+
+pub fresh-in-range : InRange fresh
+unfolding fresh
+fresh-in-range =
+    record {
+      stackCount = length-replicate 26 freshStack;
+      stacks = all-replicate StackInRange 26 freshStack fresh-stack;
+      counterCount = length-replicate 26 freshCounter;
+      counters = all-replicate CounterInRange 26 freshCounter fresh-counter;
+      trace = omega arith;
+      nflag = omega arith;
+    }

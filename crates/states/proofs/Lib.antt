@@ -1,0 +1,7 @@
+pub mod Steps
+pub mod Replaced
+pub mod Each
+pub mod Parts
+pub mod Decode
+pub mod Fresh
+pub mod Held

@@ -1,0 +1,4 @@
+pub mod Form
+pub mod FormLaws
+pub mod Check
+pub mod Access

@@ -1,0 +1,237 @@
+-- The items of a piece or of an action are written out as the piece or the action is.
+-- Assumes nothing.
+use Prim.Native.Nat.{ℕ, zero, suc, _+_, _-_, _*_, _/_, _%_, _≤_, _<_}
+use mathlib.Core.Path.{_≡_, refl, ap, sym, _∙_, subst}
+use mathlib.Core.Bool.{Bool, true, false}
+use mathlib.Core.List.{List, [], _∷_, _++_, append-assoc, map, reverse, reverseAux}
+use native.Mathlib.Omega.{arith}
+use native.Mathlib.Decide.{ℕ-discrete}
+use borrow.Author.Tests.{eq-eqb, ne-eqb}
+use lib.Dec.{ltb, eqb}
+use lib.ListN.{length, getD, take, drop, length-append}
+use lib.Seq.{take-append-seam, drop-at}
+use Rattle.macros.specs.Macro.{Closure, Member, Mark, PatternUnit, Piece, Sign, Move, Call, Action, pick, among, markByte}
+use Rattle.macros.specs.Macro.Closure.{once, oneOrMore, zeroOrMore}
+use Rattle.macros.specs.Macro.Member.{single, range}
+use Rattle.macros.specs.Macro.Mark.{stack, counter}
+use Rattle.macros.specs.Macro.PatternUnit.{literal, kind, class, callOf}
+use Rattle.macros.specs.Macro.Piece.{element, start, end, left, right}
+use Rattle.macros.specs.Macro.Sign.{plus, minus}
+use Rattle.macros.specs.Macro.Move.{still, before, after}
+use Rattle.macros.specs.Macro.Call.{insert, storeTag, setTo, storeText, setIncrement}
+use Rattle.macros.specs.Macro.Action.{text, tag, call}
+use Rattle.macros.specs.Formed.{FormedPieces}
+use Rattle.macros.specs.Write.{digits, writeMember, writeMembers, writeUnit, closureBytes, writePiece, writePattern, signByte, nameBytes, writeText, markOf, innerBytes, callBytes, writeAction, writeReplacement, commandsBytes}
+use Rattle.tables.specs.Form.{closureCode, unitCode, unitOperand, memberItems, membersItems, unitRest, pieceItems, patternItems, moveCode, four, evened, callItems, callsItems, actionItems, replacementItems}
+use Rattle.writing.specs.Items.{closureText, unitText, braceByte, memberText, itemText, patternText, nameText, callByte, numberIn, textIn, setText, storeText as storedText, lastName, innerText, actionText, actionSize, actionsText, Held, Whole}
+use Rattle.writing.specs.Items.Whole.{none, next}
+use Rattle.writing.proofs.Numbers.{digits-few}
+use Rattle.writing.proofs.Steps.{actions-cons, some-size}
+
+-- PATTERN
+
+-- a kind has one digit
+abbrev KindFits : Piece → Type 0
+KindFits (element (kind n) c) = n < 10
+KindFits (element (literal b) c) = Unit {0}
+KindFits (element (class neg ms) c) = Unit {0}
+KindFits (element (callOf m i) c) = Unit {0}
+KindFits start = Unit {0}
+KindFits end = Unit {0}
+KindFits left = Unit {0}
+KindFits right = Unit {0}
+
+abbrev pub KindsFit : List Piece → Type 0
+KindsFit [] = Unit {0}
+KindsFit (p ∷ ps) = KindFits p × KindsFit ps
+
+formed-kinds : (ps : List Piece) → FormedPieces ps → KindsFit ps
+formed-kinds [] f = tt
+formed-kinds (element (literal b) c ∷ ps) f = (tt, formed-kinds ps (f .1))
+formed-kinds (element (kind n) c ∷ ps) f = (let h = f .0 .1 in omega arith, formed-kinds ps (f .1))
+formed-kinds (element (class neg ms) c ∷ ps) f = (tt, formed-kinds ps (f .1))
+formed-kinds (element (callOf m i) c ∷ ps) f = (tt, formed-kinds ps (f .1))
+formed-kinds (start ∷ ps) f = (tt, formed-kinds ps f)
+formed-kinds (end ∷ ps) f = (tt, formed-kinds ps f)
+formed-kinds (left ∷ ps) f = (tt, formed-kinds ps (f .1))
+formed-kinds (right ∷ ps) f = (tt, formed-kinds ps (f .1))
+
+-- in either order
+turned-rest : (ps qs : List Piece) → KindsFit (reverseAux ps qs) → KindsFit qs
+turned-rest [] qs f = f
+turned-rest (p ∷ ps) qs f = turned-rest ps (p ∷ qs) f .1
+
+turned : (ps qs : List Piece) → KindsFit (reverseAux ps qs) → KindsFit ps
+turned [] qs f = tt
+turned (p ∷ ps) qs f = (turned-rest ps (p ∷ qs) f .0, turned ps (p ∷ qs) f)
+
+pub pattern-kinds : (ps : List Piece) → FormedPieces (reverse ps) → KindsFit ps
+pattern-kinds ps f = turned ps [] (formed-kinds (reverse ps) f)
+
+members-text : (h : ℕ) (ms : List Member) (r : List ℕ) → patternText h (membersItems ms ++ r) ≡ (writeMembers ms ++ closureText h) ++ patternText h r
+unfolding patternText membersItems memberItems itemText memberText writeMembers writeMember pick
+members-text h [] r = refl
+members-text h (single c ∷ ms) r = rw (members-text h ms r) (simp append-assoc)
+members-text h (range a z ∷ ms) r = rw (members-text h ms r)
+
+module _ (h : ℕ) (r w : List ℕ) (ih : (k : ℕ) → patternText k r ≡ w) where
+  piece-text : (p : Piece) → KindFits p → patternText h (pieceItems p ++ r) ≡ writePiece p ++ w
+  unfolding patternText pieceItems unitCode closureCode unitOperand unitRest itemText unitText braceByte closureText writePiece writeUnit closureBytes markByte pick
+  piece-text (element (literal b) once) f = rw ih
+  piece-text (element (literal b) oneOrMore) f = rw ih
+  piece-text (element (literal b) zeroOrMore) f = rw ih
+  piece-text (element (kind n) once) f = rw (digits-few n f, ih)
+  piece-text (element (kind n) oneOrMore) f = rw (digits-few n f, ih)
+  piece-text (element (kind n) zeroOrMore) f = rw (digits-few n f, ih)
+  piece-text (element (class true ms) once) f = rw (members-text 28 ms r, ih)
+  piece-text (element (class true ms) oneOrMore) f = rw (members-text 29 ms r, ih)
+  piece-text (element (class true ms) zeroOrMore) f = rw (members-text 30 ms r, ih)
+  piece-text (element (class false ms) once) f = rw (members-text 24 ms r, ih)
+  piece-text (element (class false ms) oneOrMore) f = rw (members-text 25 ms r, ih)
+  piece-text (element (class false ms) zeroOrMore) f = rw (members-text 26 ms r, ih)
+  piece-text (element (callOf stack i) once) f = rw ih
+  piece-text (element (callOf stack i) oneOrMore) f = rw ih
+  piece-text (element (callOf stack i) zeroOrMore) f = rw ih
+  piece-text (element (callOf counter i) once) f = rw ih
+  piece-text (element (callOf counter i) oneOrMore) f = rw ih
+  piece-text (element (callOf counter i) zeroOrMore) f = rw ih
+  piece-text start f = rw ih
+  piece-text end f = rw ih
+  piece-text left f = rw ih
+  piece-text right f = rw ih
+
+pub pattern-text : (ps : List Piece) → KindsFit ps → (h : ℕ) → patternText h (patternItems ps) ≡ writePattern ps
+unfolding patternItems writePattern patternText
+pattern-text [] f h = refl
+pattern-text (p ∷ ps) f h = piece-text h (patternItems ps) (writePattern ps) (pattern-text ps (f .1)) p (f .0)
+
+-- ACTIONS
+
+even-taken : (t r : List ℕ) → take (length t) (evened t ++ r) ≡ t
+unfolding evened
+even-taken t r = rw (append-assoc t _ r) (take-append-seam t _)
+
+number-back : (n : ℕ) → n % 256 + 256 * ((n / 256) % 256) + 65536 * ((n / 65536) % 256) + 16777216 * (n / 16777216) ≡ n
+number-back n = omega arith
+
+call-text : (c : Call) (r : List ℕ) → actionText (callItems c ++ r) ≡ callBytes writeText c
+unfolding actionText callItems moveCode four callByte innerText lastName nameText storedText textIn setText numberIn callBytes innerBytes nameBytes signByte markOf markByte pick
+call-text (insert stack i still) r = refl
+call-text (insert stack i (before plus)) r = refl
+call-text (insert stack i (before minus)) r = refl
+call-text (insert stack i (after plus)) r = refl
+call-text (insert stack i (after minus)) r = refl
+call-text (insert counter i still) r = refl
+call-text (insert counter i (before plus)) r = refl
+call-text (insert counter i (before minus)) r = refl
+call-text (insert counter i (after plus)) r = refl
+call-text (insert counter i (after minus)) r = refl
+call-text (storeTag n i still) r = refl
+call-text (storeTag n i (before plus)) r = refl
+call-text (storeTag n i (before minus)) r = refl
+call-text (storeTag n i (after plus)) r = refl
+call-text (storeTag n i (after minus)) r = refl
+call-text (setTo stack i n) r = rw (number-back n)
+call-text (setTo counter i n) r = rw (number-back n)
+call-text (storeText i still t) r = rw (even-taken t r)
+call-text (storeText i (before plus) t) r = rw (even-taken t r)
+call-text (storeText i (before minus) t) r = rw (even-taken t r)
+call-text (storeText i (after plus) t) r = rw (even-taken t r)
+call-text (storeText i (after minus) t) r = rw (even-taken t r)
+call-text (setIncrement i n) r = rw (number-back n)
+
+action-text : (a : Action) (r : List ℕ) → actionText (actionItems a ++ r) ≡ writeAction a
+unfolding actionItems writeAction actionText pick
+action-text (text b) r = refl
+action-text (tag n) r = refl
+action-text (call c) r = call-text c r
+
+abbrev even-end : List ℕ → List ℕ
+even-end t = pick (eqb (length t % 2) 0) [] (0 ∷ [])
+
+even-none : (t : List ℕ) → length t % 2 ≡ 0 → length (even-end t) ≡ 0
+unfolding pick
+even-none t e = rw (eq-eqb (length t % 2) 0 e)
+
+even-one : (t : List ℕ) → (length t % 2 ≡ 0 → ⊥) → length (even-end t) ≡ 1
+unfolding pick
+even-one t f = rw (ne-eqb (length t % 2) 0 f)
+
+pub even-length : (t : List ℕ) → length (evened t) ≡ length t + length t % 2
+unfolding evened
+even-length t = by (ℕ-discrete (length t % 2) 0)
+  where
+    by : Dec (length t % 2 ≡ 0) → length (evened t) ≡ length t + length t % 2
+    by (yes e) = let x = length-append t (even-end t) in let y : length (even-end t) ≡ 0 = even-none t e in omega arith
+    by (no f) = let x = length-append t (even-end t) in let y : length (even-end t) ≡ 1 = even-one t f in omega arith
+
+call-size : (c : Call) (r : List ℕ) → actionSize (callItems c ++ r) ≡ length (callItems c)
+unfolding actionSize callItems moveCode four pick
+call-size (insert stack i still) r = refl
+call-size (insert stack i (before plus)) r = refl
+call-size (insert stack i (before minus)) r = refl
+call-size (insert stack i (after plus)) r = refl
+call-size (insert stack i (after minus)) r = refl
+call-size (insert counter i still) r = refl
+call-size (insert counter i (before plus)) r = refl
+call-size (insert counter i (before minus)) r = refl
+call-size (insert counter i (after plus)) r = refl
+call-size (insert counter i (after minus)) r = refl
+call-size (storeTag n i still) r = refl
+call-size (storeTag n i (before plus)) r = refl
+call-size (storeTag n i (before minus)) r = refl
+call-size (storeTag n i (after plus)) r = refl
+call-size (storeTag n i (after minus)) r = refl
+call-size (setTo stack i n) r = refl
+call-size (setTo counter i n) r = refl
+call-size (storeText i still t) r = let z = even-length t in omega arith
+call-size (storeText i (before plus) t) r = let z = even-length t in omega arith
+call-size (storeText i (before minus) t) r = let z = even-length t in omega arith
+call-size (storeText i (after plus) t) r = let z = even-length t in omega arith
+call-size (storeText i (after minus) t) r = let z = even-length t in omega arith
+call-size (setIncrement i n) r = refl
+
+action-size : (a : Action) (r : List ℕ) → actionSize (actionItems a ++ r) ≡ length (actionItems a)
+unfolding actionItems actionSize pick
+action-size (text b) r = refl
+action-size (tag n) r = refl
+action-size (call c) r = call-size c r
+
+-- an action takes some bytes
+action-some : (a : Action) → 0 < length (actionItems a)
+action-some a = let s = action-size a [] in let z = some-size (actionItems a ++ []) in omega arith
+
+-- the rest behind an action
+action-rest : (a : Action) (r : List ℕ) → drop (actionSize (actionItems a ++ r)) (actionItems a ++ r) ≡ r
+action-rest a r = drop-at (actionItems a) r (actionSize (actionItems a ++ r)) (sym (action-size a r))
+
+pub actions-text : (xs : List Action) → actionsText 0 (replacementItems xs) ≡ writeReplacement xs
+unfolding replacementItems writeReplacement actionsText
+actions-text [] = refl
+actions-text (a ∷ xs) =
+    let l = length-append (actionItems a) (replacementItems xs) in
+    let z = action-some a in
+    actions-cons (actionItems a ++ replacementItems xs) (omega arith)
+    ∙ ap (λ (x : List ℕ). x ++ actionsText 0 (drop (actionSize (actionItems a ++ replacementItems xs)) (actionItems a ++ replacementItems xs))) (action-text a (replacementItems xs))
+    ∙ ap (λ (x : List ℕ). writeAction a ++ actionsText 0 x) (action-rest a (replacementItems xs))
+    ∙ ap (λ (x : List ℕ). writeAction a ++ x) (actions-text xs)
+
+pub actions-whole : (xs : List Action) → Whole (replacementItems xs)
+unfolding replacementItems
+actions-whole [] = none
+actions-whole (a ∷ xs) =
+    let l = length-append (actionItems a) (replacementItems xs) in
+    let z = action-some a in
+    let s = action-size a (replacementItems xs) in
+    next {t = actionItems a ++ replacementItems xs} (omega arith) (omega arith) (subst Whole (sym (action-rest a (replacementItems xs))) (actions-whole xs))
+
+-- commands are actions too
+pub calls-items : (cs : List Call) → callsItems cs ≡ replacementItems (map call cs)
+unfolding callsItems replacementItems actionItems
+calls-items [] = refl
+calls-items (c ∷ cs) = ap (λ (x : List ℕ). callItems c ++ x) (calls-items cs)
+
+pub calls-text : (cs : List Call) → commandsBytes writeText cs ≡ writeReplacement (map call cs)
+unfolding commandsBytes writeReplacement writeAction
+calls-text [] = refl
+calls-text (c ∷ cs) = ap (λ (x : List ℕ). callBytes writeText c ++ x) (calls-text cs)

@@ -1,0 +1,9 @@
+pub mod Putting
+pub mod Numbers
+pub mod Steps
+pub mod Decoded
+pub mod Room
+pub mod Slotted
+pub mod Tabled
+pub mod Files
+pub mod Listed

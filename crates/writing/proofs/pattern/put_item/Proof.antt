@@ -1,0 +1,119 @@
+-- Assumes nothing.
+use Prim.Native.Nat.{ℕ}
+use mathlib.Core.Path.{ap}
+use mathlib.Core.List.{[], _∷_}
+use native.Mathlib.Omega.{arith}
+use borrow.Author.Tests.{lt-ltb, le-ltb}
+use Rattle.macros.specs.Macro.{pick}
+use Rattle.writing.specs.Items.{closureText, itemText}
+use Rattle.writing.proofs.Putting.{room, also, no-more, by-bytes}
+use borrow.Author.Needs.{needs}
+use Rattle.writing.proofs.pattern.put_item.Statement.{statement}
+use Rattle.writing.proofs.pattern.put_item.Tie as tie
+
+brace-requires : tie.Need-brace-requires
+brace-requires c κs = search needs
+
+slice-aggregate-put : tie.Need-slice-aggregate-put
+slice-aggregate-put c = search needs
+
+put-requires : tie.Need-put-requires
+put-requires c κs = search needs
+
+same-length : tie.Need-same-length
+same-length c = search needs
+
+returns : tie.Need-returns
+unfolding itemText pick
+returns c = simp (lt-ltb _ _ (c .before .before .before .before .before .before .if1 .taken)) (by-bytes (ap (λ (x : ℕ). x ∷ []) (c .before .before .before .before .brace .ensures)) (c .before .before .put .ensures))
+
+put-unit-requires : tie.Need-put-unit-requires
+put-unit-requires c κs = search needs
+
+enum-known-m : tie.Need-enum-known-m
+enum-known-m c = search needs
+
+enum-told : tie.Need-enum-told
+enum-told c = search needs
+
+same-length-2 : tie.Need-same-length-2
+same-length-2 c = search needs
+
+returns-2 : tie.Need-returns-2
+unfolding itemText pick
+returns-2 c = simp (le-ltb _ _ (c .before .before .before .before .before .before .before .if1 .left), lt-ltb _ _ (c .before .before .before .before .before .before .if2 .taken)) (no-more (closureText (c .before .before .before .before .before .before .before .before .before .args .code)) (c .before .before .before .before .put-unit .ensures) (c .enum-told .given .1))
+
+put-closure-requires : tie.Need-put-closure-requires
+put-closure-requires c κs = record { within = room (c .before .before .before .before .before .before .put-unit .ensures) (c .before .before .m .given .1); short = omega arith }
+
+same-length-3 : tie.Need-same-length-3
+same-length-3 c = search needs
+
+returns-3 : tie.Need-returns-3
+unfolding itemText pick
+returns-3 c = simp (le-ltb _ _ (c .before .before .before .before .before .before .before .before .before .before .before .before .if1 .left), lt-ltb _ _ (c .before .before .before .before .before .before .before .before .before .before .before .if2 .taken)) (also (c .before .before .before .before .before .before .before .before .before .put-unit .ensures) (c .before .before .before .before .before .m .given .1) (c .before .before .put-closure .ensures))
+
+slice-aggregate-put-2 : tie.Need-slice-aggregate-put-2
+slice-aggregate-put-2 c = search needs
+
+put-requires-2 : tie.Need-put-requires-2
+put-requires-2 c κs = search needs
+
+same-length-4 : tie.Need-same-length-4
+same-length-4 c = search needs
+
+returns-4 : tie.Need-returns-4
+unfolding itemText pick
+returns-4 c = simp (le-ltb _ _ (c .before .before .before .before .before .before .before .if1 .left), le-ltb _ _ (c .before .before .before .before .before .before .if2 .left), lt-ltb _ _ (c .before .before .before .before .before .if3 .taken)) (c .before .before .put2 .ensures)
+
+slice-aggregate-put-3 : tie.Need-slice-aggregate-put-3
+slice-aggregate-put-3 c = search needs
+
+put-requires-3 : tie.Need-put-requires-3
+put-requires-3 c κs = search needs
+
+same-length-5 : tie.Need-same-length-5
+same-length-5 c = search needs
+
+returns-5 : tie.Need-returns-5
+unfolding itemText pick
+returns-5 c = simp (le-ltb _ _ (c .before .before .before .before .before .before .before .before .if1 .left), le-ltb _ _ (c .before .before .before .before .before .before .before .if2 .left), le-ltb _ _ (c .before .before .before .before .before .before .if3 .left), lt-ltb _ _ (c .before .before .before .before .before .if4 .taken)) (c .before .before .put3 .ensures)
+
+put-member-requires : tie.Need-put-member-requires
+put-member-requires c κs = search needs
+
+same-length-6 : tie.Need-same-length-6
+same-length-6 c = search needs
+
+returns-6 : tie.Need-returns-6
+unfolding itemText pick
+returns-6 c = simp (le-ltb _ _ (c .before .before .before .before .before .before .before .if1 .left), le-ltb _ _ (c .before .before .before .before .before .before .if2 .left), le-ltb _ _ (c .before .before .before .before .before .if3 .left), le-ltb _ _ (c .before .before .before .before .if4 .left)) (c .before .before .put-member .ensures)
+
+pub put-item-spec : {M : Type 1} → statement M
+put-item-spec =
+    tie.close
+    (tie.spec
+    brace-requires
+    slice-aggregate-put
+    put-requires
+    same-length
+    returns
+    put-unit-requires
+    enum-known-m
+    enum-told
+    same-length-2
+    returns-2
+    put-closure-requires
+    same-length-3
+    returns-3
+    slice-aggregate-put-2
+    put-requires-2
+    same-length-4
+    returns-4
+    slice-aggregate-put-3
+    put-requires-3
+    same-length-5
+    returns-5
+    put-member-requires
+    same-length-6
+    returns-6)

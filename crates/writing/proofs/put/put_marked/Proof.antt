@@ -1,0 +1,78 @@
+-- Assumes nothing.
+use Rattle.writing.proofs.Putting.{by-bytes, plain, marked, feed, tab, itself}
+use borrow.Author.Needs.{needs}
+use Rattle.writing.proofs.put.put_marked.Statement.{statement}
+use Rattle.writing.proofs.put.put_marked.Tie as tie
+
+in-list-requires : tie.Need-in-list-requires
+in-list-requires c κs = search needs
+
+slice-aggregate-put : tie.Need-slice-aggregate-put
+slice-aggregate-put c = search needs
+
+put-requires : tie.Need-put-requires
+put-requires c κs = search needs
+
+same-length : tie.Need-same-length
+same-length c = search needs
+
+returns : tie.Need-returns
+returns c = by-bytes (plain _ _ (c .before .before .before .before .before .before .in-list .ensures) (c .before .before .before .before .before .if1 .taken)) (c .before .before .put .ensures)
+
+slice-aggregate-put-2 : tie.Need-slice-aggregate-put-2
+slice-aggregate-put-2 c = search needs
+
+put-requires-2 : tie.Need-put-requires-2
+put-requires-2 c κs = search needs
+
+same-length-2 : tie.Need-same-length-2
+same-length-2 c = search needs
+
+returns-2 : tie.Need-returns-2
+returns-2 c = by-bytes (marked _ _ (c .before .before .before .before .before .before .before .in-list .ensures) (c .before .before .before .before .before .before .if1 .left) (feed (c .before .before .before .before .before .if2 .taken))) (c .before .before .put2 .ensures)
+
+slice-aggregate-put-3 : tie.Need-slice-aggregate-put-3
+slice-aggregate-put-3 c = search needs
+
+put-requires-3 : tie.Need-put-requires-3
+put-requires-3 c κs = search needs
+
+same-length-3 : tie.Need-same-length-3
+same-length-3 c = search needs
+
+returns-3 : tie.Need-returns-3
+returns-3 c = by-bytes (marked _ _ (c .before .before .before .before .before .before .before .before .in-list .ensures) (c .before .before .before .before .before .before .before .if1 .left) (tab (c .before .before .before .before .before .if3 .taken))) (c .before .before .put3 .ensures)
+
+slice-aggregate-put-4 : tie.Need-slice-aggregate-put-4
+slice-aggregate-put-4 c = search needs
+
+put-requires-4 : tie.Need-put-requires-4
+put-requires-4 c κs = search needs
+
+same-length-4 : tie.Need-same-length-4
+same-length-4 c = search needs
+
+returns-4 : tie.Need-returns-4
+returns-4 c = by-bytes (marked _ _ (c .before .before .before .before .before .before .before .before .in-list .ensures) (c .before .before .before .before .before .before .before .if1 .left) (itself (c .before .before .before .before .before .before .if2 .left) (c .before .before .before .before .before .if3 .left))) (c .before .before .put4 .ensures)
+
+pub put-marked-spec : {M : Type 1} → statement M
+put-marked-spec =
+    tie.close
+    (tie.spec
+    in-list-requires
+    slice-aggregate-put
+    put-requires
+    same-length
+    returns
+    slice-aggregate-put-2
+    put-requires-2
+    same-length-2
+    returns-2
+    slice-aggregate-put-3
+    put-requires-3
+    same-length-3
+    returns-3
+    slice-aggregate-put-4
+    put-requires-4
+    same-length-4
+    returns-4)

@@ -1,0 +1,4 @@
+pub mod Puts
+pub mod Items
+pub mod Slots
+pub mod Contract
