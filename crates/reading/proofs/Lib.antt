@@ -13,3 +13,8 @@ pub mod Marks
 pub mod Waiting
 pub mod Replacing
 pub mod Commanding
+pub mod Joining
+pub mod Seeking
+pub mod Storing
+pub mod Adding
+pub mod Restoring

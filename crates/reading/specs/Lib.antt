@@ -5,3 +5,4 @@ pub mod Class
 pub mod Pattern
 pub mod Call
 pub mod Action
+pub mod File

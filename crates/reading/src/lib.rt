@@ -1,15 +1,25 @@
 // Reads macro files. What each answer says of the machine of the definitions stands in specs/.
 mod actions;
 mod calls;
+pub mod file;
 mod items;
 mod pattern;
 mod scan;
+mod slots;
 
 // The bytes from a macro's first quote to its `;`, both counted.
 pub(crate) const MOST_MACRO_BYTES: usize = 512;
 
 // The tags of a pattern.
 pub(crate) const MOST_TAGS: usize = 99;
+
+// The bytes of a macro file.
+pub(crate) const MOST_FILE_BYTES: usize = 32768;
+
+// The macros of a table, and the bytes of a slot.
+pub(crate) const MOST_MACROS: usize = 96;
+
+pub(crate) const SLOT_BYTES: usize = 1024;
 
 // A refusal of the table writer, in the order of their numbers: 10 to 19.
 pub enum Fault {
@@ -120,5 +130,41 @@ pub(crate) enum Name {
 // The place behind what was read, and the end of the items written; or a refusal with its place.
 pub(crate) enum Ended {
     Upto(usize, usize),
+    Refused(Fault, usize),
+}
+
+// A MACRO AND A FILE
+
+// What a slot's first bytes say: the symbol's code, the tags, and the bytes of the three parts.
+pub(crate) struct Head {
+    pub(crate) symbol: u8,
+    pub(crate) tags: usize,
+    pub(crate) pattern: usize,
+    pub(crate) replacement: usize,
+    pub(crate) commands: usize,
+}
+
+// The place behind a macro's `;`, and its head; or a refusal with its place.
+pub(crate) enum Built {
+    Made(usize, Head),
+    Refused(Fault, usize),
+}
+
+// Between macros: the next first quote; or the file's end, outside of a skip or in one.
+pub(crate) enum Seek {
+    Quote(usize),
+    Done,
+    Skipping,
+}
+
+// The macros that the table has with all of a file's; or a refusal with its place, and the macros by then.
+pub(crate) enum Added {
+    All(usize),
+    Refused(Fault, usize, usize),
+}
+
+// The macros that the table has with a file's; or the refusal with its place.
+pub enum Reading {
+    Table(usize),
     Refused(Fault, usize),
 }

@@ -1,0 +1,24 @@
+use Rattle.tables.specs.Form.{two}
+use borrow.Author.Needs.{needs}
+use Rattle.reading.proofs.slots.put_two.Statement.{statement}
+use Rattle.reading.proofs.slots.put_two.Tie as tie
+
+cast-put-item : tie.Need-cast-put-item
+cast-put-item c = search needs
+
+cast-put-item-2 : tie.Need-cast-put-item-2
+cast-put-item-2 c = search needs
+
+put-item-requires : tie.Need-put-item-requires
+put-item-requires c κs = search needs
+
+same-length : tie.Need-same-length
+same-length c = search needs
+
+returns : tie.Need-returns
+unfolding two
+returns c = c .before .before .put-item .ensures
+
+pub put-two-spec : {M : Type 1} → statement M
+put-two-spec =
+    tie.close (tie.spec cast-put-item cast-put-item-2 put-item-requires same-length returns)

@@ -1,0 +1,59 @@
+// Storing a macro in its slot of a table.
+use crate::Head;
+use crate::SLOT_BYTES;
+use crate::items::put_item;
+ghost use Prim.Native.Nat.{_≤_, _<_, _+_};
+ghost use lib.ListN.{length, take, replicate};
+ghost use Rattle.macros.specs.Bounds.{mostTags};
+ghost use Rattle.tables.specs.Form.{slotBytes, bodyBytes, two};
+ghost use Rattle.reading.specs.Items.{Wrote};
+ghost use Rattle.reading.specs.File.{usedBytes, slotOf};
+
+// A number of two bytes, low byte first.
+fn put_two(out: &mut [u8], n: usize, v: usize)
+    requires { ⌜ (n + 1 < length (now out)) × (v ≤ bodyBytes) ⌝ }
+    ensures { λ _. ⌜ Wrote (now (out .entry)) (now (out .exit)) n (two v) ⌝ }
+{
+    put_item(out, n, (v % 256) as u8, (v / 256) as u8);
+}
+
+// The first k bytes of others.
+fn copy_in(out: &mut [u8], n: usize, from: &[u8], k: usize)
+    requires { ⌜ (n + k ≤ length (now out)) × (k ≤ length (now from)) ⌝ }
+    ensures { λ _. ⌜ Wrote (now (out .entry)) (now (out .exit)) n (take k (now (from .entry))) ⌝ }
+{
+    let mut i = 0;
+    while i < k {
+        out[n + i] = from[i];
+        i = i + 1;
+    }
+}
+
+// Zeros in k bytes.
+pub(crate) fn clear(out: &mut [u8], n: usize, k: usize)
+    requires { ⌜ n + k ≤ length (now out) ⌝ }
+    ensures { λ _. ⌜ Wrote (now (out .entry)) (now (out .exit)) n (replicate k 0) ⌝ }
+{
+    let mut i = 0;
+    while i < k {
+        out[n + i] = 0;
+        i = i + 1;
+    }
+}
+
+// A slot: its head, the items of the macro, and zeros.
+pub(crate) fn store(table: &mut [u8], base: usize, body: &[u8], head: Head)
+    requires { ⌜ (base + slotBytes ≤ length (now table)) × (usedBytes head ≤ length (now body)) × (usedBytes head ≤ bodyBytes) × (head .tags ≤ mostTags) ⌝ }
+    ensures { λ _. ⌜ Wrote (now (table .entry)) (now (table .exit)) base (slotOf head (now (body .entry))) ⌝ }
+{
+    let first = head.pattern;
+    let second = head.replacement;
+    let third = head.commands;
+    let used = first + second + third;
+    put_item(table, base, head.symbol, head.tags as u8);
+    put_two(table, base + 2, first);
+    put_two(table, base + 4, second);
+    put_two(table, base + 6, third);
+    copy_in(table, base + 8, body, used);
+    clear(table, base + 8 + used, SLOT_BYTES - 8 - used);
+}
