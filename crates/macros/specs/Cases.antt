@@ -48,6 +48,9 @@ again s = rewritten (readFile (bytes s))
 
 -- 01's M11 to M13, and each place of a fault that 01 names
 pub faults :
+    (refusal "'&(\\a)'='';" ≡ (16, 3)) ×
+    (refusal "'a'='&(\\a)';" ≡ (16, 7)) ×
+    (refusal "'{a}'='{\\1}';" ≡ (16, 8)) ×
     (refusal "'a**'='b';" ≡ (14, 3)) ×
     (refusal "'[z-a]'='b';" ≡ (13, 4)) ×
     (refusal "'a'='{2}';" ≡ (16, 7)) ×
@@ -75,7 +78,7 @@ pub faults :
     (refusal "'a'='b''" ≡ (12, 7)) ×
     (refusal "'a'='b'&(1,a);" ≡ (16, 12))
 unfolding everything
-faults = (refl, refl, refl, refl, refl, refl, refl, refl, refl, refl, refl, refl, refl, refl, refl, refl, refl, refl, refl, refl, refl, refl, refl, refl, refl, refl)
+faults = (refl, refl, refl, refl, refl, refl, refl, refl, refl, refl, refl, refl, refl, refl, refl, refl, refl, refl, refl, refl, refl, refl, refl, refl, refl, refl, refl, refl, refl)
 
 -- n copies of some bytes
 abbrev pub times : {A : Type 0} → ℕ → List A → List A
