@@ -29,15 +29,15 @@ pub copied-append : (l m : List ℕ) (w v x : Work) → Copied l w v → Copied 
 copied-append l m w v x h g =
     record { line = g .line ∙ ap (λ (s : List ℕ). s ++ m) (h .line) ∙ append-assoc (textOf w) l m; state = g .state ∙ h .state }
 
-unless-good : (b : Bool) (r : WorkRefusal) (x v : Work) → unless b r x ≡ good v → v ≡ x
+unless-good : (b : Bool) (r : WorkRefusal) (w x v : Work) → unless b r w x ≡ good v → v ≡ x
 unfolding unless
-unless-good true r x v e = cc
-unless-good false r x v e = absurd (let z : _≡_ {A = ℕ} 0 1 = cc in omega arith)
+unless-good true r w x v e = cc
+unless-good false r w x v e = absurd (let z : _≡_ {A = ℕ} 0 1 = cc in omega arith)
 
 pub put-copied : (b : ℕ) (w v : Work) → put b w ≡ good v → Copied (b ∷ []) w v
 unfolding put textOf onto
 put-copied b w v h =
-    let e = unless-good (ltb (w .size) mostLineBytes) newLineTooLong (record { out = b ∷ w .out; size = suc (w .size); state = w .state }) v h in
+    let e = unless-good (ltb (w .size) mostLineBytes) newLineTooLong w (record { out = b ∷ w .out; size = suc (w .size); state = w .state }) v h in
     record { line = ap (λ (y : Work). onto (y .out) []) e ∙ onto-nil (w .out) (b ∷ []); state = ap (λ (y : Work). y .state) e }
 
 -- the byte b at place p of the line t

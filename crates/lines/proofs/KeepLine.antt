@@ -74,7 +74,7 @@ due-within n false t st (e ∷ es) next h f g = g e es (f .0) (f .1)
 follow-within : (n : ℕ) (d : Done) (o : Bool) (on again : Work → Line) → SoundDone d → ((w : Work) → Within n (on w)) → ((w : Work) → Sound w → Within n (again w))
     → Within n (follow d o on again)
 unfolding follow ending passesOf
-follow-within n (bad r) o on again h f g = record { ends = tt; count = omega arith }
+follow-within n (bad r w) o on again h f g = record { ends = tt; count = omega arith }
 follow-within n (good w) false on again h f g = f w
 follow-within n (good w) true on again h f g = g w h
 

@@ -23,7 +23,7 @@ SoundFrom go = (skip : ℕ) (last : Option ℕ) (v : Work) → Sound v → Sound
 
 go-sound : (a : Done) (k : Work → Walk) → SoundDone a → ((w : Work) → Sound w → SoundWalk (k w)) → SoundWalk (goOn a k)
 unfolding goOn outcome
-go-sound (bad r) k h g = tt
+go-sound (bad r w) k h g = tt
 go-sound (good w) k h g = g w h
 
 onward-sound : (q b k : ℕ) (go : ℕ → Option ℕ → Work → Walk) (v : Work) → Byte b → SoundFrom go → Sound v → SoundWalk (onward q b k go v)

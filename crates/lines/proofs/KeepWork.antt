@@ -33,24 +33,24 @@ pub record Sound (w : Work) : Type 0 where
   pub state : InRange (w .state)
 
 abbrev pub SoundDone : Done → Type 0
-SoundDone (bad r) = Unit {0}
+SoundDone (bad r w) = Unit {0}
 SoundDone (good w) = Sound w
 
 then-sound : (a : Done) (k : Work → Done) → SoundDone a → ((w : Work) → Sound w → SoundDone (k w)) → SoundDone (a >>= k)
-then-sound (bad r) k h g = tt
+then-sound (bad r w) k h g = tt
 then-sound (good w) k h g = g w h
 
-unless-sound : (c : Bool) (r : WorkRefusal) (w : Work) → (c ≡ true → Sound w) → SoundDone (unless c r w)
+unless-sound : (c : Bool) (r : WorkRefusal) (w v : Work) → (c ≡ true → Sound v) → SoundDone (unless c r w v)
 unfolding unless
-unless-sound true r w h = h refl
-unless-sound false r w h = tt
+unless-sound true r w v h = h refl
+unless-sound false r w v h = tt
 
 -- THE NEW LINE
 
 puts-sound : (t : List ℕ) (w : Work) → Bytes t → Sound w → SoundDone (puts t w)
 unfolding puts
 puts-sound t w b h =
-    unless-sound _ newLineTooLong _
+    unless-sound _ newLineTooLong _ _
     (λ e. record {
       exact = omega (arith, length-onto t (w .out), h .exact);
       fits = leb-true _ mostLineBytes e;
@@ -61,7 +61,7 @@ puts-sound t w b h =
 pub put-sound : (b : ℕ) (w : Work) → Byte b → Sound w → SoundDone (put b w)
 unfolding put
 put-sound b w g h =
-    unless-sound _ newLineTooLong _
+    unless-sound _ newLineTooLong _ _
     (λ e. record { exact = ap suc (h .exact); fits = ltb-true (w .size) mostLineBytes e; bytes = (g, h .bytes); state = h .state })
 
 -- THE STATE
@@ -101,11 +101,11 @@ with-entry i t w g h =
 
 moves-sound : (m : Mark) (s : Sign) (i : ℕ) (w : Work) → Sound w → SoundDone (moves m s i w)
 unfolding moves
-moves-sound stack plus i w h = unless-sound _ pointerTooHigh _ (λ e. with-pointer i _ w (omega arith, leb-true _ mostEntries e) h)
+moves-sound stack plus i w h = unless-sound _ pointerTooHigh _ _ (λ e. with-pointer i _ w (omega arith, leb-true _ mostEntries e) h)
 moves-sound stack minus i w h = with-pointer i _ w (fallen-between _ 1 mostEntries (stack-in-range (w .state) i (h .state) .pointer)) h
 moves-sound counter plus i w h =
     let k = counter-in-range (w .state) i (h .state) in
-    unless-sound _ counterTooHigh _ (λ e. with-value i _ w (omega arith, leb-true _ mostCounter e) h)
+    unless-sound _ counterTooHigh _ _ (λ e. with-value i _ w (omega arith, leb-true _ mostCounter e) h)
 moves-sound counter minus i w h = with-value i _ w (fallen-between _ _ mostCounter (counter-in-range (w .state) i (h .state) .value)) h
 
 early-sound : (m : Mark) (v : Move) (i : ℕ) (w : Work) → Sound w → SoundDone (early m v i w)
@@ -122,7 +122,7 @@ late-sound m (after s) i w h = moves-sound m s i w h
 
 stores-sound : (i : ℕ) (t : List ℕ) (w : Work) → Bytes t → Sound w → SoundDone (stores i t w)
 unfolding stores
-stores-sound i t w b h = unless-sound _ tagTooLong _ (λ e. with-entry i t w (b, leb-true (length t) mostEntryBytes e) h)
+stores-sound i t w b h = unless-sound _ tagTooLong _ _ (λ e. with-entry i t w (b, leb-true (length t) mostEntryBytes e) h)
 
 -- a call's access, between its two moves
 access-sound : (m : Mark) (v : Move) (i : ℕ) (f : Work → Done) (w : Work) → ((x : Work) → Sound x → SoundDone (f x)) → Sound w → SoundDone (early m v i w >>= f >>= late m v i)

@@ -21,3 +21,4 @@ pub mod KeepLine
 pub mod KeepAnswers
 pub mod KeepOrders
 pub mod FeedKeeps
+pub mod MadeLaws

@@ -42,7 +42,7 @@ all-copied t st v h = (h .line ∙ take-length t, h .state)
 module _ (m : Macro) (t : List ℕ) (st : State) where
   passed-over : (k : Walk) → Walks m t 0 none (startOf st) k → (occurred k ≡ false) ↔ Nowhere st m t
   unfolding occurred
-  passed-over (ended (bad r)) h = absurd h
+  passed-over (ended (bad r w)) h = absurd h
   passed-over (ended (good x)) h = (
     λ f p l d g. h .1 p (omega arith) (omega arith) d (subst (λ (s : State). Divides s t (m .pattern) p d) (sym (h .0 .state)) g) (λ z. absurd (none-some p z)),
     λ f. refl,
@@ -55,7 +55,7 @@ module _ (m : Macro) (t : List ℕ) (st : State) where
   -- a pass without an occurrence leaves text and state as they were
   nothing-changed : (k : Walk) → Walks m t 0 none (startOf st) k → (v : Work) → outcome k ≡ good v → occurred k ≡ false → (textOf v ≡ t) × (v .state ≡ st)
   unfolding outcome occurred
-  nothing-changed (ended (bad r)) h v e f = absurd h
+  nothing-changed (ended (bad r w)) h v e f = absurd h
   nothing-changed (ended (good x)) h v e f = all-copied t st v (subst (λ (y : Work). Copied (slice 0 (length t) t) (startOf st) y) (let z : x ≡ v = cc in z) (h .0))
   nothing-changed (occurs o k) h v e f = absurd (false≢true (sym f))
 
@@ -77,12 +77,12 @@ module _ (ms : Table) (closed since : List ℕ) (st : State) (t : List ℕ) wher
       (agains : (w : Work) → NotRefused (again w) → Passes ms (closedBy e closed) [] (textOf w) (w .state) (again w)) where
     follow-good : NotRefused (follow (outcome k) (occurred k) on again) → Good k
     unfolding follow ending
-    follow-good h r z = h r (ap (λ (a : Done). ending (follow a (occurred k) on again)) z)
+    follow-good h r v z = h r (ap (λ (a : Done). ending (follow a (occurred k) on again)) z)
 
     follow-holds : Good k → (a : Done) (o : Bool) → outcome k ≡ a → occurred k ≡ o → NotRefused (follow a o on again)
         → (v : Work) × (a ≡ good v) × Passes ms (pick o (closedBy e closed) closed) (pick o [] (e .number ∷ since)) (textOf v) (v .state) (follow a o on again)
     unfolding follow ending pick
-    follow-holds g (bad r) o ea eo h = absurd (g r ea)
+    follow-holds g (bad r w) o ea eo h = absurd (g r w ea)
     follow-holds g (good w) false ea eo h =
         let c = nothing-changed (e .macro) t st k (walks g) w ea eo in
         (w, refl, subst (λ (s : List ℕ). Passes ms closed (e .number ∷ since) s (w .state) (on w)) (sym (c .0)) (subst (λ (s : State). Passes ms closed (e .number ∷ since) t s (on w)) (sym (c .1)) (ons w h)))

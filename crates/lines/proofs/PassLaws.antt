@@ -25,7 +25,7 @@ use Rattle.lines.proofs.CopiedLaws.{copied-none, copied-append, put-cop
 
 -- the pass is not refused
 abbrev pub Good : Walk → Type 0
-Good k = (r : WorkRefusal) → outcome k ≡ bad r → ⊥
+Good k = (r : WorkRefusal) (v : Work) → outcome k ≡ bad r v → ⊥
 
 -- what is shown of the walk from place p on, of which go is a part: at is the place that it tries next
 abbrev Goes : Macro → List ℕ → ℕ → (ℕ → Option ℕ → Work → Walk) → Type 0
@@ -36,7 +36,7 @@ Goes m t p go =
 go-on : (m : Macro) (t : List ℕ) (from : ℕ) (last : Option ℕ) (w : Work) (k : Work → Walk) (a : Done) → Good (goOn a k)
     → ((v : Work) → a ≡ good v → Good (k v) → Walks m t from last w (k v)) → Walks m t from last w (goOn a k)
 unfolding goOn outcome
-go-on m t from last w k (bad r) g h = g r refl
+go-on m t from last w k (bad r v) g h = g r v refl
 go-on m t from last w k (good v) g h = h v refl g
 
 module _ (m : Macro) (t : List ℕ) (p : ℕ) (last : Option ℕ) (v w : Work) (from : ℕ) (inside : p ≤ length t) (ahead : from ≤ p)
@@ -58,7 +58,7 @@ module _ (m : Macro) (t : List ℕ) (p : ℕ) (last : Option ℕ) (v w : Work) (
     where
       go : (a : Done) → occur m t d v ≡ a → Good (goOn a (λ x. occurs (record { place = p; division = d; before = v; after = x }) (k x)))
           → Walks m t from last w (goOn a (λ x. occurs (record { place = p; division = d; before = v; after = x }) (k x)))
-      go (bad r) e f = f r refl
+      go (bad r x) e f = f r x refl
       go (good x) e f = (now, record { ahead = ahead; inside = inside; divides = h .0; counts = h .1; leftmost = before; most = h .2; tags = tags-run (v .state) t (m .pattern) p d (h .0); made = e }, ih x f)
 
   end-holds : p ≡ length t → (a : Option Division) → Matches (Divides (v .state) t (m .pattern) p) last p a → Good (atEnd m t p v a) → Walks m t from last w (atEnd m t p v a)

@@ -27,13 +27,13 @@ use Rattle.lines.specs.Room.{Room, DoneRoom, WalkRoom, PassRoom}
 -- STEPS
 
 bind-room : (a : Done) (k : Work → Done) → DoneRoom a → ((w : Work) → Room w → DoneRoom (k w)) → DoneRoom (a >>= k)
-bind-room (bad r) k h g = tt
+bind-room (bad r w) k h g = tt
 bind-room (good w) k h g = g w h
 
-unless-room : (b : Bool) (r : WorkRefusal) (w : Work) → (b ≡ true → Room w) → DoneRoom (unless b r w)
+unless-room : (b : Bool) (r : WorkRefusal) (w v : Work) → (b ≡ true → Room v) → DoneRoom (unless b r w v)
 unfolding unless
-unless-room true r w h = h refl
-unless-room false r w h = tt
+unless-room true r w v h = h refl
+unless-room false r w v h = tt
 
 onto-length : (l o : List ℕ) → length (onto l o) ≡ length l + length o
 unfolding onto
@@ -43,13 +43,13 @@ onto-length (b ∷ l) o = let h : length (onto l (b ∷ o)) ≡ length l + suc (
 puts-room : (l : List ℕ) (w : Work) → Room w → DoneRoom (puts l w)
 unfolding puts
 puts-room l w h =
-    unless-room (leb (w .size + length l) mostLineBytes) newLineTooLong (record { out = onto l (w .out); size = w .size + length l; state = w .state })
+    unless-room (leb (w .size + length l) mostLineBytes) newLineTooLong w (record { out = onto l (w .out); size = w .size + length l; state = w .state })
     (λ e. record { exact = let a : length (onto l (w .out)) ≡ length l + length (w .out) = onto-length l (w .out) in let b = h .exact in omega arith; fits = leb-true (w .size + length l) mostLineBytes e })
 
 put-room : (b : ℕ) (w : Work) → Room w → DoneRoom (put b w)
 unfolding put
 put-room b w h =
-    unless-room (ltb (w .size) mostLineBytes) newLineTooLong (record { out = b ∷ w .out; size = suc (w .size); state = w .state })
+    unless-room (ltb (w .size) mostLineBytes) newLineTooLong w (record { out = b ∷ w .out; size = suc (w .size); state = w .state })
     (λ e. record { exact = ap suc (h .exact); fits = ltb-true (w .size) mostLineBytes e })
 
 -- what changes the state only
@@ -58,9 +58,9 @@ same-room w v e f h = record { exact = f ∙ h .exact ∙ ap length (sym e); fit
 
 moves-room : (k : Mark) (s : Sign) (i : ℕ) (w : Work) → Room w → DoneRoom (moves k s i w)
 unfolding moves withPointer withValue withStack withCounter
-moves-room stack plus i w h = unless-room _ _ _ (λ e. same-room w _ refl refl h)
+moves-room stack plus i w h = unless-room _ _ _ _ (λ e. same-room w _ refl refl h)
 moves-room stack minus i w h = same-room w _ refl refl h
-moves-room counter plus i w h = unless-room _ _ _ (λ e. same-room w _ refl refl h)
+moves-room counter plus i w h = unless-room _ _ _ _ (λ e. same-room w _ refl refl h)
 moves-room counter minus i w h = same-room w _ refl refl h
 
 early-room : (k : Mark) (v : Move) (i : ℕ) (w : Work) → Room w → DoneRoom (early k v i w)
@@ -77,7 +77,7 @@ late-room k (after s) i w h = moves-room k s i w h
 
 stores-room : (i : ℕ) (l : List ℕ) (w : Work) → Room w → DoneRoom (stores i l w)
 unfolding stores withEntry withStack
-stores-room i l w h = unless-room _ _ _ (λ e. same-room w _ refl refl h)
+stores-room i l w h = unless-room _ _ _ _ (λ e. same-room w _ refl refl h)
 
 -- an access between its two moves
 access-room : (k : Mark) (v : Move) (i : ℕ) (step : Work → Done) (w : Work) → ((x : Work) → Room x → DoneRoom (step x)) → Room w → DoneRoom (early k v i w >>= step >>= late k v i)
@@ -121,7 +121,7 @@ occur-room m t d w h =
 
 go-room : (a : Done) (k : Work → Walk) → DoneRoom a → ((w : Work) → Room w → WalkRoom (k w)) → WalkRoom (goOn a k)
 unfolding goOn
-go-room (bad r) k h g = tt
+go-room (bad r w) k h g = tt
 go-room (good w) k h g = g w h
 
 matched-room : (m : Macro) (t : List ℕ) (p : ℕ) (d : Division) (w : Work) (k : Work → Walk) → Room w → ((v : Work) → Room v → WalkRoom (k v)) → WalkRoom (matched m t p d w k)

@@ -1,4 +1,4 @@
--- 01, "Songs tried": the M cases, computed from quoted file, line and budget to the answer. In a string `\\` is one `\`.
+-- Cases of parts 3 to 6, computed from quoted file, lines and budget to the answers; the M cases of 01 are in the crate songs. In a string `\\` is one `\`.
 use mathlib.Core.Path.{_≡_, refl}
 use Prim.Native.Nat.{ℕ}
 use mathlib.Core.List.{List, [], _∷_, _++_}
@@ -54,34 +54,9 @@ song f n s = fedTo ((n, bytes s) ∷ []) (readFile (bytes f))
 abbrev pub songs : String → List String → List Shown
 songs f ss = fedTo (lines 10000 ss) (readFile (bytes f))
 
-M4 : song "'int'='integer';" 262 "print" ≡ refused 31 0 262 ∷ []
-unfolding everything
-M4 = refl
-
-M5 : song "'int'='integer';" 263 "print" ≡ refused 32 0 263 ∷ []
-unfolding everything
-M5 = refl
-
--- M1 to M13
-pub M-cases :
-    (song "'@{-*-?6*\\/?6*}'='o{1}';" 10000 "@-1/4" ≡ said (bytes "o-1/4") 2 ∷ []) ×
-    (song "'@{-*-?6*\\/?6*}'='o{1}';" 10000 "@1/4" ≡ said (bytes "o1/4") 2 ∷ []) ×
-    (song "'ab'<'abc';" 10000 "ababab" ≡ said (bytes "abcabcabc") 1 ∷ []) ×
-    (song "'int'='integer';" 262 "print" ≡ refused 31 0 262 ∷ []) ×
-    (song "'int'='integer';" 263 "print" ≡ refused 32 0 263 ∷ []) ×
-    (song "'?1*{[0-9]*}'<'{1}';" 10000 "Mozart's 38th symphony" ≡ said (bytes "8th symphony") 1 ∷ []) ×
-    (song "'a*-'<'X';" 10000 "baac" ≡ said (bytes "XbXcX") 1 ∷ []) ×
-    (song "'^'<'*';" 10000 "" ≡ said (bytes "*") 1 ∷ []) ×
-    (song "'a'='b';'a'='c';" 10000 "a" ≡ said (bytes "c") 3 ∷ []) ×
-    (song "'more &(a)*s'<'ok';" 10000 "more s" ≡ said (bytes "ok") 1 ∷ []) ×
-    (song "'a**'='b';" 10000 "" ≡ refused 14 3 0 ∷ []) ×
-    (song "'[z-a]'='b';" 10000 "" ≡ refused 13 4 0 ∷ []) ×
-    (song "'a'='{2}';" 10000 "" ≡ refused 16 7 0 ∷ [])
-unfolding everything
-M-cases = (refl, refl, refl, M4, M5, refl, refl, refl, refl, refl, refl, refl, refl)
-
--- readings 19 to 25, and songs of 01 that are no M cases
+-- readings 19 to 25, songs of 01 that are no M cases, and a closed macro (M3)
 pub lineCases :
+    (song "'ab'<'abc';" 1 "ababab" ≡ said (bytes "abcabcabc") 1 ∷ []) ×
     (songs "'a*-'<'X';" ("bb" ∷ "aa" ∷ []) ≡ said (bytes "XbXbX") 1 ∷ said (bytes "X") 1 ∷ []) ×
     (songs "'avg({?2*},{?2*})'='({1}+{2})\\/2'&(1,a)&(2,b);'A'<'&(a)';'B'<'&(b)';" ("avg(26,42)" ∷ "A B" ∷ []) ≡ said (bytes "(26+42)/2") 6 ∷ said (bytes "26 42") 3 ∷ []) ×
     (songs "'^'<'#(n+) ';" ("do" ∷ "$FOO" ∷ "re" ∷ []) ≡ said (bytes "1 do") 1 ∷ refused 23 0 0 ∷ said (bytes "2 re") 1 ∷ []) ×
@@ -97,7 +72,7 @@ pub lineCases :
     (songs "'a'='b';" ("$NFLAG 1" ∷ "x" ∷ "a" ∷ "$NFLAG 0" ∷ "x" ∷ []) ≡ said (bytes "") 0 ∷ said (bytes "") 1 ∷ said (bytes "b") 2 ∷ said (bytes "") 0 ∷ said (bytes "x") 1 ∷ []) ×
     (songs "'n'<'#(n)';'o'<'$TRACE 0'#(n=5);'q'<'$FOO'#(n=7);" ("o" ∷ "n" ∷ "q" ∷ "n" ∷ []) ≡ said (bytes "") 2 ∷ said (bytes "5") 5 ∷ refused 23 0 1 ∷ said (bytes "5") 5 ∷ [])
 unfolding everything
-lineCases = (refl, refl, refl, refl, refl, refl, refl, refl, refl, refl, refl, refl, refl, refl)
+lineCases = (refl, refl, refl, refl, refl, refl, refl, refl, refl, refl, refl, refl, refl, refl, refl)
 
 -- 4, 21, 22 and 33 at their bounds
 pub lineBounds :

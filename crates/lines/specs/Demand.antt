@@ -1,5 +1,5 @@
 -- Demand 3, over every list of lines. It speaks of divisions (Divides, Fewer), never of the chooser. Quoted is the demand, or the part of 01 that is named.
--- In brackets stand the edits of must-fail/ that a clause rules out. Cases rules out less_left_open (M3), budget_off_by_one (M4) and line_too_long (lineBounds).
+-- In brackets stand the edits of must-fail/ that a clause rules out. less_left_open is ruled out by lineCases, budget_off_by_one and line_too_long by FeedKeeps and by lineCases and lineBounds.
 use mathlib.Core.Path.{_≡_}
 use Prim.Native.Nat.{ℕ, suc, _≤_, _<_}
 use mathlib.Core.Bool.{true, false}
@@ -79,7 +79,7 @@ Walks m t from last w (occurs o k) =
 -- "A pass ends only when no place ahead has one", under the state at that end [early_end]
 Walks m t from last w (ended (good v)) = Copied (slice (behind last) (length t) t) w v × NoneAhead from (suc (length t)) last (v .state) m t
 -- no pass of a taken line is refused
-Walks m t from last w (ended (bad r)) = ⊥
+Walks m t from last w (ended (bad r v)) = ⊥
 
 -- THE PASSES OF A LINE, from its text t and its state st on; closed: the numbers of the macros closed to it; since: of those that passed since its last occurrence
 

@@ -8,5 +8,6 @@ pub mod Choice
 pub mod Tags
 pub mod Room
 pub mod FeedKeeps
+pub mod Made
 pub mod Demand
 pub mod Cases

@@ -79,7 +79,7 @@ due false t st (e ∷ es) next = next e es
 
 -- after a pass: refused; on to the older macros; "after a pass with an occurrence, again with the newest"
 unfoldable pub follow : Done → Bool → (Work → Line) → (Work → Line) → Line
-follow (bad r) o on again = ended (refused r)
+follow (bad r w) o on again = ended (refused r)
 follow (good w) false on again = on w
 follow (good w) true on again = again w
 

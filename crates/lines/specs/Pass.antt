@@ -45,7 +45,7 @@ pub data Walk : Type 0 where
   occurs : Occurrence → Walk → Walk
 
 unfoldable pub goOn : Done → (Work → Walk) → Walk
-goOn (bad r) k = ended (bad r)
+goOn (bad r w) k = ended (bad r w)
 goOn (good w) k = k w
 
 -- "A match .. makes the replacement"; go takes the moment after it

@@ -23,19 +23,20 @@ pub record Work : Type 0 where
   pub size : ℕ
   pub state : State
 
--- a step is refused, or done
+-- a step is refused, in the moment that it finds, or done
 pub data Done : Type 0 where
-  bad : WorkRefusal → Done
+  bad : WorkRefusal → Work → Done
   good : Work → Done
 
 -- one step, and then another
 abbrev pub _>>=_ : Done → (Work → Done) → Done
-_>>=_ (bad r) k = bad r
+_>>=_ (bad r w) k = bad r w
 _>>=_ (good w) k = k w
 
-unfoldable pub unless : Bool → WorkRefusal → Work → Done
-unless true r w = good w
-unless false r w = bad r
+-- from one moment to the next, unless the step is refused
+unfoldable pub unless : Bool → WorkRefusal → (now next : Work) → Done
+unless true r w v = good v
+unless false r w v = bad r w
 
 -- THE NEW LINE
 
@@ -46,11 +47,11 @@ onto (b ∷ bs) out = onto bs (b ∷ out)
 
 -- a text is inserted; 32: "the new line's 1,055th byte"
 unfoldable pub puts : List ℕ → Work → Done
-puts t w = let n : ℕ = w .size + length t in unless (leb n mostLineBytes) newLineTooLong (record { out = onto t (w .out); size = n; state = w .state })
+puts t w = let n : ℕ = w .size + length t in unless (leb n mostLineBytes) newLineTooLong w (record { out = onto t (w .out); size = n; state = w .state })
 
 -- the same of one byte
 unfoldable pub put : ℕ → Work → Done
-put b w = unless (ltb (w .size) mostLineBytes) newLineTooLong (record { out = b ∷ w .out; size = suc (w .size); state = w .state })
+put b w = unless (ltb (w .size) mostLineBytes) newLineTooLong w (record { out = b ∷ w .out; size = suc (w .size); state = w .state })
 
 -- THE STATE
 
@@ -83,9 +84,9 @@ fallen n by = elim (ltb by n) [ true ↦ n - by | false ↦ 1 ]
 
 -- the pointer moves by 1, the counter by its increment; 34: "pointer past 20", 35: "counter past its end"
 unfoldable pub moves : Mark → Sign → ℕ → Work → Done
-moves stack plus i w = let n : ℕ = stackOf (w .state) i .pointer + 1 in unless (leb n mostEntries) pointerTooHigh (withPointer i n w)
+moves stack plus i w = let n : ℕ = stackOf (w .state) i .pointer + 1 in unless (leb n mostEntries) pointerTooHigh w (withPointer i n w)
 moves stack minus i w = good (withPointer i (fallen (stackOf (w .state) i .pointer) 1) w)
-moves counter plus i w = let n : ℕ = counterOf (w .state) i .value + counterOf (w .state) i .increment in unless (leb n mostCounter) counterTooHigh (withValue i n w)
+moves counter plus i w = let n : ℕ = counterOf (w .state) i .value + counterOf (w .state) i .increment in unless (leb n mostCounter) counterTooHigh w (withValue i n w)
 moves counter minus i w = good (withValue i (fallen (counterOf (w .state) i .value) (counterOf (w .state) i .increment)) w)
 
 -- the move before the access
@@ -102,7 +103,7 @@ late m (after s) i w = moves m s i w
 
 -- 33: "a stored tag over 50 bytes"; a text stored by `&(i:text:)` is never longer, since reading keeps it to 50
 unfoldable pub stores : ℕ → List ℕ → Work → Done
-stores i t w = unless (leb (length t) mostEntryBytes) tagTooLong (withEntry i t w)
+stores i t w = unless (leb (length t) mostEntryBytes) tagTooLong w (withEntry i t w)
 
 -- WHAT ACTS, for the division of the line t whose spans end at qs
 

@@ -19,7 +19,7 @@ pub record Room (w : Work) : Type 0 where
 
 -- a refused step has no moment
 abbrev pub DoneRoom : Done → Type 0
-DoneRoom (bad r) = Unit {0}
+DoneRoom (bad r w) = Unit {0}
 DoneRoom (good w) = Room w
 
 -- the moments before and after each occurrence, and the pass's end
