@@ -62,15 +62,16 @@ module _ (ms : Table) (st : State) (budget : ℕ) (t : List ℕ) where
   ending-holds (done s z) e = done-holds s z e (z .nflag) (hadOccurrence history)
   ending-holds (control s z) e = control-holds s z e (orderOf ms z s) refl
 
-  line : ByKind ms st t history (feed ms st budget t) (feed ms st budget t .kind)
+  -- of one line that is fed
+  pub fed-holds : ByKind ms st t history (feed ms st budget t) (feed ms st budget t .kind)
   unfolding answer refusal
-  line = feed-cases ms st budget t (λ a. ByKind ms st t history a (a .kind)) (λ r. (refl, refl)) (λ e f g. ending-holds (ending history) refl)
+  fed-holds = feed-cases ms st budget t (λ a. ByKind ms st t history a (a .kind)) (λ r. (refl, refl)) (λ e f g. ending-holds (ending history) refl)
 
 -- of every state, of which fresh is one, and every table
 lines : (ms : Table) (st : State) (xs : List Fed) → Lines ms st xs (feeds ms st xs)
 unfolding feeds
 lines ms st [] = tt
-lines ms st (x ∷ xs) = (line ms st (x .0) (x .1), lines _ _ xs)
+lines ms st (x ∷ xs) = (fed-holds ms st (x .0) (x .1), lines _ _ xs)
 
 -- THE LAW
 pub demand3 : Demand3

@@ -14,10 +14,10 @@ use Rattle.macros.specs.Read.{Read, step, readFrom}
 use Rattle.macros.specs.Read.Reader.{between}
 use Rattle.macros.specs.Read.Read.{refusedAt}
 use Rattle.tables.specs.Form.{bodyBytes, slotBytes, two, header, body, slot, slots}
-use Rattle.reading.specs.Items.{Wrote}
+use Rattle.scanning.specs.Items.{Wrote}
 use Rattle.reading.specs.File.{Macroed, MacroFrom, usedBytes, slotOf, Seeks, Adds, AddsFrom, noQuote, noMacro}
-use Rattle.reading.specs.declared.Fault.{Fault}
-use Rattle.reading.specs.declared.Fault.the-variants.{TooManyMacros}
+use Rattle.scanning.specs.declared.Fault.{Fault}
+use Rattle.scanning.specs.declared.Fault.the-variants.{TooManyMacros}
 use Rattle.reading.specs.declared.Head.{Head}
 use Rattle.reading.specs.declared.Built.{Built}
 use Rattle.reading.specs.declared.Built.the-variants.{Made, Refused as NoMacro}
@@ -25,9 +25,8 @@ use Rattle.reading.specs.declared.Seek.{Seek}
 use Rattle.reading.specs.declared.Seek.the-variants.{Quote, Done, Skipping}
 use Rattle.reading.specs.declared.Added.{Added}
 use Rattle.reading.specs.declared.Added.the-variants.{Refused as NotAll}
-use Rattle.reading.proofs.Laws.{read-refuse}
-use Rattle.reading.proofs.Writing.{wrote-none}
-use Rattle.reading.proofs.Storing.{wrote-behind}
+use Rattle.scanning.proofs.Laws.{read-refuse}
+use Rattle.scanning.proofs.Writing.{wrote-none, wrote-behind}
 
 -- SLOTS
 

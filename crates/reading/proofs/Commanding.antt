@@ -18,18 +18,18 @@ use Rattle.macros.specs.Read.Place.{asCommand}
 use Rattle.macros.specs.Read.Phase.{begun}
 use Rattle.macros.specs.Read.Step.{on, stop}
 use Rattle.tables.specs.Form.{callsItems, callItems}
-use Rattle.reading.specs.Scan.{run, Here, Passes, Reached}
-use Rattle.reading.specs.Items.{Wrote}
+use Rattle.scanning.specs.Scan.{run, Here, Passes, Reached}
+use Rattle.scanning.specs.Items.{Wrote}
 use Rattle.reading.specs.Call.{CalledFrom, markOf, nextEnd}
 use Rattle.reading.specs.Action.{Does, CommandFrom, CommandsFrom}
-use Rattle.reading.specs.declared.Fault.{Fault}
-use Rattle.reading.specs.declared.Fault.the-variants.{Incomplete}
-use Rattle.reading.specs.declared.Next.{Next}
-use Rattle.reading.specs.declared.Next.the-variants.{Byte, Refused as NoByte}
+use Rattle.scanning.specs.declared.Fault.{Fault}
+use Rattle.scanning.specs.declared.Fault.the-variants.{Incomplete}
+use Rattle.scanning.specs.declared.Next.{Next}
+use Rattle.scanning.specs.declared.Next.the-variants.{Byte, Refused as NoByte}
 use Rattle.reading.specs.declared.Ended.{Ended}
 use Rattle.reading.specs.declared.Ended.the-variants.{Upto, Refused as NoEnd}
-use Rattle.reading.proofs.Laws.{here-on, here-stop, here-same, reached-behind, reached-at}
-use Rattle.reading.proofs.Writing.{wrote-none, wrote-more}
+use Rattle.scanning.proofs.Laws.{here-on, here-stop, here-same, reached-behind, reached-at}
+use Rattle.scanning.proofs.Writing.{wrote-none, wrote-more}
 
 -- COMMANDS ONE BEHIND ANOTHER
 

@@ -19,24 +19,24 @@ use Rattle.macros.specs.Read.Next.{go, refuse}
 use Rattle.macros.specs.Read.Read.{refusedAt}
 use Rattle.tables.specs.Form.{patternItems, replacementItems, callsItems, symbolCode, header, body}
 use Rattle.tables.proofs.Order.{tags-reverse}
-use Rattle.reading.specs.Scan.{run, Here}
-use Rattle.reading.specs.Items.{Wrote}
-use Rattle.reading.specs.Pattern.{Begins, Patterned}
+use Rattle.scanning.specs.Scan.{run, Here}
+use Rattle.scanning.specs.Items.{Wrote}
+use Rattle.patterns.specs.Pattern.{Begins, Patterned}
 use Rattle.reading.specs.Action.{SymbolAt, QuoteAt, ReplacedFrom, Replaced, CommandsFrom, symbolOf}
 use Rattle.reading.specs.File.{MacroFrom, noPattern, noNext, noEnd}
-use Rattle.reading.specs.declared.Fault.{Fault}
-use Rattle.reading.specs.declared.Fault.the-variants.{MacroTooLong}
-use Rattle.reading.specs.declared.Next.{Next}
-use Rattle.reading.specs.declared.Next.the-variants.{Byte, Refused as NoByte}
-use Rattle.reading.specs.declared.Whole.{Whole}
-use Rattle.reading.specs.declared.Whole.the-variants.{Pattern, Refused as NoWhole}
+use Rattle.scanning.specs.declared.Fault.{Fault}
+use Rattle.scanning.specs.declared.Fault.the-variants.{MacroTooLong}
+use Rattle.scanning.specs.declared.Next.{Next}
+use Rattle.scanning.specs.declared.Next.the-variants.{Byte, Refused as NoByte}
+use Rattle.patterns.specs.declared.Whole.{Whole}
+use Rattle.patterns.specs.declared.Whole.the-variants.{Pattern, Refused as NoWhole}
 use Rattle.reading.specs.declared.Ended.{Ended}
 use Rattle.reading.specs.declared.Ended.the-variants.{Upto, Refused as NoEnd}
 use Rattle.reading.specs.declared.Built.{Built}
 use Rattle.reading.specs.declared.Built.the-variants.{Made, Refused as NoMacro}
-use Rattle.reading.proofs.Laws.{read-go, read-refuse, run-here}
-use Rattle.reading.proofs.Writing.{wrote-more}
-use Rattle.reading.proofs.Insides.{macro-begins}
+use Rattle.scanning.proofs.Laws.{read-go, read-refuse, run-here}
+use Rattle.scanning.proofs.Writing.{wrote-more}
+use Rattle.patterns.proofs.Insides.{macro-begins}
 
 -- AT THE `;`
 

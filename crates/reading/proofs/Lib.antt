@@ -1,10 +1,3 @@
-pub mod Laws
-pub mod Numbers
-pub mod Writing
-pub mod Classes
-pub mod Signs
-pub mod Elements
-pub mod Insides
 pub mod Phases
 pub mod Naming
 pub mod Ending

@@ -19,22 +19,22 @@ use Rattle.macros.specs.Read.Part.{calling, callText}
 use Rattle.macros.specs.Read.Phase.{begun, signed, named, equals, increment, tagged}
 use Rattle.macros.specs.Read.Turn.{into, textOf, closed, wrong}
 use Rattle.tables.specs.Form.{callItems, moveCode}
-use Rattle.reading.specs.Scan.{run, Here, Calls, faultOf, wrongCall}
-use Rattle.reading.specs.Number.{Counts, Digits, Kept, most}
-use Rattle.reading.specs.Items.{Wrote}
+use Rattle.scanning.specs.Scan.{run, Here, Calls, faultOf, wrongCall}
+use Rattle.scanning.specs.Number.{Counts, Digits, Kept, most}
+use Rattle.scanning.specs.Items.{Wrote}
 use Rattle.reading.specs.Call.{Names, Letter, Naming, Comes, Ends, CalledFrom, Sets, SetFrom, TagFrom, StoreFrom, nextEnd, numberEnd, nameEnd}
-use Rattle.reading.specs.declared.Fault.{Fault}
-use Rattle.reading.specs.declared.Fault.the-variants.{BadCall}
-use Rattle.reading.specs.declared.Next.{Next}
-use Rattle.reading.specs.declared.Next.the-variants.{Byte, Refused as NoByte}
-use Rattle.reading.specs.declared.Number.{Number}
-use Rattle.reading.specs.declared.Number.the-variants.{Got, Refused as NoNumber}
+use Rattle.scanning.specs.declared.Fault.{Fault}
+use Rattle.scanning.specs.declared.Fault.the-variants.{BadCall}
+use Rattle.scanning.specs.declared.Next.{Next}
+use Rattle.scanning.specs.declared.Next.the-variants.{Byte, Refused as NoByte}
+use Rattle.scanning.specs.declared.Number.{Number}
+use Rattle.scanning.specs.declared.Number.the-variants.{Got, Refused as NoNumber}
 use Rattle.reading.specs.declared.Name.{Name}
 use Rattle.reading.specs.declared.Name.the-variants.{Got as GotName, Refused as NoName}
 use Rattle.reading.specs.declared.Ended.{Ended}
 use Rattle.reading.specs.declared.Ended.the-variants.{Upto, Refused as NoEnd}
-use Rattle.reading.proofs.Laws.{here-on}
-use Rattle.reading.proofs.Numbers.{tagState, eats-tagged, eats-equals, eats-increment}
+use Rattle.scanning.proofs.Laws.{here-on}
+use Rattle.scanning.proofs.Numbers.{tagState, eats-tagged, eats-equals, eats-increment}
 use Rattle.reading.proofs.Naming.{turn-text, call-next, here-into, code-none, code-some}
 use Rattle.reading.proofs.Ending.{ends-from, ends-none, ends-wrong, ends-closed, joined}
 

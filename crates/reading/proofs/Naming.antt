@@ -18,14 +18,14 @@ use Rattle.macros.specs.Read.Step.{on, stop}
 use Rattle.macros.specs.Read.Turn.{into, textOf, closed, wrong}
 use Rattle.macros.specs.Read.Read.{refusedAt}
 use Rattle.tables.specs.Form.{moveCode}
-use Rattle.reading.specs.Scan.{run, Here, Calls, faultOf, wrongCall}
+use Rattle.scanning.specs.Scan.{run, Here, Calls, faultOf, wrongCall}
 use Rattle.reading.specs.Call.{Names, Letter, Naming, signCode, nextName}
-use Rattle.reading.specs.declared.Fault.{Fault}
-use Rattle.reading.specs.declared.Next.{Next}
-use Rattle.reading.specs.declared.Next.the-variants.{Byte, Refused as NoByte}
+use Rattle.scanning.specs.declared.Fault.{Fault}
+use Rattle.scanning.specs.declared.Next.{Next}
+use Rattle.scanning.specs.declared.Next.the-variants.{Byte, Refused as NoByte}
 use Rattle.reading.specs.declared.Name.{Name}
 use Rattle.reading.specs.declared.Name.the-variants.{Got as GotName, Refused as NoName}
-use Rattle.reading.proofs.Laws.{here-on, here-stop}
+use Rattle.scanning.proofs.Laws.{here-on, here-stop}
 use Rattle.reading.proofs.Phases.{space-call, wrong-call}
 
 -- ONE BYTE OF A CALL

@@ -10,8 +10,8 @@ use Rattle.macros.specs.Read.Part.{calling}
 use Rattle.macros.specs.Read.Phase.{begun, signed, named, equals, increment, tagged, comma, tagSigned, tagNamed, texted}
 use Rattle.macros.specs.Read.Turn.{wrong}
 use Rattle.macros.specs.Read.Step.{on, stop}
-use Rattle.reading.specs.Scan.{wrongCall}
-use Rattle.reading.proofs.Laws.{otherwise-wrong}
+use Rattle.scanning.specs.Scan.{wrongCall}
+use Rattle.scanning.proofs.Laws.{otherwise-wrong}
 
 space-wrong : (cmd : Bool) (ph : Phase) → callByte cmd ph 32 ≡ wrong
 unfolding callByte digit lower within isSign pick

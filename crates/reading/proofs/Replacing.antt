@@ -20,22 +20,22 @@ use Rattle.macros.specs.Read.Phase.{begun}
 use Rattle.macros.specs.Read.Step.{on, stop}
 use Rattle.macros.specs.Read.Read.{refusedAt}
 use Rattle.tables.specs.Form.{replacementItems, actionItems}
-use Rattle.reading.specs.Scan.{run, At, Here, Passes, Stays, Reached, faultOf}
-use Rattle.reading.specs.Number.{Counts, Digits, Kept, most}
-use Rattle.reading.specs.Items.{Wrote}
+use Rattle.scanning.specs.Scan.{run, At, Here, Passes, Stays, Reached, faultOf}
+use Rattle.scanning.specs.Number.{Counts, Digits, Kept, most}
+use Rattle.scanning.specs.Items.{Wrote}
 use Rattle.reading.specs.Call.{CalledFrom, markOf, nextEnd, numberEnd}
 use Rattle.reading.specs.Action.{Acts, ActionFrom, EscapeFrom, Replaced, ReplacedFrom, wrongTag}
-use Rattle.reading.specs.declared.Fault.{Fault}
-use Rattle.reading.specs.declared.Fault.the-variants.{Incomplete, BadCall}
-use Rattle.reading.specs.declared.Next.{Next}
-use Rattle.reading.specs.declared.Next.the-variants.{Byte, Refused as NoByte}
-use Rattle.reading.specs.declared.Number.{Number}
-use Rattle.reading.specs.declared.Number.the-variants.{Got, Refused as NoNumber}
+use Rattle.scanning.specs.declared.Fault.{Fault}
+use Rattle.scanning.specs.declared.Fault.the-variants.{Incomplete, BadCall}
+use Rattle.scanning.specs.declared.Next.{Next}
+use Rattle.scanning.specs.declared.Next.the-variants.{Byte, Refused as NoByte}
+use Rattle.scanning.specs.declared.Number.{Number}
+use Rattle.scanning.specs.declared.Number.the-variants.{Got, Refused as NoNumber}
 use Rattle.reading.specs.declared.Ended.{Ended}
 use Rattle.reading.specs.declared.Ended.the-variants.{Upto, Refused as NoEnd}
-use Rattle.reading.proofs.Laws.{here-on, here-stop, here-same, at-on, reached-behind, reached-at}
-use Rattle.reading.proofs.Numbers.{eats-tag}
-use Rattle.reading.proofs.Writing.{wrote-none, wrote-more}
+use Rattle.scanning.proofs.Laws.{here-on, here-stop, here-same, at-on, reached-behind, reached-at}
+use Rattle.scanning.proofs.Numbers.{eats-tag}
+use Rattle.scanning.proofs.Writing.{wrote-none, wrote-more}
 use Rattle.reading.proofs.Ending.{most-same, within-yes}
 
 -- ACTIONS ONE BEHIND ANOTHER

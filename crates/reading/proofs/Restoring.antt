@@ -16,13 +16,13 @@ use Rattle.macros.specs.Read.{readFrom, readOnto, firstZero}
 use Rattle.macros.specs.Read.Reader.{between}
 use Rattle.macros.specs.Read.Read.{refusedAt, table}
 use Rattle.macros.specs.Accepted.{Accepted}
-use Rattle.tables.specs.Form.{slotBytes, slots, form}
-use Rattle.tables.proofs.Tables.{slots-size}
-use Rattle.reading.specs.Scan.{faultOf}
-use Rattle.reading.specs.Items.{Wrote}
-use Rattle.reading.specs.File.{ZeroAt, Adds, AddsFrom, Onto, tableOf}
-use Rattle.reading.specs.declared.Fault.{Fault}
-use Rattle.reading.specs.declared.Fault.the-variants.{FileTooLong, ZeroByte}
+use Rattle.tables.specs.Form.{slotBytes, tableBytes, slots, form}
+use Rattle.tables.proofs.Tables.{slots-size, formSize}
+use Rattle.scanning.specs.Scan.{faultOf}
+use Rattle.scanning.specs.Items.{Wrote}
+use Rattle.reading.specs.File.{ZeroAt, Adds, AddsFrom, Lent, Onto, tableOf}
+use Rattle.scanning.specs.declared.Fault.{Fault}
+use Rattle.scanning.specs.declared.Fault.the-variants.{FileTooLong, ZeroByte}
 use Rattle.reading.specs.declared.Added.{Added}
 use Rattle.reading.specs.declared.Added.the-variants.{All, Refused as NotAll}
 use Rattle.reading.specs.declared.Reading.{Reading}
@@ -48,6 +48,15 @@ onto-long s c old h ms f e l = (long ms s h, refl)
 
 pub onto-zero : (s : List ℕ) (c : ℕ) (old : List ℕ) (z : ℕ) → length s ≤ 32768 → ZeroAt s z → z < length s → Onto s c old old (NoTable ZeroByte z)
 onto-zero s c old z h x i ms f e l = (zeroed ms s z h (x .found i), refl)
+
+-- WHAT IS LENT
+
+module _ {old : List ℕ} {c : ℕ} (x : Lent old c) where
+  pub lent-size : length old ≡ tableBytes
+  lent-size = ap length (sym (x .bytes)) ∙ formSize (x .itself) (x .accepted) .0
+
+  pub lent-count : c ≤ 96
+  lent-count = omega (arith, x .counted, x .accepted .count)
 
 -- BYTES
 

@@ -18,7 +18,7 @@ use Rattle.macros.specs.Read.Next.{go}
 use Rattle.tables.proofs.Basics.{and-left, and-right}
 use Rattle.reading.specs.File.{opens, turned, Seeks, ZeroAt}
 use Rattle.reading.specs.declared.Seek.the-variants.{Quote, Done, Skipping}
-use Rattle.reading.proofs.Laws.{read-go}
+use Rattle.scanning.proofs.Laws.{read-go}
 
 -- BETWEEN MACROS
 

@@ -5,26 +5,18 @@ use mathlib.Core.List.{List, [], _∷_, _++_}
 use Prim.Native.Nat.{ℕ, _+_, _-_, _≤_, _<_}
 use native.Mathlib.Omega.{arith}
 use native.Mathlib.Numerals.{add-one}
-use lib.ListN.{length, getD, take, set, replicate, length-replicate, replicate-append-replicate}
+use lib.ListN.{length, getD, take, set, replicate}
 use lib.Seq.{take-suc, length-take-le}
 use Rattle.tables.specs.Form.{two}
-use Rattle.reading.specs.Items.{Wrote}
+use Rattle.scanning.specs.Items.{Wrote}
 use Rattle.reading.specs.File.{usedBytes, slotOf}
 use Rattle.reading.specs.declared.Head.{Head}
-use Rattle.reading.proofs.Writing.{wrote-one, wrote-more}
-
-pub wrote-behind : {a b c l m : List ℕ} {n k : ℕ} → Wrote a b n l → k ≡ n + length l → Wrote b c k m → Wrote a c n (l ++ m)
-wrote-behind x e y = wrote-more x (rw e at y)
+use Rattle.scanning.proofs.Writing.{wrote-one, wrote-behind}
 
 pub wrote-take : {a b : List ℕ} {n : ℕ} (f : List ℕ) (i : ℕ) → Wrote a b n (take i f) → i < length f → n + i < length b → Wrote a (set b (n + i) (getD f i 0)) n (take (i + 1) f)
 wrote-take {a} {b} {n} f i w h l =
     let e : n + i ≡ n + length (take i f) = omega (arith, length-take-le i f (omega arith)) in
     rw (add-one, take-suc f i 0 h) (wrote-behind w e (wrote-one b (n + i) (getD f i 0) l))
-
-pub wrote-zero : {a b : List ℕ} {n : ℕ} (i : ℕ) → Wrote a b n (replicate i 0) → n + i < length b → Wrote a (set b (n + i) 0) n (replicate (i + 1) 0)
-wrote-zero {a} {b} {n} i w l =
-    let e : n + i ≡ n + length {A = ℕ} (replicate i 0) = omega (arith, length-replicate {A = ℕ} i 0) in
-    rw (← replicate-append-replicate {A = ℕ} i 1 0) (wrote-behind w e (wrote-one b (n + i) 0 l))
 
 -- head, items and zeros
 pub stored : {t₀ t₁ t₂ t₃ t₄ t₅ t₆ : List ℕ} {n : ℕ} (h : Head) (b : List ℕ) → usedBytes h ≤ length b

@@ -14,13 +14,13 @@ use Rattle.macros.specs.Macro.{Macro, Piece, pick}
 use Rattle.macros.specs.Read.{Part, Front, partByte, skips, symbolByte, quoteByte}
 use Rattle.macros.specs.Read.Part.{awaitSymbol, awaitQuote, replacement}
 use Rattle.macros.specs.Read.Step.{on, stop}
-use Rattle.reading.specs.Scan.{run, Here, Passes}
+use Rattle.scanning.specs.Scan.{run, Here, Passes}
 use Rattle.reading.specs.Action.{SymbolAt, QuoteAt, symbolOf}
-use Rattle.reading.specs.declared.Fault.{Fault}
-use Rattle.reading.specs.declared.Fault.the-variants.{Incomplete}
-use Rattle.reading.specs.declared.Next.{Next}
-use Rattle.reading.specs.declared.Next.the-variants.{Byte, Refused as NoByte}
-use Rattle.reading.proofs.Laws.{here-on, here-stop}
+use Rattle.scanning.specs.declared.Fault.{Fault}
+use Rattle.scanning.specs.declared.Fault.the-variants.{Incomplete}
+use Rattle.scanning.specs.declared.Next.{Next}
+use Rattle.scanning.specs.declared.Next.the-variants.{Byte, Refused as NoByte}
+use Rattle.scanning.proofs.Laws.{here-on, here-stop}
 
 -- a family of states that a wait does not leave from p to v
 abbrev pub Waits : {A : Type 0} → List ℕ → ℕ → (A → Part) → ℕ → ℕ → Type 0

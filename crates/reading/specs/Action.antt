@@ -14,10 +14,10 @@ use Rattle.macros.specs.Read.{Part, Front}
 use Rattle.macros.specs.Read.Part.{awaitSymbol, awaitQuote, replacement, commands}
 use Rattle.macros.specs.Read.Read.{refusedAt}
 use Rattle.tables.specs.Form.{replacementItems, callsItems}
-use Rattle.reading.specs.Scan.{faultOf, run, Reached, Here}
-use Rattle.reading.specs.Items.{Wrote}
-use Rattle.reading.specs.declared.Next.{Next}
-use Rattle.reading.specs.declared.Next.the-variants.{Byte, Refused as NoByte}
+use Rattle.scanning.specs.Scan.{faultOf, run, Reached, Here}
+use Rattle.scanning.specs.Items.{Wrote}
+use Rattle.scanning.specs.declared.Next.{Next}
+use Rattle.scanning.specs.declared.Next.the-variants.{Byte, Refused as NoByte}
 use Rattle.reading.specs.declared.Ended.{Ended}
 use Rattle.reading.specs.declared.Ended.the-variants.{Upto, Refused as NoEnd}
 

@@ -16,15 +16,15 @@ use Rattle.macros.specs.Read.Phase.{begun, tagged, texted}
 use Rattle.macros.specs.Read.Turn.{into, wrong}
 use Rattle.macros.specs.Read.Read.{refusedAt}
 use Rattle.tables.specs.Form.{callItems, moveCode, four}
-use Rattle.reading.specs.Scan.{faultOf, run, Reached, Here}
-use Rattle.reading.specs.Number.{Eats, most}
-use Rattle.reading.specs.Items.{Wrote}
-use Rattle.reading.specs.declared.Fault.{Fault}
-use Rattle.reading.specs.declared.Fault.the-variants.{Incomplete}
-use Rattle.reading.specs.declared.Next.{Next}
-use Rattle.reading.specs.declared.Next.the-variants.{Byte, Refused as NoByte}
-use Rattle.reading.specs.declared.Number.{Number}
-use Rattle.reading.specs.declared.Number.the-variants.{Got, Refused as NoNumber}
+use Rattle.scanning.specs.Scan.{faultOf, run, Reached, Here}
+use Rattle.scanning.specs.Number.{Eats, most}
+use Rattle.scanning.specs.Items.{Wrote}
+use Rattle.scanning.specs.declared.Fault.{Fault}
+use Rattle.scanning.specs.declared.Fault.the-variants.{Incomplete}
+use Rattle.scanning.specs.declared.Next.{Next}
+use Rattle.scanning.specs.declared.Next.the-variants.{Byte, Refused as NoByte}
+use Rattle.scanning.specs.declared.Number.{Number}
+use Rattle.scanning.specs.declared.Number.the-variants.{Got, Refused as NoNumber}
 use Rattle.reading.specs.declared.Name.{Name}
 use Rattle.reading.specs.declared.Name.the-variants.{Got as GotName, Refused as NoName}
 use Rattle.reading.specs.declared.Ended.{Ended}

@@ -14,13 +14,13 @@ use Rattle.macros.specs.Read.Reader.{between}
 use Rattle.macros.specs.Read.Read.{refusedAt, table}
 use Rattle.macros.specs.Accepted.{Accepted}
 use Rattle.tables.specs.Form.{slotBytes, bodyBytes, two, header, body, slots, form}
-use Rattle.reading.specs.Scan.{faultOf}
-use Rattle.reading.specs.Items.{Wrote}
-use Rattle.reading.specs.declared.Fault.the-variants.{Incomplete}
-use Rattle.reading.specs.declared.Next.{Next}
-use Rattle.reading.specs.declared.Next.the-variants.{Byte, Refused as NoByte}
-use Rattle.reading.specs.declared.Whole.{Whole}
-use Rattle.reading.specs.declared.Whole.the-variants.{Pattern, Refused as NoWhole}
+use Rattle.scanning.specs.Scan.{faultOf}
+use Rattle.scanning.specs.Items.{Wrote}
+use Rattle.scanning.specs.declared.Fault.the-variants.{Incomplete}
+use Rattle.scanning.specs.declared.Next.{Next}
+use Rattle.scanning.specs.declared.Next.the-variants.{Byte, Refused as NoByte}
+use Rattle.patterns.specs.declared.Whole.{Whole}
+use Rattle.patterns.specs.declared.Whole.the-variants.{Pattern, Refused as NoWhole}
 use Rattle.reading.specs.declared.Ended.{Ended}
 use Rattle.reading.specs.declared.Ended.the-variants.{Upto, Refused as NoEnd}
 use Rattle.reading.specs.declared.Head.{Head}
@@ -101,6 +101,13 @@ pub record Adds (s : List ℕ) (count : ℕ) (old out : List ℕ) (n : ℕ) (the
 abbrev pub AddsFrom : List ℕ → ℕ → List ℕ → List ℕ → Added → Type 0
 AddsFrom s c old out (All n) = Adds s c old out n (λ ms. table (reverse ms))
 AddsFrom s c old out (NotAll f q n) = Adds s c old out n (λ ms. refusedAt (faultOf f) q)
+
+-- that the lent bytes are those of an accepted table of so many macros
+pub record Lent (old : List ℕ) (c : ℕ) : Type 0 where
+  pub itself : Table
+  pub accepted : Accepted itself
+  pub bytes : form itself ≡ old
+  pub counted : length itself ≡ c
 
 -- what reading a file onto a table says of every accepted table that has these bytes and so many macros
 abbrev pub Onto : List ℕ → ℕ → List ℕ → List ℕ → Reading → Type 0

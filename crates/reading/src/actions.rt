@@ -1,23 +1,23 @@
 // The replacement and the commands of a macro, and what is waited for before them.
 use crate::Ended;
-use crate::Fault;
-use crate::Next;
-use crate::Number;
 use crate::calls::call;
 use crate::calls::next_end;
 use crate::calls::number_end;
-use crate::items::put_item;
-use crate::scan::any_byte;
-use crate::scan::digits;
-use crate::scan::escaped_byte;
-use crate::scan::is_break;
-use crate::scan::next_byte;
+use scanning::Fault;
+use scanning::Next;
+use scanning::Number;
+use scanning::items::put_item;
+use scanning::scan::any_byte;
+use scanning::scan::digits;
+use scanning::scan::escaped_byte;
+use scanning::scan::is_break;
+use scanning::scan::next_byte;
 ghost use mathlib.Core.Path.{_≡_};
 ghost use mathlib.Core.Bool.{Bool, true, false};
 ghost use Prim.Native.Nat.{_≤_, _<_, _*_, _+_, _-_};
 ghost use lib.ListN.{length};
 ghost use Rattle.macros.specs.Macro.{markByte};
-ghost use Rattle.reading.specs.Scan.{Reached, Here, faultOf};
+ghost use Rattle.scanning.specs.Scan.{Reached, Here, faultOf};
 ghost use Rattle.reading.specs.Call.{markOf};
 ghost use Rattle.reading.specs.Action.{SymbolAt, QuoteAt, ActionFrom, EscapeFrom, ReplacedFrom, CommandFrom, CommandsFrom, wrongTag};
 

@@ -1,18 +1,18 @@
 // Calls of a replacement and of commands, from behind their `&(` or `#(` to behind their `)`.
 use crate::Ended;
-use crate::Fault;
 use crate::Name;
-use crate::Next;
-use crate::Number;
-use crate::items::put_item;
-use crate::scan::any_byte;
-use crate::scan::call_byte;
-use crate::scan::digits;
-use crate::scan::escaped_byte;
-use crate::scan::is_break;
-use crate::scan::is_lower;
-use crate::scan::next_byte;
-use crate::scan::wrong_byte;
+use scanning::Fault;
+use scanning::Next;
+use scanning::Number;
+use scanning::items::put_item;
+use scanning::scan::any_byte;
+use scanning::scan::call_byte;
+use scanning::scan::digits;
+use scanning::scan::escaped_byte;
+use scanning::scan::is_break;
+use scanning::scan::is_lower;
+use scanning::scan::next_byte;
+use scanning::scan::wrong_byte;
 ghost use mathlib.Core.Path.{_≡_};
 ghost use mathlib.Core.Bool.{Bool, true, false, _&&_};
 ghost use mathlib.Core.List.{[], _∷_};
@@ -22,8 +22,8 @@ ghost use Rattle.macros.specs.Macro.{digit};
 ghost use Rattle.macros.specs.Macro.Mark.{stack};
 ghost use Rattle.macros.specs.Read.{isSign};
 ghost use Rattle.tables.specs.Form.{four};
-ghost use Rattle.reading.specs.Scan.{Reached, Here};
-ghost use Rattle.reading.specs.Items.{Wrote};
+ghost use Rattle.scanning.specs.Scan.{Reached, Here};
+ghost use Rattle.scanning.specs.Items.{Wrote};
 ghost use Rattle.reading.specs.Call.{CalledFrom, CounterFrom, Naming, Texting, TextFrom, SetFrom, TagFrom, StoreFrom, markOf, signCode, padding, nextName, nextEnd, numberEnd, nameEnd};
 
 // REFUSALS HANDED ON

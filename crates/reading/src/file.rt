@@ -2,30 +2,30 @@
 use crate::Added;
 use crate::Built;
 use crate::Ended;
-use crate::Fault;
 use crate::Head;
 use crate::MOST_FILE_BYTES;
-use crate::MOST_MACRO_BYTES;
 use crate::MOST_MACROS;
-use crate::Next;
 use crate::Reading;
 use crate::SLOT_BYTES;
 use crate::Seek;
-use crate::Whole;
 use crate::actions::commands;
 use crate::actions::find_quote;
 use crate::actions::find_symbol;
 use crate::actions::replacement;
-use crate::pattern::whole;
-use crate::slots::clear;
 use crate::slots::store;
+use patterns::Whole;
+use patterns::pattern::whole;
+use scanning::Fault;
+use scanning::MOST_MACRO_BYTES;
+use scanning::Next;
+use scanning::items::clear;
 ghost use mathlib.Core.Path.{_≡_};
 ghost use Prim.Native.Nat.{_≤_, _<_};
 ghost use lib.ListN.{length, getD};
 ghost use Rattle.macros.specs.Bounds.{mostMacros};
 ghost use Rattle.tables.specs.Form.{slotBytes, tableBytes, symbolCode};
 ghost use Rattle.reading.specs.Action.{symbolOf};
-ghost use Rattle.reading.specs.File.{MacroFrom, noPattern, noNext, noEnd, opens, turned, Seeks, ZeroAt, AddsFrom, noQuote, noMacro, tableOf, Onto};
+ghost use Rattle.reading.specs.File.{MacroFrom, noPattern, noNext, noEnd, opens, turned, Seeks, ZeroAt, AddsFrom, noQuote, noMacro, tableOf, Lent, Onto};
 
 fn symbol_code(b: u8) -> u8
     ensures { λ r. ⌜ r ≡ symbolCode (symbolOf b) ⌝ }
@@ -159,7 +159,7 @@ fn add_macros(file: &[u8], table: &mut [u8], scratch: &mut [u8], count: usize) -
 
 // Reads a file onto a table of so many macros. A refusal leaves the table as it was.
 pub fn read_onto(file: &[u8], table: &mut [u8], count: usize) -> Reading
-    requires { ⌜ (length (now table) ≡ tableBytes) × (count ≤ mostMacros) ⌝ }
+    requires { ⌜ Lent (now table) count ⌝ }
     ensures { λ r. ⌜ Onto (now (file .entry)) count (now (table .entry)) (now (table .exit)) r ⌝ }
 {
     if MOST_FILE_BYTES < file.len() {

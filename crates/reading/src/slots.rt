@@ -1,12 +1,13 @@
 // Storing a macro in its slot of a table.
 use crate::Head;
 use crate::SLOT_BYTES;
-use crate::items::put_item;
+use scanning::items::clear;
+use scanning::items::put_item;
 ghost use Prim.Native.Nat.{_≤_, _<_, _+_};
-ghost use lib.ListN.{length, take, replicate};
+ghost use lib.ListN.{length, take};
 ghost use Rattle.macros.specs.Bounds.{mostTags};
 ghost use Rattle.tables.specs.Form.{slotBytes, bodyBytes, two};
-ghost use Rattle.reading.specs.Items.{Wrote};
+ghost use Rattle.scanning.specs.Items.{Wrote};
 ghost use Rattle.reading.specs.File.{usedBytes, slotOf};
 
 // A number of two bytes, low byte first.
@@ -25,18 +26,6 @@ fn copy_in(out: &mut [u8], n: usize, from: &[u8], k: usize)
     let mut i = 0;
     while i < k {
         out[n + i] = from[i];
-        i = i + 1;
-    }
-}
-
-// Zeros in k bytes.
-pub(crate) fn clear(out: &mut [u8], n: usize, k: usize)
-    requires { ⌜ n + k ≤ length (now out) ⌝ }
-    ensures { λ _. ⌜ Wrote (now (out .entry)) (now (out .exit)) n (replicate k 0) ⌝ }
-{
-    let mut i = 0;
-    while i < k {
-        out[n + i] = 0;
         i = i + 1;
     }
 }

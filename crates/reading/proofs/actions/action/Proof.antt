@@ -46,19 +46,19 @@ returns-4 : tie.Need-returns-4
 returns-4 c = search needs
 
 is-break-requires : tie.Need-is-break-requires
-is-break-requires c κs = search needs
+is-break-requires c κs = tt
 
 returns-5 : tie.Need-returns-5
 returns-5 c = let args = c .before .before .before .before .before .before .before .before .args in let pre = c .before .before .before .before .before .before .before .before .pre in let is-break = c .before .is-break in action-break (now (args .out)) (now (args .out)) (args .n) (args .tags) (pre .0) (pre .1) (sym (is-break .ensures) ∙ (c .if5) .taken)
 
 put-item-requires : tie.Need-put-item-requires
-put-item-requires c κs = search needs
+put-item-requires c κs = omega arith
 
 add-t22 : tie.Need-add-t22
-add-t22 c = search needs
+add-t22 c = omega arith
 
 add-t23 : tie.Need-add-t23
-add-t23 c = search needs
+add-t23 c = omega arith
 
 same-length-5 : tie.Need-same-length-5
 same-length-5 c = search needs

@@ -1,3 +1,4 @@
+use native.Mathlib.Omega.{arith}
 use denote.Ref.{now}
 use Rattle.macros.specs.Macro.{markByte}
 use Rattle.reading.proofs.Commanding.{command-39, command-text}
@@ -29,7 +30,7 @@ returns-3 : tie.Need-returns-3
 returns-3 c = search needs
 
 add-t14 : tie.Need-add-t14
-add-t14 c = search needs
+add-t14 c = omega arith
 
 returns-4 : tie.Need-returns-4
 returns-4 c = let args = c .before .before .before .before .before .args in let pre = c .before .before .before .before .before .pre in let if1 = c .before .before .if1 in let if2 = c .before .if2 in command-text (now (args .out)) (args .n) (args .tags) (pre .0) (pre .1) (if1 .left) (if2 .left) ((c .if3) .left)

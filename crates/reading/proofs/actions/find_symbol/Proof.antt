@@ -1,12 +1,11 @@
-use borrow.Author.Needs.{needs}
 use denote.Ref.{now}
 use mathlib.Core.Path.{refl}
 use Prim.Native.Nat.{_≤_, _-_}
 use native.Mathlib.Omega.{arith}
 use lib.ListN.{length}
 use Rattle.macros.specs.Read.Part.{awaitSymbol}
-use Rattle.reading.specs.Scan.{Reached}
-use Rattle.reading.proofs.Laws.{reached-behind}
+use Rattle.scanning.specs.Scan.{Reached}
+use Rattle.scanning.proofs.Laws.{reached-behind}
 use Rattle.reading.proofs.Waiting.{Waits, symbol-none, symbol-byte, symbol-61, symbol-60, symbol-39, symbol-59, symbol-on}
 use Rattle.reading.proofs.actions.find_symbol.Statement.{statement}
 use Rattle.reading.proofs.actions.find_symbol.Tie as tie
@@ -24,10 +23,10 @@ next-byte-requires : tie.Need-next-byte-requires Inv-loop μ-loop
 next-byte-requires c κs = (c .loop) .inv .1
 
 enum-known-next : tie.Need-enum-known-next Inv-loop μ-loop
-enum-known-next c = search needs
+enum-known-next c = c .match .keys1
 
 enum-told : tie.Need-enum-told Inv-loop μ-loop
-enum-told c = search needs
+enum-told c = c .match .keys2
 
 returns : tie.Need-returns Inv-loop μ-loop
 returns c = let args = c .before .before .before .before .before .args in let loop = c .before .before .before .loop in let next-byte = c .before .before .next-byte in symbol-none (now (args .s)) (args .a) (args .first) (loop .at) (loop .inv .2) (loop .inv .0) (next-byte .ensures) ((c .enum-told) .given .1)

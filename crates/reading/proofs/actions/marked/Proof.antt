@@ -1,25 +1,25 @@
 use native.Mathlib.Omega.{arith}
 use denote.Ref.{now}
-use Rattle.reading.proofs.Laws.{reached-behind}
+use Rattle.scanning.proofs.Laws.{reached-behind}
 use Rattle.reading.proofs.Replacing.{marked-none, marked-byte, marked-call, marked-literal}
 use borrow.Author.Needs.{needs}
 use Rattle.reading.proofs.actions.marked.Statement.{statement}
 use Rattle.reading.proofs.actions.marked.Tie as tie
 
 add-next-byte : tie.Need-add-next-byte
-add-next-byte c = search needs
+add-next-byte c = omega arith
 
 next-byte-requires : tie.Need-next-byte-requires
 next-byte-requires c κs = search needs
 
 enum-known-next : tie.Need-enum-known-next
-enum-known-next c = search needs
+enum-known-next c = c .match .keys1
 
 enum-told : tie.Need-enum-told
-enum-told c = search needs
+enum-told c = c .match .keys2
 
 next-end-requires : tie.Need-next-end-requires
-next-end-requires c κs = search needs
+next-end-requires c κs = tt
 
 returns : tie.Need-returns
 returns c = let args = c .before .before .before .before .before .before .args in let pre = c .before .before .before .before .before .before .pre in let next-byte = c .before .before .before .next-byte in let enum-told = c .before .enum-told in marked-none (now (args .out)) (now (args .out)) (args .n) (args .tags) (args .counter) (pre .0) (next-byte .ensures) (enum-told .given .1) ((c .next-end) .ensures)
@@ -37,13 +37,13 @@ returns-2 : tie.Need-returns-2
 returns-2 c = let args = c .before .before .before .before .before .before .before .before .before .before .before .args in let call = c .before .before .call in let pre = c .before .before .before .before .before .before .before .before .before .before .before .pre in let next-byte = c .before .before .before .before .before .before .before .before .next-byte in let next = c .before .before .before .before .before .before .next in let if1 = c .before .before .before .before .if1 in marked-call (now (args .out)) (call .last .1 .0) (args .n) (args .tags) (args .counter) (pre .0) (next-byte .ensures) (next .given .1) (if1 .taken) (call .result) (call .ensures)
 
 mark-byte-requires : tie.Need-mark-byte-requires
-mark-byte-requires c κs = search needs
+mark-byte-requires c κs = tt
 
 put-item-requires : tie.Need-put-item-requires
-put-item-requires c κs = search needs
+put-item-requires c κs = omega arith
 
 add-t11 : tie.Need-add-t11
-add-t11 c = search needs
+add-t11 c = omega arith
 
 same-length-2 : tie.Need-same-length-2
 same-length-2 c = search needs

@@ -1,25 +1,25 @@
 use native.Mathlib.Omega.{arith}
 use denote.Ref.{now}
-use Rattle.reading.proofs.Laws.{reached-behind}
+use Rattle.scanning.proofs.Laws.{reached-behind}
 use Rattle.reading.proofs.Commanding.{command-none, command-byte, command-call, command-plain}
 use borrow.Author.Needs.{needs}
 use Rattle.reading.proofs.actions.marked_command.Statement.{statement}
 use Rattle.reading.proofs.actions.marked_command.Tie as tie
 
 add-next-byte : tie.Need-add-next-byte
-add-next-byte c = search needs
+add-next-byte c = omega arith
 
 next-byte-requires : tie.Need-next-byte-requires
 next-byte-requires c κs = search needs
 
 enum-known-next : tie.Need-enum-known-next
-enum-known-next c = search needs
+enum-known-next c = c .match .keys1
 
 enum-told : tie.Need-enum-told
-enum-told c = search needs
+enum-told c = c .match .keys2
 
 next-end-requires : tie.Need-next-end-requires
-next-end-requires c κs = search needs
+next-end-requires c κs = tt
 
 returns : tie.Need-returns
 returns c = let args = c .before .before .before .before .before .before .args in let pre = c .before .before .before .before .before .before .pre in let next-byte = c .before .before .before .next-byte in let enum-told = c .before .enum-told in command-none (now (args .out)) (now (args .out)) (args .n) (args .tags) (args .counter) (pre .0) (next-byte .ensures) (enum-told .given .1) ((c .next-end) .ensures)

@@ -1,4 +1,3 @@
-use borrow.Author.Needs.{needs}
 use mathlib.Core.Path.{_≡_, refl, _∙_}
 use Prim.Native.Nat.{_≤_, _-_}
 use native.Mathlib.Omega.{arith}
@@ -22,13 +21,13 @@ next-byte-requires : tie.Need-next-byte-requires Inv-loop μ-loop
 next-byte-requires c κs = (c .loop) .inv .2 .reached
 
 enum-known-next : tie.Need-enum-known-next Inv-loop μ-loop
-enum-known-next c = search needs
+enum-known-next c = c .match .keys1
 
 enum-told : tie.Need-enum-told Inv-loop μ-loop
-enum-told c = search needs
+enum-told c = c .match .keys2
 
 next-end-requires : tie.Need-next-end-requires Inv-loop μ-loop
-next-end-requires c κs = search needs
+next-end-requires c κs = tt
 
 same-length : tie.Need-same-length Inv-loop μ-loop
 same-length c = let loop = c .before .before .before .before .loop in loop .inv .1
@@ -49,10 +48,10 @@ action-requires : tie.Need-action-requires Inv-loop μ-loop
 action-requires c κs = let loop = c .before .before .before .before .before .before .loop in let args = c .before .before .before .before .before .before .before .before .before .args in let next-byte = c .before .before .before .before .before .next-byte in let next = c .before .before .before .next in let if1 = c .before .if1 in let pre = c .before .before .before .before .before .before .before .before .before .pre in let i = loop .inv in let f = acts-byte (now (args .s)) (args .a) (args .first) (now (args .out)) (loop .out) (args .start) (args .tags) (loop .inv .2) (loop .inv .0) (next-byte .ensures) (next .given .1) .found in let x = f .1 .stands in (f .1, if1 .left, omega (arith, i .0, i .1, i .2 .room, f .0, x .counted, pre .1), pre .2)
 
 enum-known-part : tie.Need-enum-known-part Inv-loop μ-loop
-enum-known-part c = search needs
+enum-known-part c = c .match2 .keys1
 
 enum-told-2 : tie.Need-enum-told-2 Inv-loop μ-loop
-enum-told-2 c = search needs
+enum-told-2 c = c .match2 .keys2
 
 same-length-3 : tie.Need-same-length-3 Inv-loop μ-loop
 same-length-3 c = let action = c .before .before .before .before .action in let loop = c .before .before .before .before .before .before .before .before .before .before .before .loop in action .kept .1 .0 ∙ loop .inv .1

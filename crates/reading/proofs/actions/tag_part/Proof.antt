@@ -11,25 +11,25 @@ use Rattle.reading.proofs.actions.tag_part.Statement.{statement}
 use Rattle.reading.proofs.actions.tag_part.Tie as tie
 
 add-digits : tie.Need-add-digits
-add-digits c = search needs
+add-digits c = omega arith
 
 digits-requires : tie.Need-digits-requires
 digits-requires c κs = search needs
 
 enum-known-number : tie.Need-enum-known-number
-enum-known-number c = search needs
+enum-known-number c = c .match .keys1
 
 enum-told : tie.Need-enum-told
-enum-told c = search needs
+enum-told c = c .match .keys2
 
 number-end-requires : tie.Need-number-end-requires
-number-end-requires c κs = search needs
+number-end-requires c κs = tt
 
 returns : tie.Need-returns
 returns c = let args = c .before .before .before .before .before .before .args in let pre = c .before .before .before .before .before .before .pre in let digits = c .before .before .before .digits in let enum-told = c .before .enum-told in brace-none (now (args .s)) (args .a) (args .at) (now (args .out)) (now (args .out)) (args .n) (args .tags) (pre .0) (digits .ensures) (enum-told .given .1) ((c .number-end) .ensures)
 
 tag-fault-requires : tie.Need-tag-fault-requires
-tag-fault-requires c κs = search needs
+tag-fault-requires c κs = tt
 
 returns-2 : tie.Need-returns-2
 returns-2 c = let args = c .before .before .before .before .before .before .before .before .args in let digits = c .before .before .before .before .before .digits in let number = c .before .before .before .number in let pre = c .before .before .before .before .before .before .before .before .pre in let if1 = c .before .if1 in let y = counted-at (now (args .s)) (args .a) (args .at + 1) (digits .ensures) (number .given .1) in let x = y .1 .stands in brace-wrong (now (args .s)) (args .a) (args .at) (now (args .out)) (now (args .out)) (args .n) (args .tags) (pre .0) y ((c .tag-fault) .result) (if1 .taken) ((c .tag-fault) .ensures)
@@ -44,16 +44,16 @@ returns-5 : tie.Need-returns-5
 returns-5 c = let args = c .before .before .before .before .before .before .before .before .before .before .args in let digits = c .before .before .before .before .before .before .before .digits in let number = c .before .before .before .before .before .number in let pre = c .before .before .before .before .before .before .before .before .before .before .pre in let if1 = c .before .before .before .if1 in let if2 = c .before .before .if2 in let y = counted-at (now (args .s)) (args .a) (args .at + 1) (digits .ensures) (number .given .1) in let x = y .1 .stands in brace-unfit (now (args .s)) (args .a) (args .at) (now (args .out)) (now (args .out)) (args .n) (args .tags) (pre .0) y (if1 .left) (not-false _ (if2 .left)) (λ w e. within-over _ w (most-over w _ _ e ((c .if4) .taken)))
 
 cast-put-item : tie.Need-cast-put-item
-cast-put-item c = search needs
+cast-put-item c = omega arith
 
 put-item-requires : tie.Need-put-item-requires
-put-item-requires c κs = search needs
+put-item-requires c κs = omega arith
 
 add-t12 : tie.Need-add-t12
 add-t12 c = let args = c .before .before .before .before .before .before .before .before .before .before .before .before .before .before .args in let digits = c .before .before .before .before .before .before .before .before .before .before .before .digits in let number = c .before .before .before .before .before .before .before .before .before .number in let y = counted-at (now (args .s)) (args .a) (args .at + 1) (digits .ensures) (number .given .1) in let x = y .1 .stands in omega (arith, x .there, (c .before .before .before .before .before .before .before .before .before .before .before .before .before .before))
 
 add-t23 : tie.Need-add-t23
-add-t23 c = search needs
+add-t23 c = omega arith
 
 same-length : tie.Need-same-length
 same-length c = search needs

@@ -4,8 +4,8 @@ use mathlib.Core.Bool.{not}
 use Rattle.macros.specs.Macro.Mark.{counter}
 use Rattle.macros.specs.Macro.Call.{setTo, setIncrement}
 use Rattle.macros.specs.Read.Phase.{equals, increment}
-use Rattle.reading.specs.declared.Fault.the-variants.{BadCall}
-use Rattle.reading.proofs.Laws.{reached-behind}
+use Rattle.scanning.specs.declared.Fault.the-variants.{BadCall}
+use Rattle.scanning.proofs.Laws.{reached-behind}
 use Rattle.reading.proofs.Naming.{code-most}
 use Rattle.reading.proofs.Ending.{names-counter}
 use Rattle.reading.proofs.Marks.{counter-none, byte-at, letter-at, counter-begun, counter-comma, counter-uncomma, counter-equal, counter-unequal, counter-command, counter-close, counter-strange, wrong-41, wrong-44, wrong-61, sets-counter, sets-increment, insert-counter, mark-noname, mark-wrong, mark-set, mark-insert}
@@ -17,13 +17,13 @@ call-byte-requires : tie.Need-call-byte-requires
 call-byte-requires c κs = search needs
 
 enum-known-next : tie.Need-enum-known-next
-enum-known-next c = search needs
+enum-known-next c = c .match .keys1
 
 enum-told : tie.Need-enum-told
-enum-told c = search needs
+enum-told c = c .match .keys2
 
 next-end-requires : tie.Need-next-end-requires
-next-end-requires c κs = search needs
+next-end-requires c κs = tt
 
 returns : tie.Need-returns
 returns c = let args = c .before .before .before .before .before .before .args in let call-byte = c .before .before .before .call-byte in let enum-told = c .before .enum-told in λ k. counter-none (now (args .s)) (args .a) (args .at) (now (args .out)) (now (args .out)) (args .n) (args .cmd) k (call-byte .ensures) (enum-told .given .1) ((c .next-end) .ensures)
@@ -32,13 +32,13 @@ name-requires : tie.Need-name-requires
 name-requires c κs = let args = c .before .before .before .before .before .before .args in let call-byte = c .before .before .before .call-byte in let next = c .before .next in let z = byte-at (now (args .s)) (args .a) (args .at) (call-byte .ensures) (next .given .1) in let y = z .found in (y .1, y .2)
 
 enum-known-named : tie.Need-enum-known-named
-enum-known-named c = search needs
+enum-known-named c = c .match2 .keys1
 
 enum-told-2 : tie.Need-enum-told-2
-enum-told-2 c = search needs
+enum-told-2 c = c .match2 .keys2
 
 name-end-requires : tie.Need-name-end-requires
-name-end-requires c κs = search needs
+name-end-requires c κs = tt
 
 returns-2 : tie.Need-returns-2
 returns-2 c = let args = c .before .before .before .before .before .before .before .before .before .before .args in let call-byte = c .before .before .before .before .before .before .before .call-byte in let next = c .before .before .before .before .before .next in let name = c .before .before .before .name in let enum-told2 = c .before .enum-told2 in let z = byte-at (now (args .s)) (args .a) (args .at) (call-byte .ensures) (next .given .1) in let y = z .found in λ k. mark-noname (now (args .s)) (args .a) (args .at) (now (args .out)) (now (args .out)) (args .n) (args .cmd) k counter (not (args .cmd)) (y .0) (counter-begun (now (args .s)) (args .a) (args .at) (args .cmd) k z) (names-counter (args .cmd) _) (name .ensures) (enum-told2 .given .1) ((c .name-end) .ensures)
@@ -74,7 +74,7 @@ returns-6 : tie.Need-returns-6
 returns-6 c = let args = c .before .before .before .before .before .before .before .before .before .before .before .before .before .before .before .before .before .args in let call-byte = c .before .before .before .before .before .before .before .before .before .before .before .before .before .before .call-byte in let next = c .before .before .before .before .before .before .before .before .before .before .before .before .next in let name = c .before .before .before .before .before .before .before .before .before .before .name in let named = c .before .before .before .before .before .before .before .before .named in let set-call2 = c .before .before .set-call2 in let if3 = c .before .before .before .before .before .if3 in let if4 = c .before .before .before .before .if4 in let z = byte-at (now (args .s)) (args .a) (args .at) (call-byte .ensures) (next .given .1) in let y = z .found in let t = letter-at (now (args .s)) (args .a) _ _ (not (args .cmd)) (name .ensures) (named .given .1) in let x = t .here .stands in λ k. mark-set (now (args .s)) (args .a) (args .at) (now (args .out)) (set-call2 .last .1 .0) (args .n) (args .cmd) k counter (not (args .cmd)) (y .0) (counter-begun (now (args .s)) (args .a) (args .at) (args .cmd) k z) (names-counter (args .cmd) _) t 88 999999999 (equals counter (named .given .0 .0)) (setTo counter (named .given .0 .0)) (sets-counter (named .given .0 .0)) (counter-equal _ _ _ _ _ (if3 .taken) (t .code) (if4 .left)) (set-call2 .result) (set-call2 .ensures)
 
 wrong-byte-requires : tie.Need-wrong-byte-requires
-wrong-byte-requires c κs = search needs
+wrong-byte-requires c κs = tt
 
 returns-7 : tie.Need-returns-7
 returns-7 c = let args = c .before .before .before .before .before .before .before .before .before .before .before .before .before .before .args in let call-byte = c .before .before .before .before .before .before .before .before .before .before .before .call-byte in let next = c .before .before .before .before .before .before .before .before .before .next in let name = c .before .before .before .before .before .before .before .name in let named = c .before .before .before .before .before .named in let if1 = c .before .before .before .if1 in let if3 = c .before .before .if3 in let if5 = c .before .if5 in let z = byte-at (now (args .s)) (args .a) (args .at) (call-byte .ensures) (next .given .1) in let y = z .found in let t = letter-at (now (args .s)) (args .a) _ _ (not (args .cmd)) (name .ensures) (named .given .1) in let x = t .here .stands in λ k. mark-wrong (now (args .s)) (args .a) (args .at) (now (args .out)) (now (args .out)) (args .n) (args .cmd) k counter (not (args .cmd)) (y .0) (counter-begun (now (args .s)) (args .a) (args .at) (args .cmd) k z) (names-counter (args .cmd) _) t ((c .wrong-byte) .result) (counter-strange _ _ _ _ (if1 .left) (if3 .left) (if5 .taken) (t .last)) ((c .wrong-byte) .ensures)
@@ -92,7 +92,7 @@ add-t32 : tie.Need-add-t32
 add-t32 c = let args = c .before .before .before .before .before .before .before .before .before .before .before .before .before .before .before .before .before .before .args in let call-byte = c .before .before .before .before .before .before .before .before .before .before .before .before .before .before .before .call-byte in let next = c .before .before .before .before .before .before .before .before .before .before .before .before .before .next in let name = c .before .before .before .before .before .before .before .before .before .before .before .name in let named = c .before .before .before .before .before .before .before .before .before .named in let z = byte-at (now (args .s)) (args .a) (args .at) (call-byte .ensures) (next .given .1) in let y = z .found in let t = letter-at (now (args .s)) (args .a) _ _ (not (args .cmd)) (name .ensures) (named .given .1) in let x = t .here .stands in omega (arith, x .there, (c .before .before .before .before .before .before .before .before .before .before .before .before .before .before .before .before .before .before))
 
 add-t33 : tie.Need-add-t33
-add-t33 c = search needs
+add-t33 c = omega arith
 
 same-length-3 : tie.Need-same-length-3
 same-length-3 c = search needs

@@ -1,14 +1,13 @@
 use mathlib.Core.Path.{ap, sym}
 use Rattle.reading.specs.Call.{nextEnd}
-use borrow.Author.Needs.{needs}
 use Rattle.reading.proofs.calls.next_end.Statement.{statement}
 use Rattle.reading.proofs.calls.next_end.Tie as tie
 
 enum-known-n : tie.Need-enum-known-n
-enum-known-n c = search needs
+enum-known-n c = c .match .keys1
 
 enum-known-n-2 : tie.Need-enum-known-n-2
-enum-known-n-2 c = search needs
+enum-known-n-2 c = c .match .keys2
 
 returns : tie.Need-returns
 returns c = ap nextEnd (sym ((c .before .n) .given .1))

@@ -9,16 +9,16 @@ use Rattle.reading.proofs.calls.pad.Statement.{statement}
 use Rattle.reading.proofs.calls.pad.Tie as tie
 
 sub-if1 : tie.Need-sub-if1
-sub-if1 c = search needs
+sub-if1 c = omega arith
 
 returns : tie.Need-returns
 returns c = let args = c .before .args in pad-none (now (args .out)) (args .n) (args .e) ((c .if1) .taken)
 
 slice-write-out : tie.Need-slice-write-out
-slice-write-out c = search needs
+slice-write-out c = omega arith
 
 add-result : tie.Need-add-result
-add-result c = search needs
+add-result c = omega arith
 
 same-length : tie.Need-same-length
 same-length c = search needs

@@ -1,4 +1,3 @@
-use borrow.Author.Needs.{needs}
 use Prim.Native.Nat.{_-_}
 use native.Mathlib.Omega.{arith}
 use lib.ListN.{length, length-set}
@@ -19,13 +18,13 @@ next-byte-requires : tie.Need-next-byte-requires Inv-loop μ-loop
 next-byte-requires c κs = (c .loop) .inv .reached
 
 enum-known-next : tie.Need-enum-known-next Inv-loop μ-loop
-enum-known-next c = search needs
+enum-known-next c = c .match .keys1
 
 enum-told : tie.Need-enum-told Inv-loop μ-loop
-enum-told c = search needs
+enum-told c = c .match .keys2
 
 next-end-requires : tie.Need-next-end-requires Inv-loop μ-loop
-next-end-requires c κs = search needs
+next-end-requires c κs = tt
 
 same-length : tie.Need-same-length Inv-loop μ-loop
 same-length c = let loop = c .before .before .before .before .loop in loop .inv .kept
@@ -49,13 +48,13 @@ text-byte-requires : tie.Need-text-byte-requires Inv-loop μ-loop
 text-byte-requires c κs = let loop = c .before .before .before .before .before .loop in let next-byte = c .before .before .before .before .next-byte in let next = c .before .before .next in (reading-byte (loop .inv) (next-byte .ensures) (next .given .1) .found .1, (c .if1) .left)
 
 enum-known-text : tie.Need-enum-known-text Inv-loop μ-loop
-enum-known-text c = search needs
+enum-known-text c = c .match2 .keys1
 
 enum-told-2 : tie.Need-enum-told-2 Inv-loop μ-loop
-enum-told-2 c = search needs
+enum-told-2 c = c .match2 .keys2
 
 next-end-requires-2 : tie.Need-next-end-requires-2 Inv-loop μ-loop
-next-end-requires-2 c κs = search needs
+next-end-requires-2 c κs = tt
 
 same-length-3 : tie.Need-same-length-3 Inv-loop μ-loop
 same-length-3 c = let loop = c .before .before .before .before .before .before .before .before .before .loop in loop .inv .kept

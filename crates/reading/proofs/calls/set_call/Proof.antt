@@ -10,19 +10,19 @@ digits-requires : tie.Need-digits-requires
 digits-requires c κs = search needs
 
 enum-known-number : tie.Need-enum-known-number
-enum-known-number c = search needs
+enum-known-number c = c .match .keys1
 
 enum-told : tie.Need-enum-told
-enum-told c = search needs
+enum-told c = c .match .keys2
 
 number-end-requires : tie.Need-number-end-requires
-number-end-requires c κs = search needs
+number-end-requires c κs = tt
 
 returns : tie.Need-returns
 returns c = let args = c .before .before .before .before .before .before .args in let digits = c .before .before .before .digits in let enum-told = c .before .enum-told in set-none (now (args .s)) (args .a) (args .at) (now (args .out)) (now (args .out)) (args .n) (args .code) (args .i) (args .top) (digits .ensures) (enum-told .given .1) ((c .number-end) .ensures)
 
 wrong-byte-requires : tie.Need-wrong-byte-requires
-wrong-byte-requires c κs = search needs
+wrong-byte-requires c κs = tt
 
 returns-2 : tie.Need-returns-2
 returns-2 c = let args = c .before .before .before .before .before .before .before .before .args in let digits = c .before .before .before .before .before .digits in let number = c .before .before .before .number in let if1 = c .before .if1 in set-wrong (now (args .s)) (args .a) (args .at) (now (args .out)) (now (args .out)) (args .n) (args .code) (args .i) (args .top) (digits .ensures) (number .given .1) ((c .wrong-byte) .result) (if1 .taken) ((c .wrong-byte) .ensures)
@@ -37,10 +37,10 @@ returns-5 : tie.Need-returns-5
 returns-5 c = let args = c .before .before .before .before .before .before .before .before .before .before .args in let digits = c .before .before .before .before .before .before .before .digits in let number = c .before .before .before .before .before .number in let if1 = c .before .before .before .if1 in let if2 = c .before .before .if2 in set-unfit (now (args .s)) (args .a) (args .at) (now (args .out)) (now (args .out)) (args .n) (args .code) (args .i) (args .top) (digits .ensures) (number .given .1) (if1 .left) (not-false _ (if2 .left)) (λ w e. within-over _ w (most-over w _ _ e ((c .if4) .taken)))
 
 put-item-requires : tie.Need-put-item-requires
-put-item-requires c κs = search needs
+put-item-requires c κs = omega arith
 
 add-put-number : tie.Need-add-put-number
-add-put-number c = search needs
+add-put-number c = omega arith
 
 put-number-requires : tie.Need-put-number-requires
 put-number-requires c κs = let args = c .before .before .before .before .before .before .before .before .before .before .before .before .before .before .before .args in let digits = c .before .before .before .before .before .before .before .before .before .before .before .before .digits in let number = c .before .before .before .before .before .before .before .before .before .before .number in let pre = c .before .before .before .before .before .before .before .before .before .before .before .before .before .before .before .pre in let put-item = c .before .before .before .put-item in let t = set-byte (now (args .s)) (args .a) (args .at) (now (args .out)) (now (args .out)) (args .n) (args .code) (args .i) (args .top) (digits .ensures) (number .given .1) .1 .stands in let l = set-byte (now (args .s)) (args .a) (args .at) (now (args .out)) (now (args .out)) (args .n) (args .code) (args .i) (args .top) (digits .ensures) (number .given .1) .0 in (omega (arith, t .counted, t .behind, pre .1, put-item .kept .0), set-byte (now (args .s)) (args .a) (args .at) (now (args .out)) (now (args .out)) (args .n) (args .code) (args .i) (args .top) (digits .ensures) (number .given .1) .3)

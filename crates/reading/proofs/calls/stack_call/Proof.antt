@@ -5,8 +5,8 @@ use mathlib.Core.Path.{refl}
 use Rattle.macros.specs.Macro.Mark.{stack}
 use Rattle.macros.specs.Macro.Call.{setTo}
 use Rattle.macros.specs.Read.Phase.{equals}
-use Rattle.reading.specs.declared.Fault.the-variants.{BadCall}
-use Rattle.reading.proofs.Laws.{reached-behind}
+use Rattle.scanning.specs.declared.Fault.the-variants.{BadCall}
+use Rattle.scanning.proofs.Laws.{reached-behind}
 use Rattle.reading.proofs.Naming.{code-most}
 use Rattle.reading.proofs.Ending.{names-stack}
 use Rattle.reading.proofs.Marks.{stack-none, number-at, letter-at, stack-tag, stack-begun, stack-colon, stack-equal, stack-unequal, stack-command, stack-close, stack-strange, wrong-41, wrong-61, sets-stack, insert-stack, mark-noname, mark-wrong, mark-set, mark-text, mark-insert}
@@ -18,13 +18,13 @@ digits-requires : tie.Need-digits-requires
 digits-requires c κs = search needs
 
 enum-known-number : tie.Need-enum-known-number
-enum-known-number c = search needs
+enum-known-number c = c .match .keys1
 
 enum-told : tie.Need-enum-told
-enum-told c = search needs
+enum-told c = c .match .keys2
 
 number-end-requires : tie.Need-number-end-requires
-number-end-requires c κs = search needs
+number-end-requires c κs = tt
 
 returns : tie.Need-returns
 returns c = let args = c .before .before .before .before .before .before .args in let digits = c .before .before .before .digits in let enum-told = c .before .enum-told in stack-none (now (args .s)) (args .a) (args .at) (now (args .out)) (now (args .out)) (args .n) (args .cmd) (args .tags) (digits .ensures) (enum-told .given .1) ((c .number-end) .ensures)
@@ -42,13 +42,13 @@ name-requires : tie.Need-name-requires
 name-requires c κs = let args = c .before .before .before .before .before .before .before .args in let digits = c .before .before .before .before .digits in let number = c .before .before .number in let y = number-at (now (args .s)) (args .a) (args .at) (digits .ensures) (number .given .1) in (y .1, y .2 .1 refl)
 
 enum-known-named : tie.Need-enum-known-named
-enum-known-named c = search needs
+enum-known-named c = c .match2 .keys1
 
 enum-told-2 : tie.Need-enum-told-2
-enum-told-2 c = search needs
+enum-told-2 c = c .match2 .keys2
 
 name-end-requires : tie.Need-name-end-requires
-name-end-requires c κs = search needs
+name-end-requires c κs = tt
 
 returns-3 : tie.Need-returns-3
 returns-3 c = let args = c .before .before .before .before .before .before .before .before .before .before .before .args in let digits = c .before .before .before .before .before .before .before .before .digits in let number = c .before .before .before .before .before .before .number in let if1 = c .before .before .before .before .if1 in let name = c .before .before .before .name in let enum-told2 = c .before .enum-told2 in let y = number-at (now (args .s)) (args .a) (args .at) (digits .ensures) (number .given .1) in mark-noname (now (args .s)) (args .a) (args .at) (now (args .out)) (now (args .out)) (args .n) (args .cmd) (args .tags) stack true (y .0) (stack-begun (now (args .s)) (args .a) (args .at) (args .cmd) (args .tags) y (if1 .left)) (names-stack (args .cmd) _ (y .2 .0)) (name .ensures) (enum-told2 .given .1) ((c .name-end) .ensures)
@@ -81,7 +81,7 @@ returns-6 : tie.Need-returns-6
 returns-6 c = let args = c .before .before .before .before .before .before .before .before .before .before .before .before .before .before .before .before .before .before .args in let digits = c .before .before .before .before .before .before .before .before .before .before .before .before .before .before .before .digits in let number = c .before .before .before .before .before .before .before .before .before .before .before .before .before .number in let name = c .before .before .before .before .before .before .before .before .before .before .name in let named = c .before .before .before .before .before .before .before .before .named in let set-call = c .before .before .set-call in let if1 = c .before .before .before .before .before .before .before .before .before .before .before .if1 in let if3 = c .before .before .before .before .before .if3 in let if4 = c .before .before .before .before .if4 in let y = number-at (now (args .s)) (args .a) (args .at) (digits .ensures) (number .given .1) in let t = letter-at (now (args .s)) (args .a) _ _ true (name .ensures) (named .given .1) in let x = t .here .stands in mark-set (now (args .s)) (args .a) (args .at) (now (args .out)) (set-call .last .1 .0) (args .n) (args .cmd) (args .tags) stack true (y .0) (stack-begun (now (args .s)) (args .a) (args .at) (args .cmd) (args .tags) y (if1 .left)) (names-stack (args .cmd) _ (y .2 .0)) t 80 20 (equals stack (named .given .0 .0)) (setTo stack (named .given .0 .0)) (sets-stack (named .given .0 .0)) (stack-equal _ _ _ _ _ (if3 .taken) (t .code) (if4 .left)) (set-call .result) (set-call .ensures)
 
 wrong-byte-requires : tie.Need-wrong-byte-requires
-wrong-byte-requires c κs = search needs
+wrong-byte-requires c κs = tt
 
 returns-7 : tie.Need-returns-7
 returns-7 c = let args = c .before .before .before .before .before .before .before .before .before .before .before .before .before .before .before .args in let digits = c .before .before .before .before .before .before .before .before .before .before .before .before .digits in let number = c .before .before .before .before .before .before .before .before .before .before .number in let name = c .before .before .before .before .before .before .before .name in let named = c .before .before .before .before .before .named in let if1 = c .before .before .before .before .before .before .before .before .if1 in let if2 = c .before .before .before .if2 in let if3 = c .before .before .if3 in let if5 = c .before .if5 in let y = number-at (now (args .s)) (args .a) (args .at) (digits .ensures) (number .given .1) in let t = letter-at (now (args .s)) (args .a) _ _ true (name .ensures) (named .given .1) in let x = t .here .stands in mark-wrong (now (args .s)) (args .a) (args .at) (now (args .out)) (now (args .out)) (args .n) (args .cmd) (args .tags) stack true (y .0) (stack-begun (now (args .s)) (args .a) (args .at) (args .cmd) (args .tags) y (if1 .left)) (names-stack (args .cmd) _ (y .2 .0)) t ((c .wrong-byte) .result) (stack-strange _ _ _ _ (if2 .left) (if3 .left) (if5 .taken) (t .last)) ((c .wrong-byte) .ensures)
@@ -99,7 +99,7 @@ add-t35 : tie.Need-add-t35
 add-t35 c = let args = c .before .before .before .before .before .before .before .before .before .before .before .before .before .before .before .before .before .before .before .args in let digits = c .before .before .before .before .before .before .before .before .before .before .before .before .before .before .before .before .digits in let number = c .before .before .before .before .before .before .before .before .before .before .before .before .before .before .number in let name = c .before .before .before .before .before .before .before .before .before .before .before .name in let named = c .before .before .before .before .before .before .before .before .before .named in let y = number-at (now (args .s)) (args .a) (args .at) (digits .ensures) (number .given .1) in let t = letter-at (now (args .s)) (args .a) _ _ true (name .ensures) (named .given .1) in let x = t .here .stands in omega (arith, x .there, (c .before .before .before .before .before .before .before .before .before .before .before .before .before .before .before .before .before .before .before))
 
 add-t36 : tie.Need-add-t36
-add-t36 c = search needs
+add-t36 c = omega arith
 
 same-length-4 : tie.Need-same-length-4
 same-length-4 c = search needs

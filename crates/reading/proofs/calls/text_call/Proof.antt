@@ -6,16 +6,16 @@ use Rattle.reading.proofs.calls.text_call.Statement.{statement}
 use Rattle.reading.proofs.calls.text_call.Tie as tie
 
 add-put-text : tie.Need-add-put-text
-add-put-text c = search needs
+add-put-text c = omega arith
 
 put-text-requires : tie.Need-put-text-requires
 put-text-requires c κs = search needs
 
 enum-known-text : tie.Need-enum-known-text
-enum-known-text c = search needs
+enum-known-text c = c .match .keys1
 
 enum-told : tie.Need-enum-told
-enum-told c = search needs
+enum-told c = c .match .keys2
 
 same-length : tie.Need-same-length
 same-length c = search needs
@@ -27,13 +27,13 @@ call-byte-requires : tie.Need-call-byte-requires
 call-byte-requires c κs = let args = c .before .before .before .before .before .before .before .before .before .args in let put-text = c .before .before .before .before .before .put-text in let text = c .before .text in store-text (now (args .s)) (args .a) (args .at) (now (args .out)) (put-text .last .1 .0) (args .n) (args .i) (args .m) (put-text .ensures) (text .given .1) .reached
 
 enum-known-next : tie.Need-enum-known-next
-enum-known-next c = search needs
+enum-known-next c = c .match2 .keys1
 
 enum-told-2 : tie.Need-enum-told-2
-enum-told-2 c = search needs
+enum-told-2 c = c .match2 .keys2
 
 next-end-requires : tie.Need-next-end-requires
-next-end-requires c κs = search needs
+next-end-requires c κs = tt
 
 same-length-2 : tie.Need-same-length-2
 same-length-2 c = search needs
@@ -42,7 +42,7 @@ returns-2 : tie.Need-returns-2
 returns-2 c = let args = c .before .before .before .before .before .before .before .before .before .before .before .before .before .args in let put-text = c .before .before .before .before .before .before .before .before .before .put-text in let text = c .before .before .before .before .before .text in let call-byte = c .before .before .before .call-byte in let enum-told2 = c .before .enum-told2 in store-none (now (args .s)) (args .a) (args .at) (now (args .out)) (put-text .last .1 .0) (args .n) (args .i) (args .m) (put-text .ensures) (text .given .1) (call-byte .ensures) (enum-told2 .given .1) ((c .next-end) .ensures)
 
 wrong-byte-requires : tie.Need-wrong-byte-requires
-wrong-byte-requires c κs = search needs
+wrong-byte-requires c κs = tt
 
 same-length-3 : tie.Need-same-length-3
 same-length-3 c = search needs
@@ -51,16 +51,16 @@ returns-3 : tie.Need-returns-3
 returns-3 c = let args = c .before .before .before .before .before .before .before .before .before .before .before .before .before .before .before .args in let put-text = c .before .before .before .before .before .before .before .before .before .before .before .put-text in let text = c .before .before .before .before .before .before .before .text in let call-byte = c .before .before .before .before .before .call-byte in let next = c .before .before .before .next in let if1 = c .before .if1 in store-wrong (now (args .s)) (args .a) (args .at) (now (args .out)) (put-text .last .1 .0) (args .n) (args .i) (args .m) (put-text .ensures) (text .given .1) (call-byte .ensures) (next .given .1) ((c .wrong-byte) .result) (if1 .taken) ((c .wrong-byte) .ensures)
 
 add-pad : tie.Need-add-pad
-add-pad c = search needs
+add-pad c = omega arith
 
 pad-requires : tie.Need-pad-requires
 pad-requires c κs = let args = c .before .before .before .before .before .before .before .before .before .before .before .before .before .before .before .args in let put-text = c .before .before .before .before .before .before .before .before .before .before .before .put-text in let text = c .before .before .before .before .before .before .before .text in let pre = c .before .before .before .before .before .before .before .before .before .before .before .before .before .before .before .pre in let t = store-text (now (args .s)) (args .a) (args .at) (now (args .out)) (put-text .last .1 .0) (args .n) (args .i) (args .m) (put-text .ensures) (text .given .1) in (omega (arith, t .used), omega (arith, t .used, t .room, t .reached .2, pre .1, put-text .kept .1 .0))
 
 add-put-item : tie.Need-add-put-item
-add-put-item c = search needs
+add-put-item c = omega arith
 
 add-put-item-2 : tie.Need-add-put-item-2
-add-put-item-2 c = search needs
+add-put-item-2 c = omega arith
 
 sub-put-item : tie.Need-sub-put-item
 sub-put-item c = let args = c .before .before .before .before .before .before .before .before .before .before .before .before .before .before .before .before .before .before .before .args in let put-text = c .before .before .before .before .before .before .before .before .before .before .before .before .before .before .before .put-text in let text = c .before .before .before .before .before .before .before .before .before .before .before .text in let t = store-text (now (args .s)) (args .a) (args .at) (now (args .out)) (put-text .last .1 .0) (args .n) (args .i) (args .m) (put-text .ensures) (text .given .1) in omega (arith, t .used)
@@ -69,13 +69,13 @@ cast-put-item : tie.Need-cast-put-item
 cast-put-item c = let args = c .before .before .before .before .before .before .before .before .before .before .before .before .before .before .before .before .before .before .before .args in let put-text = c .before .before .before .before .before .before .before .before .before .before .before .before .before .before .before .put-text in let text = c .before .before .before .before .before .before .before .before .before .before .before .text in let t = store-text (now (args .s)) (args .a) (args .at) (now (args .out)) (put-text .last .1 .0) (args .n) (args .i) (args .m) (put-text .ensures) (text .given .1) in omega (arith, t .used, t .short)
 
 put-item-requires : tie.Need-put-item-requires
-put-item-requires c κs = search needs
+put-item-requires c κs = omega arith
 
 add-put-item-3 : tie.Need-add-put-item-3
-add-put-item-3 c = search needs
+add-put-item-3 c = omega arith
 
 put-item-requires-2 : tie.Need-put-item-requires-2
-put-item-requires-2 c κs = search needs
+put-item-requires-2 c κs = omega arith
 
 add-t26 : tie.Need-add-t26
 add-t26 c = let args = c .before .before .before .before .before .before .before .before .before .before .before .before .before .before .before .before .before .before .before .before .before .before .before .before .before .before .args in let put-text = c .before .before .before .before .before .before .before .before .before .before .before .before .before .before .before .before .before .before .before .before .before .before .put-text in let text = c .before .before .before .before .before .before .before .before .before .before .before .before .before .before .before .before .before .before .text in let call-byte = c .before .before .before .before .before .before .before .before .before .before .before .before .before .before .before .before .call-byte in let next = c .before .before .before .before .before .before .before .before .before .before .before .before .before .before .next in let x = store-byte (now (args .s)) (args .a) (args .at) (now (args .out)) (put-text .last .1 .0) (args .n) (args .i) (args .m) (put-text .ensures) (text .given .1) (call-byte .ensures) (next .given .1) .found .1 .stands in omega (arith, x .there, (c .before .before .before .before .before .before .before .before .before .before .before .before .before .before .before .before .before .before .before .before .before .before .before .before .before .before))

@@ -2,7 +2,7 @@ use borrow.Author.Needs.{needs}
 use mathlib.Core.Path.{_∙_}
 use native.Mathlib.Omega.{arith}
 use denote.Ref.{now}
-use Rattle.reading.proofs.Laws.{reached-behind}
+use Rattle.scanning.proofs.Laws.{reached-behind}
 use Rattle.reading.proofs.Joining.{macro-pattern-fault, its-pattern, macro-symbol-fault, its-symbol, macro-quote-fault, its-quote, macro-replacement-fault, its-replacement, macro-commands-fault, macro-late, macro-order, macro-made}
 use Rattle.reading.proofs.file.one_macro.Statement.{statement}
 use Rattle.reading.proofs.file.one_macro.Tie as tie
@@ -27,14 +27,14 @@ returns c =
     let args = c .before .before .before .before .before .before .before .before .before .args in
     let pre = c .before .before .before .before .before .before .before .before .before .pre in
     let whole = c .before .before .before .before .before .whole in
-    macro-pattern-fault (now (args .s)) (args .a) (pre .0) (pre .1) (now (args .out)) (whole .last .1 .0) (whole .ensures) (c .before .enum-told .given .1) (c .no-pattern .ensures)
+    macro-pattern-fault (now (args .s)) (args .a) (pre .0) (pre .1) (now (args .out)) (whole .last .1 .0) (whole .ensures .begins) (c .before .enum-told .given .1) (c .no-pattern .ensures)
 
 find-symbol-requires : tie.Need-find-symbol-requires
 find-symbol-requires c κs =
     let args = c .before .before .before .before .before .before .before .before .before .args in
     let pre = c .before .before .before .before .before .before .before .before .before .pre in
     let whole = c .before .before .before .before .before .whole in
-    its-pattern (now (args .s)) (args .a) (pre .0) (pre .1) (now (args .out)) (whole .last .1 .0) (whole .ensures) (c .before .first .given .1) .reached
+    its-pattern (now (args .s)) (args .a) (pre .0) (pre .1) (now (args .out)) (whole .last .1 .0) (whole .ensures .begins) (c .before .first .given .1) .reached
 
 enum-known-sign : tie.Need-enum-known-sign
 enum-known-sign c = c .match2 .keys1
@@ -53,14 +53,14 @@ returns-2 c =
     let args = c .before .before .before .before .before .before .before .before .before .before .before .before .before .args in
     let pre = c .before .before .before .before .before .before .before .before .before .before .before .before .before .pre in
     let whole = c .before .before .before .before .before .before .before .before .before .whole in
-    macro-symbol-fault (now (args .s)) (args .a) (pre .0) (pre .1) (now (args .out)) (whole .last .1 .0) (whole .ensures) (c .before .before .before .before .before .first .given .1) (c .before .before .before .find-symbol .ensures) (c .before .enum-told2 .given .1) (c .no-next .ensures)
+    macro-symbol-fault (now (args .s)) (args .a) (pre .0) (pre .1) (now (args .out)) (whole .last .1 .0) (whole .ensures .begins) (c .before .before .before .before .before .first .given .1) (c .before .before .before .find-symbol .ensures) (c .before .enum-told2 .given .1) (c .no-next .ensures)
 
 add-find-quote : tie.Need-add-find-quote
 add-find-quote c =
     let args = c .before .before .before .before .before .before .before .before .before .before .before .before .before .args in
     let pre = c .before .before .before .before .before .before .before .before .before .before .before .before .before .pre in
     let whole = c .before .before .before .before .before .before .before .before .before .whole in
-    let t = its-symbol (now (args .s)) (args .a) (pre .0) (pre .1) (now (args .out)) (whole .last .1 .0) (whole .ensures) (c .before .before .before .before .before .first .given .1) (c .before .before .before .find-symbol .ensures) (c .before .sign .given .1) .1 .stands in
+    let t = its-symbol (now (args .s)) (args .a) (pre .0) (pre .1) (now (args .out)) (whole .last .1 .0) (whole .ensures .begins) (c .before .before .before .before .before .first .given .1) (c .before .before .before .find-symbol .ensures) (c .before .sign .given .1) .1 .stands in
     omega (arith, t .there, (c .before .before .before .before .before .before .before .before .before .before .before .before .before))
 
 find-quote-requires : tie.Need-find-quote-requires
@@ -68,7 +68,7 @@ find-quote-requires c κs =
     let args = c .before .before .before .before .before .before .before .before .before .before .before .before .before .args in
     let pre = c .before .before .before .before .before .before .before .before .before .before .before .before .before .pre in
     let whole = c .before .before .before .before .before .before .before .before .before .whole in
-    reached-behind (its-symbol (now (args .s)) (args .a) (pre .0) (pre .1) (now (args .out)) (whole .last .1 .0) (whole .ensures) (c .before .before .before .before .before .first .given .1) (c .before .before .before .find-symbol .ensures) (c .before .sign .given .1) .1 .stands)
+    reached-behind (its-symbol (now (args .s)) (args .a) (pre .0) (pre .1) (now (args .out)) (whole .last .1 .0) (whole .ensures .begins) (c .before .before .before .before .before .first .given .1) (c .before .before .before .find-symbol .ensures) (c .before .sign .given .1) .1 .stands)
 
 enum-known-quote : tie.Need-enum-known-quote
 enum-known-quote c = c .match3 .keys1
@@ -87,14 +87,14 @@ returns-3 c =
     let args = c .before .before .before .before .before .before .before .before .before .before .before .before .before .before .before .before .before .args in
     let pre = c .before .before .before .before .before .before .before .before .before .before .before .before .before .before .before .before .before .pre in
     let whole = c .before .before .before .before .before .before .before .before .before .before .before .before .before .whole in
-    macro-quote-fault (now (args .s)) (args .a) (pre .0) (pre .1) (now (args .out)) (whole .last .1 .0) (whole .ensures) (c .before .before .before .before .before .before .before .before .before .first .given .1) (c .before .before .before .before .before .before .before .find-symbol .ensures) (c .before .before .before .before .before .sign .given .1) (c .before .before .before .find-quote .ensures) (c .before .enum-told3 .given .1) (c .no-next2 .ensures)
+    macro-quote-fault (now (args .s)) (args .a) (pre .0) (pre .1) (now (args .out)) (whole .last .1 .0) (whole .ensures .begins) (c .before .before .before .before .before .before .before .before .before .first .given .1) (c .before .before .before .before .before .before .before .find-symbol .ensures) (c .before .before .before .before .before .sign .given .1) (c .before .before .before .find-quote .ensures) (c .before .enum-told3 .given .1) (c .no-next2 .ensures)
 
 add-replacement : tie.Need-add-replacement
 add-replacement c =
     let args = c .before .before .before .before .before .before .before .before .before .before .before .before .before .before .before .before .before .before .args in
     let pre = c .before .before .before .before .before .before .before .before .before .before .before .before .before .before .before .before .before .before .pre in
     let whole = c .before .before .before .before .before .before .before .before .before .before .before .before .before .before .whole in
-    let t = its-quote (now (args .s)) (args .a) (pre .0) (pre .1) (now (args .out)) (whole .last .1 .0) (whole .ensures) (c .before .before .before .before .before .before .before .before .before .before .first .given .1) (c .before .before .before .before .before .before .before .before .find-symbol .ensures) (c .before .before .before .before .before .before .sign .given .1) (c .before .before .before .before .find-quote .ensures) (c .before .before .quote .given .1) .1 .stands in
+    let t = its-quote (now (args .s)) (args .a) (pre .0) (pre .1) (now (args .out)) (whole .last .1 .0) (whole .ensures .begins) (c .before .before .before .before .before .before .before .before .before .before .first .given .1) (c .before .before .before .before .before .before .before .before .find-symbol .ensures) (c .before .before .before .before .before .before .sign .given .1) (c .before .before .before .before .find-quote .ensures) (c .before .before .quote .given .1) .1 .stands in
     omega (arith, t .there, (c .before .before .before .before .before .before .before .before .before .before .before .before .before .before .before .before .before .before))
 
 replacement-requires : tie.Need-replacement-requires
@@ -105,9 +105,9 @@ replacement-requires c κs =
     let first = c .before .before .before .before .before .before .before .before .before .before .first in
     let find-symbol = c .before .before .before .before .before .before .before .before .find-symbol in
     let sign = c .before .before .before .before .before .before .sign in
-    let f = its-pattern (now (args .s)) (args .a) (pre .0) (pre .1) (now (args .out)) (whole .last .1 .0) (whole .ensures) (first .given .1) in
-    let y = its-symbol (now (args .s)) (args .a) (pre .0) (pre .1) (now (args .out)) (whole .last .1 .0) (whole .ensures) (first .given .1) (find-symbol .ensures) (sign .given .1) in
-    let z = its-quote (now (args .s)) (args .a) (pre .0) (pre .1) (now (args .out)) (whole .last .1 .0) (whole .ensures) (first .given .1) (find-symbol .ensures) (sign .given .1) (c .before .before .before .before .find-quote .ensures) (c .before .before .quote .given .1) in
+    let f = its-pattern (now (args .s)) (args .a) (pre .0) (pre .1) (now (args .out)) (whole .last .1 .0) (whole .ensures .begins) (first .given .1) in
+    let y = its-symbol (now (args .s)) (args .a) (pre .0) (pre .1) (now (args .out)) (whole .last .1 .0) (whole .ensures .begins) (first .given .1) (find-symbol .ensures) (sign .given .1) in
+    let z = its-quote (now (args .s)) (args .a) (pre .0) (pre .1) (now (args .out)) (whole .last .1 .0) (whole .ensures .begins) (first .given .1) (find-symbol .ensures) (sign .given .1) (c .before .before .before .before .find-quote .ensures) (c .before .before .quote .given .1) in
     (reached-behind (z .1 .stands), omega (arith, f .room, f .reached .0, f .reached .2, y .0, z .0, whole .kept .1 .0, pre .2), f .few)
 
 enum-known-second : tie.Need-enum-known-second
@@ -128,7 +128,7 @@ returns-4 c =
     let pre = c .before .before .before .before .before .before .before .before .before .before .before .before .before .before .before .before .before .before .before .before .before .before .before .before .pre in
     let whole = c .before .before .before .before .before .before .before .before .before .before .before .before .before .before .before .before .before .before .before .before .whole in
     let replacement = c .before .before .before .before .before .replacement in
-    macro-replacement-fault (now (args .s)) (args .a) (pre .0) (pre .1) (now (args .out)) (whole .last .1 .0) (whole .ensures) (c .before .before .before .before .before .before .before .before .before .before .before .before .before .before .before .before .first .given .1) (c .before .before .before .before .before .before .before .before .before .before .before .before .before .before .find-symbol .ensures) (c .before .before .before .before .before .before .before .before .before .before .before .before .sign .given .1) (c .before .before .before .before .before .before .before .before .before .before .find-quote .ensures) (c .before .before .before .before .before .before .before .before .quote .given .1) (replacement .last .1 .0) (replacement .ensures) (c .before .enum-told4 .given .1) (c .no-end .ensures)
+    macro-replacement-fault (now (args .s)) (args .a) (pre .0) (pre .1) (now (args .out)) (whole .last .1 .0) (whole .ensures .begins) (c .before .before .before .before .before .before .before .before .before .before .before .before .before .before .before .before .first .given .1) (c .before .before .before .before .before .before .before .before .before .before .before .before .before .before .find-symbol .ensures) (c .before .before .before .before .before .before .before .before .before .before .before .before .sign .given .1) (c .before .before .before .before .before .before .before .before .before .before .find-quote .ensures) (c .before .before .before .before .before .before .before .before .quote .given .1) (replacement .last .1 .0) (replacement .ensures) (c .before .enum-told4 .given .1) (c .no-end .ensures)
 
 commands-requires : tie.Need-commands-requires
 commands-requires c κs =
@@ -141,10 +141,10 @@ commands-requires c κs =
     let find-quote = c .before .before .before .before .before .before .before .before .before .before .before .find-quote in
     let quote = c .before .before .before .before .before .before .before .before .before .quote in
     let replacement = c .before .before .before .before .before .before .replacement in
-    let f = its-pattern (now (args .s)) (args .a) (pre .0) (pre .1) (now (args .out)) (whole .last .1 .0) (whole .ensures) (first .given .1) in
-    let y = its-symbol (now (args .s)) (args .a) (pre .0) (pre .1) (now (args .out)) (whole .last .1 .0) (whole .ensures) (first .given .1) (find-symbol .ensures) (sign .given .1) in
-    let z = its-quote (now (args .s)) (args .a) (pre .0) (pre .1) (now (args .out)) (whole .last .1 .0) (whole .ensures) (first .given .1) (find-symbol .ensures) (sign .given .1) (find-quote .ensures) (quote .given .1) in
-    let w = its-replacement (now (args .s)) (args .a) (pre .0) (pre .1) (now (args .out)) (whole .last .1 .0) (whole .ensures) (first .given .1) (find-symbol .ensures) (sign .given .1) (find-quote .ensures) (quote .given .1) (replacement .last .1 .0) (replacement .ensures) (c .before .before .second .given .1) in
+    let f = its-pattern (now (args .s)) (args .a) (pre .0) (pre .1) (now (args .out)) (whole .last .1 .0) (whole .ensures .begins) (first .given .1) in
+    let y = its-symbol (now (args .s)) (args .a) (pre .0) (pre .1) (now (args .out)) (whole .last .1 .0) (whole .ensures .begins) (first .given .1) (find-symbol .ensures) (sign .given .1) in
+    let z = its-quote (now (args .s)) (args .a) (pre .0) (pre .1) (now (args .out)) (whole .last .1 .0) (whole .ensures .begins) (first .given .1) (find-symbol .ensures) (sign .given .1) (find-quote .ensures) (quote .given .1) in
+    let w = its-replacement (now (args .s)) (args .a) (pre .0) (pre .1) (now (args .out)) (whole .last .1 .0) (whole .ensures .begins) (first .given .1) (find-symbol .ensures) (sign .given .1) (find-quote .ensures) (quote .given .1) (replacement .last .1 .0) (replacement .ensures) (c .before .before .second .given .1) in
     (w .reached, omega (arith, f .room, f .reached .0, f .reached .2, y .0, z .0, w .room, w .further, w .reached .2, replacement .kept .1 .0, whole .kept .1 .0, pre .2), f .few)
 
 enum-known-third : tie.Need-enum-known-third
@@ -166,7 +166,7 @@ returns-5 c =
     let whole = c .before .before .before .before .before .before .before .before .before .before .before .before .before .before .before .before .before .before .before .before .before .before .before .before .before .before .before .whole in
     let replacement = c .before .before .before .before .before .before .before .before .before .before .before .before .replacement in
     let commands = c .before .before .before .before .before .commands in
-    macro-commands-fault (now (args .s)) (args .a) (pre .0) (pre .1) (now (args .out)) (whole .last .1 .0) (whole .ensures) (c .before .before .before .before .before .before .before .before .before .before .before .before .before .before .before .before .before .before .before .before .before .before .before .first .given .1) (c .before .before .before .before .before .before .before .before .before .before .before .before .before .before .before .before .before .before .before .before .before .find-symbol .ensures) (c .before .before .before .before .before .before .before .before .before .before .before .before .before .before .before .before .before .before .before .sign .given .1) (c .before .before .before .before .before .before .before .before .before .before .before .before .before .before .before .before .before .find-quote .ensures) (c .before .before .before .before .before .before .before .before .before .before .before .before .before .before .before .quote .given .1) (replacement .last .1 .0) (replacement .ensures) (c .before .before .before .before .before .before .before .before .second .given .1) (commands .last .1 .0) (commands .ensures) (c .before .enum-told5 .given .1) (c .no-end2 .ensures)
+    macro-commands-fault (now (args .s)) (args .a) (pre .0) (pre .1) (now (args .out)) (whole .last .1 .0) (whole .ensures .begins) (c .before .before .before .before .before .before .before .before .before .before .before .before .before .before .before .before .before .before .before .before .before .before .before .first .given .1) (c .before .before .before .before .before .before .before .before .before .before .before .before .before .before .before .before .before .before .before .before .before .find-symbol .ensures) (c .before .before .before .before .before .before .before .before .before .before .before .before .before .before .before .before .before .before .before .sign .given .1) (c .before .before .before .before .before .before .before .before .before .before .before .before .before .before .before .before .before .find-quote .ensures) (c .before .before .before .before .before .before .before .before .before .before .before .before .before .before .before .quote .given .1) (replacement .last .1 .0) (replacement .ensures) (c .before .before .before .before .before .before .before .before .second .given .1) (commands .last .1 .0) (commands .ensures) (c .before .enum-told5 .given .1) (c .no-end2 .ensures)
 
 sub-if1 : tie.Need-sub-if1
 sub-if1 c =
@@ -175,7 +175,7 @@ sub-if1 c =
     let whole = c .before .before .before .before .before .before .before .before .before .before .before .before .before .before .before .before .before .before .before .before .before .before .before .before .before .before .before .whole in
     let replacement = c .before .before .before .before .before .before .before .before .before .before .before .before .replacement in
     let commands = c .before .before .before .before .before .commands in
-    macro-order (now (args .s)) (args .a) (pre .0) (pre .1) (now (args .out)) (whole .last .1 .0) (whole .ensures) (c .before .before .before .before .before .before .before .before .before .before .before .before .before .before .before .before .before .before .before .before .before .before .before .first .given .1) (c .before .before .before .before .before .before .before .before .before .before .before .before .before .before .before .before .before .before .before .before .before .find-symbol .ensures) (c .before .before .before .before .before .before .before .before .before .before .before .before .before .before .before .before .before .before .before .sign .given .1) (c .before .before .before .before .before .before .before .before .before .before .before .before .before .before .before .before .before .find-quote .ensures) (c .before .before .before .before .before .before .before .before .before .before .before .before .before .before .before .quote .given .1) (replacement .last .1 .0) (replacement .ensures) (c .before .before .before .before .before .before .before .before .second .given .1) (commands .last .1 .0) (commands .ensures) (c .before .third .given .1) .2
+    macro-order (now (args .s)) (args .a) (pre .0) (pre .1) (now (args .out)) (whole .last .1 .0) (whole .ensures .begins) (c .before .before .before .before .before .before .before .before .before .before .before .before .before .before .before .before .before .before .before .before .before .before .before .first .given .1) (c .before .before .before .before .before .before .before .before .before .before .before .before .before .before .before .before .before .before .before .before .before .find-symbol .ensures) (c .before .before .before .before .before .before .before .before .before .before .before .before .before .before .before .before .before .before .before .sign .given .1) (c .before .before .before .before .before .before .before .before .before .before .before .before .before .before .before .before .before .find-quote .ensures) (c .before .before .before .before .before .before .before .before .before .before .before .before .before .before .before .quote .given .1) (replacement .last .1 .0) (replacement .ensures) (c .before .before .before .before .before .before .before .before .second .given .1) (commands .last .1 .0) (commands .ensures) (c .before .third .given .1) .2
 
 same-length-6 : tie.Need-same-length-6
 same-length-6 c = c .before .before .before .before .before .before .commands .kept .1 .0 ∙ (c .before .before .before .before .before .before .before .before .before .before .before .before .before .replacement .kept .1 .0 ∙ c .before .before .before .before .before .before .before .before .before .before .before .before .before .before .before .before .before .before .before .before .before .before .before .before .before .before .before .before .whole .kept .1 .0)
@@ -187,7 +187,7 @@ returns-6 c =
     let whole = c .before .before .before .before .before .before .before .before .before .before .before .before .before .before .before .before .before .before .before .before .before .before .before .before .before .before .before .before .whole in
     let replacement = c .before .before .before .before .before .before .before .before .before .before .before .before .before .replacement in
     let commands = c .before .before .before .before .before .before .commands in
-    macro-late (now (args .s)) (args .a) (pre .0) (pre .1) (now (args .out)) (whole .last .1 .0) (whole .ensures) (c .before .before .before .before .before .before .before .before .before .before .before .before .before .before .before .before .before .before .before .before .before .before .before .before .first .given .1) (c .before .before .before .before .before .before .before .before .before .before .before .before .before .before .before .before .before .before .before .before .before .before .find-symbol .ensures) (c .before .before .before .before .before .before .before .before .before .before .before .before .before .before .before .before .before .before .before .before .sign .given .1) (c .before .before .before .before .before .before .before .before .before .before .before .before .before .before .before .before .before .before .find-quote .ensures) (c .before .before .before .before .before .before .before .before .before .before .before .before .before .before .before .before .quote .given .1) (replacement .last .1 .0) (replacement .ensures) (c .before .before .before .before .before .before .before .before .before .second .given .1) (commands .last .1 .0) (commands .ensures) (c .before .before .third .given .1) (c .if1 .taken)
+    macro-late (now (args .s)) (args .a) (pre .0) (pre .1) (now (args .out)) (whole .last .1 .0) (whole .ensures .begins) (c .before .before .before .before .before .before .before .before .before .before .before .before .before .before .before .before .before .before .before .before .before .before .before .before .first .given .1) (c .before .before .before .before .before .before .before .before .before .before .before .before .before .before .before .before .before .before .before .before .before .before .find-symbol .ensures) (c .before .before .before .before .before .before .before .before .before .before .before .before .before .before .before .before .before .before .before .before .sign .given .1) (c .before .before .before .before .before .before .before .before .before .before .before .before .before .before .before .before .before .before .find-quote .ensures) (c .before .before .before .before .before .before .before .before .before .before .before .before .before .before .before .before .quote .given .1) (replacement .last .1 .0) (replacement .ensures) (c .before .before .before .before .before .before .before .before .before .second .given .1) (commands .last .1 .0) (commands .ensures) (c .before .before .third .given .1) (c .if1 .taken)
 
 symbol-code-requires : tie.Need-symbol-code-requires
 symbol-code-requires c κs = tt
@@ -199,7 +199,7 @@ sub-t22 c =
     let whole = c .before .before .before .before .before .before .before .before .before .before .before .before .before .before .before .before .before .before .before .before .before .before .before .before .before .before .before .before .before .whole in
     let replacement = c .before .before .before .before .before .before .before .before .before .before .before .before .before .before .replacement in
     let commands = c .before .before .before .before .before .before .before .commands in
-    macro-order (now (args .s)) (args .a) (pre .0) (pre .1) (now (args .out)) (whole .last .1 .0) (whole .ensures) (c .before .before .before .before .before .before .before .before .before .before .before .before .before .before .before .before .before .before .before .before .before .before .before .before .before .first .given .1) (c .before .before .before .before .before .before .before .before .before .before .before .before .before .before .before .before .before .before .before .before .before .before .before .find-symbol .ensures) (c .before .before .before .before .before .before .before .before .before .before .before .before .before .before .before .before .before .before .before .before .before .sign .given .1) (c .before .before .before .before .before .before .before .before .before .before .before .before .before .before .before .before .before .before .before .find-quote .ensures) (c .before .before .before .before .before .before .before .before .before .before .before .before .before .before .before .before .before .quote .given .1) (replacement .last .1 .0) (replacement .ensures) (c .before .before .before .before .before .before .before .before .before .before .second .given .1) (commands .last .1 .0) (commands .ensures) (c .before .before .before .third .given .1) .0
+    macro-order (now (args .s)) (args .a) (pre .0) (pre .1) (now (args .out)) (whole .last .1 .0) (whole .ensures .begins) (c .before .before .before .before .before .before .before .before .before .before .before .before .before .before .before .before .before .before .before .before .before .before .before .before .before .first .given .1) (c .before .before .before .before .before .before .before .before .before .before .before .before .before .before .before .before .before .before .before .before .before .before .before .find-symbol .ensures) (c .before .before .before .before .before .before .before .before .before .before .before .before .before .before .before .before .before .before .before .before .before .sign .given .1) (c .before .before .before .before .before .before .before .before .before .before .before .before .before .before .before .before .before .before .before .find-quote .ensures) (c .before .before .before .before .before .before .before .before .before .before .before .before .before .before .before .before .before .quote .given .1) (replacement .last .1 .0) (replacement .ensures) (c .before .before .before .before .before .before .before .before .before .before .second .given .1) (commands .last .1 .0) (commands .ensures) (c .before .before .before .third .given .1) .0
 
 sub-t30 : tie.Need-sub-t30
 sub-t30 c =
@@ -208,7 +208,7 @@ sub-t30 c =
     let whole = c .before .before .before .before .before .before .before .before .before .before .before .before .before .before .before .before .before .before .before .before .before .before .before .before .before .before .before .before .before .whole in
     let replacement = c .before .before .before .before .before .before .before .before .before .before .before .before .before .before .replacement in
     let commands = c .before .before .before .before .before .before .before .commands in
-    macro-order (now (args .s)) (args .a) (pre .0) (pre .1) (now (args .out)) (whole .last .1 .0) (whole .ensures) (c .before .before .before .before .before .before .before .before .before .before .before .before .before .before .before .before .before .before .before .before .before .before .before .before .before .first .given .1) (c .before .before .before .before .before .before .before .before .before .before .before .before .before .before .before .before .before .before .before .before .before .before .before .find-symbol .ensures) (c .before .before .before .before .before .before .before .before .before .before .before .before .before .before .before .before .before .before .before .before .before .sign .given .1) (c .before .before .before .before .before .before .before .before .before .before .before .before .before .before .before .before .before .before .before .find-quote .ensures) (c .before .before .before .before .before .before .before .before .before .before .before .before .before .before .before .before .before .quote .given .1) (replacement .last .1 .0) (replacement .ensures) (c .before .before .before .before .before .before .before .before .before .before .second .given .1) (commands .last .1 .0) (commands .ensures) (c .before .before .before .third .given .1) .1
+    macro-order (now (args .s)) (args .a) (pre .0) (pre .1) (now (args .out)) (whole .last .1 .0) (whole .ensures .begins) (c .before .before .before .before .before .before .before .before .before .before .before .before .before .before .before .before .before .before .before .before .before .before .before .before .before .first .given .1) (c .before .before .before .before .before .before .before .before .before .before .before .before .before .before .before .before .before .before .before .before .before .before .before .find-symbol .ensures) (c .before .before .before .before .before .before .before .before .before .before .before .before .before .before .before .before .before .before .before .before .before .sign .given .1) (c .before .before .before .before .before .before .before .before .before .before .before .before .before .before .before .before .before .before .before .find-quote .ensures) (c .before .before .before .before .before .before .before .before .before .before .before .before .before .before .before .before .before .quote .given .1) (replacement .last .1 .0) (replacement .ensures) (c .before .before .before .before .before .before .before .before .before .before .second .given .1) (commands .last .1 .0) (commands .ensures) (c .before .before .before .third .given .1) .1
 
 add-t22 : tie.Need-add-t22
 add-t22 c =
@@ -217,7 +217,7 @@ add-t22 c =
     let whole = c .before .before .before .before .before .before .before .before .before .before .before .before .before .before .before .before .before .before .before .before .before .before .before .before .before .before .before .before .before .whole in
     let replacement = c .before .before .before .before .before .before .before .before .before .before .before .before .before .before .replacement in
     let commands = c .before .before .before .before .before .before .before .commands in
-    let o = macro-order (now (args .s)) (args .a) (pre .0) (pre .1) (now (args .out)) (whole .last .1 .0) (whole .ensures) (c .before .before .before .before .before .before .before .before .before .before .before .before .before .before .before .before .before .before .before .before .before .before .before .before .before .first .given .1) (c .before .before .before .before .before .before .before .before .before .before .before .before .before .before .before .before .before .before .before .before .before .before .before .find-symbol .ensures) (c .before .before .before .before .before .before .before .before .before .before .before .before .before .before .before .before .before .before .before .before .before .sign .given .1) (c .before .before .before .before .before .before .before .before .before .before .before .before .before .before .before .before .before .before .before .find-quote .ensures) (c .before .before .before .before .before .before .before .before .before .before .before .before .before .before .before .before .before .quote .given .1) (replacement .last .1 .0) (replacement .ensures) (c .before .before .before .before .before .before .before .before .before .before .second .given .1) (commands .last .1 .0) (commands .ensures) (c .before .before .before .third .given .1) in
+    let o = macro-order (now (args .s)) (args .a) (pre .0) (pre .1) (now (args .out)) (whole .last .1 .0) (whole .ensures .begins) (c .before .before .before .before .before .before .before .before .before .before .before .before .before .before .before .before .before .before .before .before .before .before .before .before .before .first .given .1) (c .before .before .before .before .before .before .before .before .before .before .before .before .before .before .before .before .before .before .before .before .before .before .before .find-symbol .ensures) (c .before .before .before .before .before .before .before .before .before .before .before .before .before .before .before .before .before .before .before .before .before .sign .given .1) (c .before .before .before .before .before .before .before .before .before .before .before .before .before .before .before .before .before .before .before .find-quote .ensures) (c .before .before .before .before .before .before .before .before .before .before .before .before .before .before .before .before .before .quote .given .1) (replacement .last .1 .0) (replacement .ensures) (c .before .before .before .before .before .before .before .before .before .before .second .given .1) (commands .last .1 .0) (commands .ensures) (c .before .before .before .third .given .1) in
     omega (arith, o .3, (c .before .before .before .before .before .before .before .before .before .before .before .before .before .before .before .before .before .before .before .before .before .before .before .before .before .before .before .before .before .before .before .before .before))
 
 same-length-7 : tie.Need-same-length-7
@@ -230,7 +230,7 @@ returns-7 c =
     let whole = c .before .before .before .before .before .before .before .before .before .before .before .before .before .before .before .before .before .before .before .before .before .before .before .before .before .before .before .before .before .whole in
     let replacement = c .before .before .before .before .before .before .before .before .before .before .before .before .before .before .replacement in
     let commands = c .before .before .before .before .before .before .before .commands in
-    macro-made (now (args .s)) (args .a) (pre .0) (pre .1) (now (args .out)) (whole .last .1 .0) (whole .ensures) (c .before .before .before .before .before .before .before .before .before .before .before .before .before .before .before .before .before .before .before .before .before .before .before .before .before .first .given .1) (c .before .before .before .before .before .before .before .before .before .before .before .before .before .before .before .before .before .before .before .before .before .before .before .find-symbol .ensures) (c .before .before .before .before .before .before .before .before .before .before .before .before .before .before .before .before .before .before .before .before .before .sign .given .1) (c .before .before .before .before .before .before .before .before .before .before .before .before .before .before .before .before .before .before .before .find-quote .ensures) (c .before .before .before .before .before .before .before .before .before .before .before .before .before .before .before .before .before .quote .given .1) (replacement .last .1 .0) (replacement .ensures) (c .before .before .before .before .before .before .before .before .before .before .second .given .1) (commands .last .1 .0) (commands .ensures) (c .before .before .before .third .given .1) (c .symbol-code .ensures) (omega (arith, c .before .if1 .left))
+    macro-made (now (args .s)) (args .a) (pre .0) (pre .1) (now (args .out)) (whole .last .1 .0) (whole .ensures .begins) (c .before .before .before .before .before .before .before .before .before .before .before .before .before .before .before .before .before .before .before .before .before .before .before .before .before .first .given .1) (c .before .before .before .before .before .before .before .before .before .before .before .before .before .before .before .before .before .before .before .before .before .before .before .find-symbol .ensures) (c .before .before .before .before .before .before .before .before .before .before .before .before .before .before .before .before .before .before .before .before .before .sign .given .1) (c .before .before .before .before .before .before .before .before .before .before .before .before .before .before .before .before .before .before .before .find-quote .ensures) (c .before .before .before .before .before .before .before .before .before .before .before .before .before .before .before .before .before .quote .given .1) (replacement .last .1 .0) (replacement .ensures) (c .before .before .before .before .before .before .before .before .before .before .second .given .1) (commands .last .1 .0) (commands .ensures) (c .before .before .before .third .given .1) (c .symbol-code .ensures) (omega (arith, c .before .if1 .left))
 
 pub one-macro-spec : {M : Type 1} → statement M
 one-macro-spec =

@@ -1,7 +1,7 @@
 use borrow.Author.Needs.{needs}
 use native.Mathlib.Omega.{arith}
 use denote.Ref.{now}
-use Rattle.reading.proofs.Restoring.{onto-long, onto-zero, onto-table, not-all, onto-refused}
+use Rattle.reading.proofs.Restoring.{lent-size, lent-count, onto-long, onto-zero, onto-table, not-all, onto-refused}
 use Rattle.reading.proofs.file.read_onto.Statement.{statement}
 use Rattle.reading.proofs.file.read_onto.Tie as tie
 
@@ -18,7 +18,9 @@ slice-aggregate-add-macros : tie.Need-slice-aggregate-add-macros
 slice-aggregate-add-macros c = search needs
 
 add-macros-requires : tie.Need-add-macros-requires
-add-macros-requires c κs = search needs
+add-macros-requires c κs =
+    let pre = c .before .before .before .before .before .before .before .pre in
+    (lent-size pre, omega arith, lent-count pre)
 
 enum-known-added : tie.Need-enum-known-added
 enum-known-added c = c .match .keys1
@@ -40,7 +42,7 @@ returns-3 c =
     onto-table (now (args .file)) (args .count) (now (args .table)) (add-macros .last .1 .0) (omega (arith, c .before .before .before .before .before .before .before .before .before .before .before .if1 .left)) (first-zero .result) (first-zero .ensures) (omega (arith, c .before .before .before .before .before .before .before .before .before .if2 .left)) (add-macros .ensures) (c .before .enum-told .given .1) (c .table-of .ensures)
 
 mul-clear : tie.Need-mul-clear
-mul-clear c = search needs
+mul-clear c = omega (arith, lent-count (c .before .before .before .before .before .before .before .before .before .before .before .before .before .before .before .pre))
 
 sub-clear : tie.Need-sub-clear
 sub-clear c =
@@ -64,7 +66,7 @@ clear-requires c κs =
     let add-macros = c .before .before .before .before .before .before .before .add-macros in
     let first-zero = c .before .before .before .before .before .before .before .before .before .before .before .first-zero in
     let a = not-all (now (args .file)) (args .count) (now (args .table)) (add-macros .last .1 .0) (omega (arith, c .before .before .before .before .before .before .before .before .before .before .before .before .if1 .left)) (first-zero .result) (first-zero .ensures) (omega (arith, c .before .before .before .before .before .before .before .before .before .before .if2 .left)) (add-macros .ensures) (c .before .before .added .given .1) in
-    omega (arith, a .few, a .counted, add-macros .kept .1 .0, c .before .before .before .before .before .before .before .before .before .before .before .before .before .before .before .pre .0)
+    omega (arith, a .few, a .counted, add-macros .kept .1 .0, lent-size (c .before .before .before .before .before .before .before .before .before .before .before .before .before .before .before .pre))
 
 same-length-2 : tie.Need-same-length-2
 same-length-2 c = search needs

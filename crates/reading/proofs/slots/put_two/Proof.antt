@@ -1,16 +1,17 @@
+use native.Mathlib.Omega.{arith}
 use Rattle.tables.specs.Form.{two}
 use borrow.Author.Needs.{needs}
 use Rattle.reading.proofs.slots.put_two.Statement.{statement}
 use Rattle.reading.proofs.slots.put_two.Tie as tie
 
 cast-put-item : tie.Need-cast-put-item
-cast-put-item c = search needs
+cast-put-item c = omega arith
 
 cast-put-item-2 : tie.Need-cast-put-item-2
-cast-put-item-2 c = search needs
+cast-put-item-2 c = omega arith
 
 put-item-requires : tie.Need-put-item-requires
-put-item-requires c κs = search needs
+put-item-requires c κs = omega arith
 
 same-length : tie.Need-same-length
 same-length c = search needs

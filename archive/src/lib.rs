@@ -1,0 +1,5 @@
+//! The proved engine through its archive, beside the Rust version.
+
+pub mod clock;
+pub mod engine;
+pub mod files;

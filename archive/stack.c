@@ -1,0 +1,94 @@
+/* Measures the stack that calls use: each runs on a thread of its own whose
+   stack is painted first; what is no longer paint was used. */
+#define _GNU_SOURCE
+#include "../include/m7.h"
+#include <pthread.h>
+#include <stdio.h>
+#include <stdlib.h>
+#include <string.h>
+
+enum { STACK_BYTES = 16 << 20, PAINT = 0xA5 };
+
+static uint8_t table[M7_TABLE_BYTES];
+static uint8_t written[M7_FILE_BYTES];
+static uint8_t file[M7_FILE_BYTES];
+static size_t file_size;
+static m7_answer answer;
+
+static void *nothing(void *unused) { return unused; }
+
+static void *reads(void *unused)
+{
+    answer = m7_read(file, file_size, table, sizeof table);
+    return unused;
+}
+
+static void *writes(void *unused)
+{
+    answer = m7_write(table, sizeof table, written, sizeof written);
+    return unused;
+}
+
+/* The bytes of stack that a thread with this task uses. */
+static size_t used_by(void *(*task)(void *))
+{
+    uint8_t *stack = aligned_alloc(4096, STACK_BYTES);
+    pthread_attr_t attributes;
+    pthread_t thread;
+    size_t low = 0;
+    memset(stack, PAINT, STACK_BYTES);
+    pthread_attr_init(&attributes);
+    pthread_attr_setstack(&attributes, stack, STACK_BYTES);
+    if (pthread_create(&thread, &attributes, task, NULL) != 0)
+        exit(1);
+    pthread_join(thread, NULL);
+    while (low < STACK_BYTES && stack[low] == PAINT)
+        low++;
+    free(stack);
+    return STACK_BYTES - low;
+}
+
+static void show(const char *name, void *(*task)(void *))
+{
+    size_t idle = used_by(nothing);
+    size_t all = used_by(task);
+    printf("%-40s number %2u  %7zu bytes\n", name, answer.number, all - idle);
+}
+
+static void add(const char *text)
+{
+    memcpy(file + file_size, text, strlen(text));
+    file_size += strlen(text);
+}
+
+static void nested(int depth)
+{
+    int i;
+    file_size = 0;
+    add("'");
+    for (i = 0; i < depth; i++)
+        add("{");
+    add("a");
+    for (i = 0; i < depth; i++)
+        add("}");
+    add("'='{1}';");
+}
+
+int main(void)
+{
+    nested(99);
+    show("m7_read, 99 nested tags", reads);
+    show("m7_write, 99 nested tags", writes);
+    file_size = 0;
+    while (file_size + 12 <= sizeof file)
+        add("'a*-b'='c'; ");
+    show("m7_read, 97 macros", reads);
+    file_size = 0;
+    add("'");
+    while (file_size < 500)
+        add("[a-z]*");
+    add("'='';");
+    show("m7_read, classes", reads);
+    show("m7_write, classes", writes);
+    return 0;
+}

@@ -1,0 +1,3 @@
+pub mod Places
+pub mod Results
+pub mod Demand2

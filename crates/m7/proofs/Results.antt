@@ -1,0 +1,201 @@
+-- What the calls below say, taken to the results of the contracts.
+use Prim.Native.Nat.{ℕ, _+_, _-_, _*_, _≤_, _<_}
+use mathlib.Core.Path.{_≡_, refl, sym, ap, subst, _∙_}
+use mathlib.Core.Bool.{true, false}
+use mathlib.Core.List.{List, [], _∷_, _++_}
+use native.Mathlib.Numerals.{add-one}
+use native.Mathlib.Omega.{arith}
+use borrow.Author.Tests.{eq-eqb, ne-eqb}
+use lib.Dec.{eqb}
+use lib.ListN.{length, getD, take, set, replicate}
+use lib.Seq.{take-all, take-suc, take-suc-set}
+use Rattle.macros.specs.Bounds.{mostFileBytes, mostMacros}
+use Rattle.macros.specs.Refusals.{number, place, hostNumber, fileNumber}
+use Rattle.macros.specs.Macro.{Table, pick}
+use Rattle.macros.specs.Formed.{Octets}
+use Rattle.macros.specs.Read.{readFile, readOnto}
+use Rattle.macros.specs.Read.Read.{refusedAt, table}
+use Rattle.macros.specs.Write.{Written, writeOut}
+use Rattle.macros.specs.Write.Written.{refused, file}
+use Rattle.macros.specs.Accepted.{Accepted}
+use Rattle.macros.proofs.Laws.{read-keeps}
+use Rattle.tables.specs.Form.{slotBytes, tableBytes, slots, form}
+use Rattle.tables.specs.Check.{checks}
+use Rattle.tables.proofs.Basics.{clash, and-both}
+use Rattle.tables.proofs.Tables.{checkExact}
+use Rattle.lines.specs.State.{fresh}
+use Rattle.states.specs.Form.{stateBytes, stateForm}
+use Rattle.scanning.specs.Scan.{faultOf}
+use Rattle.reading.specs.File.{Lent, Onto}
+use Rattle.scanning.specs.declared.Fault.{Fault}
+use Rattle.reading.specs.declared.Reading.{Reading}
+use Rattle.reading.specs.declared.Reading.the-variants.{Table as TableOf, Refused as NoTable}
+use Rattle.writing.specs.Contract.{Reply, meaning, laidOut, SomeTable, WritesOut}
+use Rattle.writing.specs.Contract.{reply as replyOf}
+use Rattle.writing.specs.Contract.Reply.{size, refusal}
+use Rattle.writing.specs.Slots.{refusalOf, Holds}
+use Rattle.writing.specs.declared.Fault.{Fault as WritingFault}
+use Rattle.writing.specs.declared.Answer.{Answer as Writing}
+use Rattle.writing.specs.declared.Answer.the-variants.{Written as WrittenOut, Refused as NotWritten}
+use Rattle.m7.specs.declared.Answer.{Answer}
+use Rattle.m7.specs.Contract.{Result, Gives, reply, refuses, takes, ofReading, reads, ofWriting, sized, Writes, freshens}
+use Rattle.m7.proofs.Places.{onto-place, extent, out-extent}
+
+gives : {w v : Result} {a : Answer} {b : List ℕ} → w ≡ v → a ≡ v .answer → b ≡ v .memory → Gives w a b
+gives e f g = record { answers = f ∙ sym (ap (λ (x : Result). x .answer) e); holds = g ∙ sym (ap (λ (x : Result). x .memory) e) }
+
+-- READING
+
+-- a table without macros is accepted, and its form is zeros
+none-accepted : Accepted []
+none-accepted = record { count = omega arith; macros = tt }
+
+none-form : form [] ≡ replicate 98304 0
+unfolding form slots
+none-form = ap (λ (k : ℕ). replicate k 0) (let e : slotBytes * (mostMacros - 0) ≡ 98304 = omega arith in e)
+
+pub reads-sized : (s old : List ℕ) → length old ≡ tableBytes → reads s old ≡ ofReading old (readFile s)
+unfolding reads pick
+reads-sized s old h = rw (eq-eqb _ _ h)
+
+pub read-other : (s old : List ℕ) {a : Answer} → (length old ≡ tableBytes → ⊥) → a ≡ reply 3 0 0 → Gives (reads s old) a old
+unfolding reads pick refuses number place hostNumber
+read-other s old h e = let f : eqb (length old) tableBytes ≡ false = ne-eqb _ _ h in gives (rw f) e refl
+
+pub zero-lent : Lent (replicate 98304 0) 0
+zero-lent = record { itself = []; accepted = none-accepted; bytes = none-form; counted = refl }
+
+-- the copy, byte by byte
+pub copied-next : (from to : List ℕ) (i : ℕ) → i < length from → i < length to → take i to ≡ take i from → take (i + 1) (set to i (getD from i 0)) ≡ take (i + 1) from
+copied-next from to i g h e = rw add-one (take-suc-set to i (getD from i 0) h ∙ ap (λ (x : List ℕ). x ++ (getD from i 0 ∷ [])) e ∙ sym (take-suc from i 0 g))
+
+pub copied-all : (from to : List ℕ) (i : ℕ) → length from ≤ i → length to ≤ i → take i to ≡ take i from → to ≡ from
+copied-all from to i g h e = sym (take-all i to h) ∙ e ∙ take-all i from g
+
+-- the answer r of reading a file s onto the zero table
+module _ (s made : List ℕ) (r : Reading) (given : Onto s 0 (replicate 98304 0) made r) where
+  -- a table of n macros
+  module _ {n : ℕ} (e : r ≡ TableOf n) where
+    onto : (ks : Table) × (readOnto [] s ≡ table ks) × (n ≡ length ks) × (form ks ≡ made)
+    onto = subst (Onto s 0 (replicate 98304 0) made) e given [] none-accepted none-form refl
+
+    pub read-few : Octets s → n ≤ mostFileBytes
+    read-few o = let k = read-keeps [] s (onto .0) none-accepted o (onto .1) .accepted .count in let f = onto .2 in omega arith
+
+    pub read-taken : (old : List ℕ) {a : Answer} {b : List ℕ} → length old ≡ tableBytes → b ≡ made → a ≡ reply 0 0 n → Gives (reads s old) a b
+    unfolding readFile ofReading takes
+    read-taken old l f g = gives (reads-sized s old l ∙ ap (ofReading old) (onto .1)) (g ∙ ap (reply 0 0) (onto .2)) (f ∙ sym (onto .3))
+
+  -- a refusal with its place
+  module _ {f : Fault} {q : ℕ} (e : r ≡ NoTable f q) where
+    not-read : readOnto [] s ≡ refusedAt (faultOf f) q
+    not-read = subst (Onto s 0 (replicate 98304 0) made) e given [] none-accepted none-form refl .0
+
+    pub read-place : q ≤ mostFileBytes
+    read-place = onto-place [] s not-read
+
+    pub read-refused : (old : List ℕ) {a : Answer} {k : ℕ} → length old ≡ tableBytes → k ≡ fileNumber (faultOf f) → a ≡ reply k q 0 → Gives (reads s old) a old
+    unfolding readFile ofReading refuses number place
+    read-refused old l g h = gives (reads-sized s old l ∙ ap (ofReading old) not-read) (h ∙ ap (λ (k : ℕ). reply k q 0) g) refl
+
+-- WRITING OUT
+
+-- an answer of the writer, and 01's
+unfoldable answerOf : Reply → Answer
+answerOf (size n) = reply 0 0 n
+answerOf (refusal f p) = reply (fileNumber f) p 0
+
+told : (old : List ℕ) (w : Written) → answerOf (replyOf w) ≡ ofWriting old w .answer
+unfolding answerOf replyOf ofWriting takes refuses number place
+told old (refused f p) = refl
+told old (file s) = refl
+
+laid : (old : List ℕ) (w : Written) → laidOut w old ≡ ofWriting old w .memory
+unfolding laidOut ofWriting takes refuses
+laid old (refused f p) = refl
+laid old (file s) = refl
+
+-- a place, or a length
+unfoldable sizeIn : Reply → ℕ
+sizeIn (size n) = n
+sizeIn (refusal f p) = p
+
+size-extent : (w : Written) → sizeIn (replyOf w) ≡ extent w
+unfolding sizeIn replyOf extent
+size-extent (refused f p) = refl
+size-extent (file s) = refl
+
+module _ (t old : List ℕ) where
+  pub other-table : (length t ≡ tableBytes → ⊥) → sized t old ≡ false
+  unfolding sized
+  other-table h = let e : eqb (length t) tableBytes ≡ false = ne-eqb _ _ h in rw e
+
+  pub other-file : length t ≡ tableBytes → (length old ≡ mostFileBytes → ⊥) → sized t old ≡ false
+  unfolding sized
+  other-file g h = let e : eqb (length old) mostFileBytes ≡ false = ne-eqb _ _ h in let f : eqb (length t) tableBytes ≡ true = eq-eqb _ _ g in rw (f, e)
+
+  both-sized : length t ≡ tableBytes → length old ≡ mostFileBytes → sized t old ≡ true
+  unfolding sized
+  both-sized g h = and-both (eq-eqb _ _ g) (eq-eqb _ _ h)
+
+  -- 3
+  pub write-other : {a : Answer} → sized t old ≡ false → a ≡ reply 3 0 0 → Writes t old a old
+  unfolding refuses number place hostNumber
+  write-other z e =
+      record {
+        otherSize = λ y. gives refl e refl;
+        noTable = λ y. clash y z;
+        written = λ y. clash y z;
+      }
+
+  module _ (g : length t ≡ tableBytes) (h : length old ≡ mostFileBytes) (o : Octets t) where
+    -- 1
+    pub write-none : {a : Answer} → checks t ≡ false → a ≡ reply 1 0 0 → Writes t old a old
+    unfolding refuses number place hostNumber
+    write-none z e =
+        record {
+          otherSize = λ y. clash (both-sized g h) y;
+          noTable = λ y n. gives refl e refl;
+          written = λ y ms f. clash (checkExact t o .1 (ms, f .accepted, f .bytes)) z;
+        }
+
+    pub some-table : checks t ≡ true → SomeTable t
+    some-table z = let s = checkExact t o .0 z in (s .0, (s .1, s .2))
+
+    module _ (z : checks t ≡ true) {b : List ℕ} {r : Writing} (w : WritesOut t old b r) where
+      write-fits : sizeIn (meaning r) ≤ mostFileBytes
+      write-fits = let s = some-table z in let e = ap sizeIn (w .answers (s .0) (s .1)) ∙ size-extent (writeOut (s .0)) in omega (arith, out-extent (s .0))
+
+      write-gives : {a : Answer} → a ≡ answerOf (meaning r) → Writes t old a b
+      write-gives e =
+          record {
+            otherSize = λ y. clash (both-sized g h) y;
+            noTable = λ y n. let s = some-table z in absurd (n (s .0) (record { accepted = s .1 .0; bytes = s .1 .1 }));
+            written = λ y ms f. let k : Holds t ms = (f .accepted, f .bytes) in record { answers = e ∙ ap answerOf (w .answers ms k) ∙ told old (writeOut ms); holds = w .holds ms k ∙ laid old (writeOut ms) };
+          }
+
+      pub write-size : {n : ℕ} → r ≡ WrittenOut n → n ≤ mostFileBytes
+      unfolding sizeIn meaning
+      write-size e = subst (λ (x : Writing). sizeIn (meaning x) ≤ mostFileBytes) e write-fits
+
+      pub write-place : {f : WritingFault} {p : ℕ} → r ≡ NotWritten f p → p ≤ mostFileBytes
+      unfolding sizeIn meaning
+      write-place e = subst (λ (x : Writing). sizeIn (meaning x) ≤ mostFileBytes) e write-fits
+
+      pub write-taken : {n : ℕ} {a : Answer} → r ≡ WrittenOut n → a ≡ reply 0 0 n → Writes t old a b
+      unfolding answerOf meaning
+      write-taken e f = write-gives (f ∙ ap (λ (x : Writing). answerOf (meaning x)) (sym e))
+
+      pub write-refused : {f : WritingFault} {p k : ℕ} {a : Answer} → r ≡ NotWritten f p → k ≡ fileNumber (refusalOf f) → a ≡ reply k p 0 → Writes t old a b
+      unfolding answerOf meaning
+      write-refused {p = p} e n f = write-gives (f ∙ ap (λ (x : ℕ). reply x p 0) n ∙ ap (λ (x : Writing). answerOf (meaning x)) (sym e))
+
+-- THE FRESH STATE
+
+pub fresh-other : (old : List ℕ) {a : Answer} → (length old ≡ stateBytes → ⊥) → a ≡ reply 3 0 0 → Gives (freshens old) a old
+unfolding freshens pick refuses number place hostNumber
+fresh-other old h e = let f : eqb (length old) stateBytes ≡ false = ne-eqb _ _ h in gives (rw f) e refl
+
+pub fresh-stored : (old : List ℕ) {a : Answer} {b : List ℕ} → length old ≡ stateBytes → b ≡ stateForm fresh → a ≡ reply 0 0 0 → Gives (freshens old) a b
+unfolding freshens pick takes
+fresh-stored old h g e = let f : eqb (length old) stateBytes ≡ true = eq-eqb _ _ h in gives (rw f) e g

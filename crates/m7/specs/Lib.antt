@@ -1,0 +1,3 @@
+pub mod Contract
+pub mod OneResult
+pub mod Demand2

@@ -1,0 +1,158 @@
+// The engine for the host: reading a macro file, writing out a table, and the fresh state.
+use reading::Reading;
+use reading::file::read_onto;
+use scanning::Fault;
+use writing::Answer as Writing;
+use writing::Fault as WritingFault;
+ghost use mathlib.Core.Path.{_≡_};
+ghost use Prim.Native.Nat.{_≤_};
+ghost use lib.ListN.{length};
+ghost use Rattle.macros.specs.Bounds.{mostFileBytes};
+ghost use Rattle.macros.specs.Refusals.{fileNumber};
+ghost use Rattle.tables.specs.Form.{tableBytes};
+ghost use Rattle.scanning.specs.Scan.{faultOf};
+ghost use Rattle.writing.specs.Slots.{refusalOf};
+ghost use Rattle.m7.specs.Contract.{reply, Gives, reads, Writes, freshens};
+
+// The bytes of a table's memory, of a file's to write to, and of a state's.
+const TABLE_BYTES: usize = 98304;
+
+const FILE_BYTES: usize = 32768;
+
+const STATE_BYTES: usize = 26236;
+
+// What a call answers: 0 or a refusal's number, its place, the passes begun, a line's kind, and a length.
+#[repr(C)]
+pub struct Answer {
+    pub number: u32,
+    pub place: u32,
+    pub passes: u32,
+    pub kind: u32,
+    pub length: u32,
+}
+
+// Reads a macro file as a new table, whatever the memory held. The length is the number of macros; a refusal leaves the memory as it was.
+#[no_mangle]
+pub extern "C" fn m7_read(file: &[u8], table: &mut [u8]) -> Answer
+    ensures { λ r. ⌜ Gives (reads (now (file .entry)) (now (table .entry))) r (now (table .exit)) ⌝ }
+{
+    if table.len() != TABLE_BYTES {
+        return refusal(3, 0);
+    }
+    let mut made: [u8; 98304] = [0; 98304];
+    let reading = read_onto(file, &mut made, 0);
+    match reading {
+        Reading::Table(n) => {
+            copy_table(&made, table);
+            return taken(n);
+        }
+        Reading::Refused(f, p) => {
+            return refusal(file_number(f), p);
+        }
+    }
+}
+
+// Writes out a table. The length is the file's, zeros stand behind it; a refusal leaves the memory as it was.
+#[no_mangle]
+pub extern "C" fn m7_write(table: &[u8], file: &mut [u8]) -> Answer
+    ensures { λ r. ⌜ Writes (now (table .entry)) (now (file .entry)) r (now (file .exit)) ⌝ }
+{
+    if table.len() != TABLE_BYTES {
+        return refusal(3, 0);
+    }
+    if file.len() != FILE_BYTES {
+        return refusal(3, 0);
+    }
+    if !checking::is_table(table) {
+        return refusal(1, 0);
+    }
+    let writing = writing::write_table(table, file);
+    match writing {
+        Writing::Written(size) => {
+            return taken(size);
+        }
+        Writing::Refused(f, p) => {
+            return refusal(writing_number(f), p);
+        }
+    }
+}
+
+// Stores the fresh state.
+#[no_mangle]
+pub extern "C" fn m7_fresh(state: &mut [u8]) -> Answer
+    ensures { λ r. ⌜ Gives (freshens (now (state .entry))) r (now (state .exit)) ⌝ }
+{
+    if state.len() != STATE_BYTES {
+        return refusal(3, 0);
+    }
+    states::put_fresh(state);
+    taken(0)
+}
+
+// ANSWERS
+
+fn refusal(number: u32, place: usize) -> Answer
+    requires { ⌜ place ≤ mostFileBytes ⌝ }
+    ensures { λ r. ⌜ r ≡ reply number place 0 ⌝ }
+{
+    Answer {
+        number: number,
+        place: place as u32,
+        passes: 0,
+        kind: 0,
+        length: 0,
+    }
+}
+
+fn taken(size: usize) -> Answer
+    requires { ⌜ size ≤ mostFileBytes ⌝ }
+    ensures { λ r. ⌜ r ≡ reply 0 0 size ⌝ }
+{
+    Answer {
+        number: 0,
+        place: 0,
+        passes: 0,
+        kind: 0,
+        length: size as u32,
+    }
+}
+
+// The numbers 10 to 19.
+fn file_number(f: Fault) -> u32
+    ensures { λ r. ⌜ r ≡ fileNumber (faultOf f) ⌝ }
+{
+    match f {
+        Fault::FileTooLong => 10,
+        Fault::ZeroByte => 11,
+        Fault::Incomplete => 12,
+        Fault::BadClass => 13,
+        Fault::NoUnit => 14,
+        Fault::BadBrace => 15,
+        Fault::BadCall => 16,
+        Fault::NoElement => 17,
+        Fault::MacroTooLong => 18,
+        Fault::TooManyMacros => 19,
+    }
+}
+
+// 18 and 10.
+fn writing_number(f: WritingFault) -> u32
+    ensures { λ r. ⌜ r ≡ fileNumber (refusalOf f) ⌝ }
+{
+    match f {
+        WritingFault::MacroTooLong => 18,
+        WritingFault::FileTooLong => 10,
+    }
+}
+
+// Copies a table.
+fn copy_table(from: &[u8], to: &mut [u8])
+    requires { ⌜ (length (now from) ≡ tableBytes) × (length (now to) ≡ tableBytes) ⌝ }
+    ensures { λ _. ⌜ now (to .exit) ≡ now (from .entry) ⌝ }
+{
+    let mut i = 0;
+    while i < TABLE_BYTES {
+        to[i] = from[i];
+        i += 1;
+    }
+}

@@ -1,0 +1,4 @@
+pub mod Classes
+pub mod Signs
+pub mod Elements
+pub mod Insides

@@ -1,0 +1,54 @@
+-- Numbers of any length: what a run of digits does in every state that takes them.
+use Prim.Native.Nat.{ℕ, _+_, _≤_}
+use mathlib.Core.Path.{_≡_}
+use mathlib.Core.Bool.{Bool, true, false}
+use mathlib.Core.List.{List}
+use mathlib.Core.Option.{Option, none, some}
+use lib.Dec.{ltb}
+use lib.ListN.{length}
+use Rattle.macros.specs.Bounds.{mostCounter}
+use Rattle.macros.specs.Macro.{Macro, pick, digit}
+use Rattle.macros.specs.Read.{Part, partByte, skips, andDigit}
+use Rattle.macros.specs.Read.Step.{on}
+use Rattle.macros.specs.Read.Read.{refusedAt}
+use Rattle.scanning.specs.Scan.{faultOf, run, Here}
+use Rattle.scanning.specs.declared.Fault.the-variants.{Incomplete}
+use Rattle.scanning.specs.declared.Next.{Next}
+use Rattle.scanning.specs.declared.Next.the-variants.{Byte, Refused as NoByte}
+use Rattle.scanning.specs.declared.Number.{Number}
+use Rattle.scanning.specs.declared.Number.the-variants.{Got, Refused as NoNumber}
+
+-- states that take digits, and, where sp, pass over spaces
+pub record Eats (sp : Bool) (F : Option ℕ → Part) : Type 0 where
+  pub skipping : (o : Option ℕ) → skips (F o) ≡ true
+  pub digits : (o : Option ℕ) (b : ℕ) → digit b ≡ true → partByte (F o) b ≡ on (F (some (andDigit o b)))
+  pub spaces : (o : Option ℕ) → sp ≡ true → partByte (F o) 32 ≡ on (F o)
+
+-- what is kept of a number: no number is asked for above the largest counter
+unfoldable pub most : ℕ → ℕ
+most n = pick (ltb n (mostCounter + 1)) n (mostCounter + 1)
+
+-- that n and m are what the code keeps of a number: its value, at most 1,000,000,000, and whether it has a digit
+abbrev pub Kept : Option ℕ → ℕ → Bool → Type 0
+Kept none n m = (n ≡ 0) × (m ≡ false)
+Kept (some v) n m = (n ≡ most v) × (m ≡ true)
+
+-- the digits from p up to q have the value of which n and m are kept
+pub record Digits (s : List ℕ) (a p : ℕ) (sp : Bool) (q n : ℕ) (m : Bool) : Type 0 where
+  pub value : Option ℕ
+  pub kept : Kept value n m
+  pub answer : (F : Option ℕ → Part) → Eats sp F → (ms : List Macro) → run s a ms false p (F none) ≡ run s a ms false q (F value)
+
+-- the byte b behind the digits is no digit, and no space where spaces are passed over
+abbrev pub Behind : Bool → ℕ → Type 0
+Behind sp b = (digit b ≡ false) × (sp ≡ true → b ≡ 32 → ⊥)
+
+-- what reading a number from p on says, by the answer
+abbrev pub Counts : List ℕ → ℕ → ℕ → Bool → Number → Type 0
+Counts s a p sp (Got n m b q) = (p ≤ q) × Here s a q b × Behind sp b × (n ≤ mostCounter + 1) × Digits s a p sp q n m
+Counts s a p sp (NoNumber f q) = (q ≤ length s) × ((F : Option ℕ → Part) → Eats sp F → (ms : List Macro) → run s a ms false p (F none) ≡ refusedAt (faultOf f) q)
+
+-- a refusal handed on
+abbrev pub numberFault : Next → Number
+numberFault (Byte b q) = NoNumber Incomplete q
+numberFault (NoByte f q) = NoNumber f q

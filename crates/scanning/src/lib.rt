@@ -1,0 +1,33 @@
+// What every part of the macro-file reader is made of: the next byte of a macro, numbers, and writing items.
+// What each answer says of the machine of the definitions stands in specs/.
+pub mod items;
+pub mod scan;
+
+// The bytes from a macro's first quote to its `;`, both counted.
+pub const MOST_MACRO_BYTES: usize = 512;
+
+// A refusal of the table writer, in the order of their numbers: 10 to 19.
+pub enum Fault {
+    FileTooLong,
+    ZeroByte,
+    Incomplete,
+    BadClass,
+    NoUnit,
+    BadBrace,
+    BadCall,
+    NoElement,
+    MacroTooLong,
+    TooManyMacros,
+}
+
+// A byte with its place; or a refusal with its place.
+pub enum Next {
+    Byte(u8, usize),
+    Refused(Fault, usize),
+}
+
+// A number, at most 1,000,000,000, whether it has a digit, and the byte behind it with its place.
+pub enum Number {
+    Got(u64, bool, u8, usize),
+    Refused(Fault, usize),
+}
