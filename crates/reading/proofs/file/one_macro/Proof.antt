@@ -187,7 +187,7 @@ returns-6 c =
     let whole = c .before .before .before .before .before .before .before .before .before .before .before .before .before .before .before .before .before .before .before .before .before .before .before .before .before .before .before .before .whole in
     let replacement = c .before .before .before .before .before .before .before .before .before .before .before .before .before .replacement in
     let commands = c .before .before .before .before .before .before .commands in
-    macro-late (now (args .s)) (args .a) (pre .0) (pre .1) (now (args .out)) (whole .last .1 .0) (whole .ensures .begins) (c .before .before .before .before .before .before .before .before .before .before .before .before .before .before .before .before .before .before .before .before .before .before .before .before .first .given .1) (c .before .before .before .before .before .before .before .before .before .before .before .before .before .before .before .before .before .before .before .before .before .before .find-symbol .ensures) (c .before .before .before .before .before .before .before .before .before .before .before .before .before .before .before .before .before .before .before .before .sign .given .1) (c .before .before .before .before .before .before .before .before .before .before .before .before .before .before .before .before .before .before .find-quote .ensures) (c .before .before .before .before .before .before .before .before .before .before .before .before .before .before .before .before .quote .given .1) (replacement .last .1 .0) (replacement .ensures) (c .before .before .before .before .before .before .before .before .before .second .given .1) (commands .last .1 .0) (commands .ensures) (c .before .before .third .given .1) (c .if1 .taken)
+    macro-late (now (args .s)) (args .a) (pre .0) (pre .1) (now (args .out)) (whole .last .1 .0) (whole .ensures .begins) (c .before .before .before .before .before .before .before .before .before .before .before .before .before .before .before .before .before .before .before .before .before .before .before .before .first .given .1) (c .before .before .before .before .before .before .before .before .before .before .before .before .before .before .before .before .before .before .before .before .before .before .find-symbol .ensures) (c .before .before .before .before .before .before .before .before .before .before .before .before .before .before .before .before .before .before .before .before .sign .given .1) (c .before .before .before .before .before .before .before .before .before .before .before .before .before .before .before .before .before .before .find-quote .ensures) (c .before .before .before .before .before .before .before .before .before .before .before .before .before .before .before .before .quote .given .1) (replacement .last .1 .0) (replacement .ensures) (c .before .before .before .before .before .before .before .before .before .second .given .1) (commands .last .1 .0) (commands .ensures) (c .before .before .third .given .1) (omega (arith, c .if1 .taken))
 
 symbol-code-requires : tie.Need-symbol-code-requires
 symbol-code-requires c κs = tt
