@@ -1,6 +1,8 @@
 //! The proved engine's exported functions, with memories of its sizes.
 
 pub const TABLE_BYTES: usize = 98304;
+pub const STATE_BYTES: usize = 26236;
+pub const OUTPUT_BYTES: usize = 1054;
 pub const FILE_BYTES: usize = 32768;
 
 #[repr(C)]
@@ -16,6 +18,18 @@ pub struct Answer {
 extern "C" {
     fn m7_read(file: *const u8, file_size: usize, table: *mut u8, table_size: usize) -> Answer;
     fn m7_write(table: *const u8, table_size: usize, file: *mut u8, file_size: usize) -> Answer;
+    fn m7_fresh(state: *mut u8, state_size: usize) -> Answer;
+    fn m7_feed(
+        table: *mut u8,
+        table_size: usize,
+        state: *mut u8,
+        state_size: usize,
+        line: *const u8,
+        line_size: usize,
+        budget: u32,
+        output: *mut u8,
+        output_size: usize,
+    ) -> Answer;
 }
 
 pub fn read(file: &[u8], table: &mut [u8]) -> Answer {
@@ -24,4 +38,30 @@ pub fn read(file: &[u8], table: &mut [u8]) -> Answer {
 
 pub fn write(table: &[u8], file: &mut [u8]) -> Answer {
     unsafe { m7_write(table.as_ptr(), table.len(), file.as_mut_ptr(), file.len()) }
+}
+
+pub fn fresh(state: &mut [u8]) -> Answer {
+    unsafe { m7_fresh(state.as_mut_ptr(), state.len()) }
+}
+
+pub fn feed(
+    table: &mut [u8],
+    state: &mut [u8],
+    line: &[u8],
+    budget: u32,
+    output: &mut [u8],
+) -> Answer {
+    unsafe {
+        m7_feed(
+            table.as_mut_ptr(),
+            table.len(),
+            state.as_mut_ptr(),
+            state.len(),
+            line.as_ptr(),
+            line.len(),
+            budget,
+            output.as_mut_ptr(),
+            output.len(),
+        )
+    }
 }

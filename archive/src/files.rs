@@ -38,3 +38,29 @@ pub fn typical() -> Vec<u8> {
     }
     file
 }
+
+/// The table of the manual's section 10, as the stored answers have it.
+pub const MANUAL_10: &[u8] = b"1. '{[~\\;{}]}$' = '{1}\\;'; step 3\n\
+2. 'do {?6*} {?2*}={?6*},{?6*}$'= step 2\n\
+'for({2}={3}\\;{2}<={4}\\;{2}++)\\{',&(1,a);\n\
+3. 'do {?6*} {?2*}=/ step 2\n/{?6*},{?6*},{?6*}$' =\n\
+'for({2}={3}\\;{2}<={4}\\;{2}={2}+{5})\\{',&(1,a);\n\
+4. '^[ 0-9]*' = ''; step 5\n\
+5. '^&(a) *continue' = '\\}'; step 4\n\
+6. '^ &(a) *continue' = '\\}'; step 4\n\
+7. '  ' = ' '; step 1\n\
+8. '\\t' = ' '; step 1\n";
+
+/// Lines of a small program, as section 10 has them.
+pub fn program_lines(count: usize) -> Vec<Vec<u8>> {
+    let lines: [&[u8]; 5] =
+        [b"\tdo 10 i=1,100", b"   x = y", b"10 continue", b"do 20 k=1,9,2", b" 20 continue"];
+    (0..count).map(|i| lines[i % lines.len()].to_vec()).collect()
+}
+
+/// A macro of at most 512 bytes whose pattern has a unit as often as it can.
+pub fn full_macro(unit: &str, last: &str) -> Vec<u8> {
+    let fitting = (512 - 6 - last.len()) / unit.len();
+    let times = if unit.starts_with('{') { fitting.min(99) } else { fitting };
+    format!("'{}{last}'<'';", unit.repeat(times)).into_bytes()
+}

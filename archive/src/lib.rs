@@ -3,3 +3,4 @@
 pub mod clock;
 pub mod engine;
 pub mod files;
+pub mod form;

@@ -1,8 +1,9 @@
 //! Times of the proved engine beside the plain Rust version, in one run.
 
 use m7_archive::clock::{compare, time};
-use m7_archive::engine::{self, FILE_BYTES, TABLE_BYTES};
+use m7_archive::engine::{self, FILE_BYTES, OUTPUT_BYTES, STATE_BYTES, TABLE_BYTES};
 use m7_archive::files;
+use m7_reference::line::Engine;
 use m7_reference::read::read_file;
 use m7_reference::spell::some_file_spells;
 use m7_reference::write::write_table;
@@ -54,8 +55,31 @@ fn writing(name: &str, file: &[u8]) {
     compare(name, proved, plain);
 }
 
+/// Feeds all lines in turn from a fresh state; the time is that of all.
+fn feeding(name: &str, file: &[u8], lines: &[Vec<u8>], rounds: usize) {
+    let macros = read_file(file).unwrap();
+    let mut output = vec![0; OUTPUT_BYTES];
+    let proved = time(rounds, || {
+        let (mut table, mut state) = (table_of(file), vec![0; STATE_BYTES]);
+        engine::fresh(&mut state);
+        for line in lines {
+            black_box(engine::feed(&mut table, &mut state, line, 10_000, &mut output));
+        }
+    });
+    let plain = time(rounds, || {
+        let mut plain = Engine::new(macros.clone());
+        for line in lines {
+            black_box(plain.feed(line, 10_000));
+        }
+    });
+    compare(name, proved, plain);
+}
+
 fn main() {
-    println!("{:34} {:>9} {:>9} {:>9} {:>9} {:>6}", "microseconds", "best", "median", "Rust best", "median", "ratio");
+    println!(
+        "{:34} {:>9} {:>9} {:>9} {:>9} {:>6}",
+        "microseconds", "best", "median", "Rust best", "median", "ratio"
+    );
     let (longest, most, typical) = (files::longest(), files::most_macros(), files::typical());
     reading("read 32,768 bytes, 64 macros", &longest);
     reading("read 32,736 bytes, 96 macros", &most);
@@ -65,4 +89,19 @@ fn main() {
     checking("check 20 macros", &typical);
     checking("check no macro", b"");
     writing("check and write 20 macros", &typical);
+    feeding(
+        "manual's section 10, 20,000 lines",
+        files::MANUAL_10,
+        &files::program_lines(20_000),
+        5,
+    );
+    let song: Vec<Vec<u8>> =
+        (0..1000).map(|i| format!("@-{i}/4 dotted c{i} more s").into_bytes()).collect();
+    feeding("20 macros, 1,000 lines", &typical, &song, 5);
+    for (unit, last) in
+        [("a*-", "b"), ("a*", "b"), ("{a*-}", "b"), ("[ab]*-", "c"), ("?1*-", "\\n"), ("a", "b")]
+    {
+        let file = files::full_macro(unit, last);
+        feeding(&format!("{unit} {last}, a line of 1,054 a"), &file, &[vec![b'a'; 1054]], 5);
+    }
 }

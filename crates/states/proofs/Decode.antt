@@ -76,13 +76,10 @@ pub number-four : (n : ℕ) → Number n → number (four n) ≡ n
 unfolding four
 number-four n h = omega arith
 
-four-number : (c : List ℕ) → length c ≡ 4 → AllOf parts.Small c → four (number c) ≡ c
+-- the four bytes of the number that four bytes are
+four-of : (a b x d : ℕ) → a ≤ 255 → b ≤ 255 → x ≤ 255 → four (a + 256 * b + 65536 * x + 16777216 * d) ≡ a ∷ b ∷ x ∷ d ∷ []
 unfolding four
-four-number [] l s = absurd (omega arith)
-four-number (a ∷ []) l s = absurd (omega arith)
-four-number (a ∷ b ∷ []) l s = absurd (omega arith)
-four-number (a ∷ b ∷ x ∷ []) l s = absurd (omega arith)
-four-number (a ∷ b ∷ x ∷ d ∷ []) l s =
+four-of a b x d ha hb hx =
     let n : ℕ = a + 256 * b + 65536 * x + 16777216 * d in
     let e₀ : n % 256 ≡ a = omega arith in
     let q₁ : n / 256 ≡ b + 256 * x + 65536 * d = omega arith in
@@ -93,7 +90,14 @@ four-number (a ∷ b ∷ x ∷ d ∷ []) l s =
     let e₂ : n / 65536 % 256 ≡ x = rw q₂ r₂ in
     let e₃ : n / 16777216 ≡ d = omega arith in
     rw (e₀, e₁, e₂, e₃)
-four-number (a ∷ b ∷ x ∷ d ∷ y ∷ c) l s = absurd (omega arith)
+
+four-number : (c : List ℕ) → length c ≡ 4 → AllOf parts.Small c → four (number c) ≡ c
+four-number [] l s = absurd (omega arith)
+four-number (a ∷ []) l s = absurd (omega (arith, l))
+four-number (a ∷ b ∷ []) l s = absurd (omega (arith, l))
+four-number (a ∷ b ∷ x ∷ []) l s = absurd (omega (arith, l))
+four-number (a ∷ b ∷ x ∷ d ∷ []) l s = four-of a b x d (s .0) (s .1 .0) (s .1 .1 .0)
+four-number (a ∷ b ∷ x ∷ d ∷ y ∷ c) l s = absurd (omega (arith, l))
 
 number-true : (c : List ℕ) → numberCheck c ≡ true → Number (number c)
 unfolding numberCheck

@@ -42,25 +42,24 @@ unfolding stacksForm
 stacks-zero zero = refl
 stacks-zero (suc n) = ap (λ (t : List ℕ). t ++ stacksForm (replicate n freshStack)) stack-zero ∙ ap (λ (t : List ℕ). replicate 1000 0 ++ t) (stacks-zero n) ∙ run 1000 n
 
--- zeros, then the 26 pointers, then the 52 numbers
-stored : (b u o : List ℕ) (m : ℕ) → length b ≡ 236 + m → length u ≡ 26 → length o ≡ 208
+-- zeros, then u and o behind the first two of them, w bytes together
+stored : (w m : ℕ) (b u o : List ℕ) → length b ≡ 2 + (w + m) → length u ≡ 26 → length (u ++ o) ≡ w
     → replaced (replaced (replaced b 0 (replicate (length b) 0)) 2 u) 28 o ≡ 0 ∷ 0 ∷ ((u ++ o) ++ replicate m 0)
-stored b u o m h hu ho =
-    let z : List ℕ = replicate 234 0 ++ replicate m 0 in
-    let both : length (u ++ o) ≡ 234 = length-append u o ∙ omega arith in
-    let front : length {A = ℕ} (replicate 234 0) ≡ 234 = length-replicate {A = ℕ} 234 0 in
-    let sum : 2 + (234 + m) ≡ 236 + m = omega arith in
+stored w m b u o h hu both =
+    let z : List ℕ = replicate w 0 ++ replicate m 0 in
+    let sum : length (u ++ o) ≡ length u + length o = length-append u o in
+    let front : length {A = ℕ} (replicate w 0) ≡ w = length-replicate {A = ℕ} w 0 in
     let zeros : replaced b 0 (replicate (length b) 0) ≡ (0 ∷ 0 ∷ []) ++ z =
     replaced-whole b (replicate (length b) 0) (sym (length-replicate {A = ℕ} (length b) 0))
     ∙ ap (λ (k : ℕ). replicate k 0) h
-    ∙ sym (ap (λ (t : List ℕ). (0 ∷ 0 ∷ []) ++ t) (replicate-append-replicate 234 m 0) ∙ replicate-append-replicate 2 (234 + m) 0 ∙ ap (λ (k : ℕ). replicate k 0) sum) in
-    let long : length z ≡ 234 + m = length-append (replicate 234 0) (replicate m 0) ∙ omega (arith, length-replicate {A = ℕ} m 0) in
-    let all : length ((0 ∷ 0 ∷ []) ++ z) ≡ 236 + m = omega arith in
+    ∙ sym (ap (λ (t : List ℕ). (0 ∷ 0 ∷ []) ++ t) (replicate-append-replicate w m 0) ∙ replicate-append-replicate 2 (w + m) 0) in
+    let long : length z ≡ w + m = length-append (replicate w 0) (replicate m 0) ∙ omega (arith, length-replicate {A = ℕ} m 0) in
+    let all : length ((0 ∷ 0 ∷ []) ++ z) ≡ 2 + (w + m) = omega arith in
     ap (λ (t : List ℕ). replaced (replaced t 2 u) 28 o) zeros
     ∙ replaced-behind ((0 ∷ 0 ∷ []) ++ z) 2 28 u o (omega arith) (omega arith)
     ∙ replaced-right (0 ∷ 0 ∷ []) z 2 0 (u ++ o) refl
     ∙ ap (λ (t : List ℕ). 0 ∷ 0 ∷ t)
-    (replaced-left (replicate 234 0) (replicate m 0) 0 (u ++ o) (omega arith) ∙ ap (λ (t : List ℕ). t ++ replicate m 0) (replaced-whole (replicate 234 0) (u ++ o) (omega arith)))
+    (replaced-left (replicate w 0) (replicate m 0) 0 (u ++ o) (omega arith) ∙ ap (λ (t : List ℕ). t ++ replicate m 0) (replaced-whole (replicate w 0) (u ++ o) (omega arith)))
 
 form : stateForm fresh ≡ 0 ∷ 0 ∷ ((replicate 26 1 ++ ones 52) ++ replicate 26000 0)
 unfolding stateForm fresh
@@ -78,7 +77,7 @@ fresh-stored b z p e h hz hp he =
     let all : length b - 0 ≡ length b = omega arith in
     he
     ∙ ap (λ (t : List ℕ). replaced t 28 (ones 52)) (hp ∙ ap (λ (t : List ℕ). replaced t 2 (replicate 26 1)) (hz ∙ ap (λ (k : ℕ). replaced b 0 (replicate k 0)) all))
-    ∙ stored b (replicate 26 1) (ones 52) 26000 h (length-replicate {A = ℕ} 26 1) (length-ones 52)
+    ∙ stored 234 26000 b (replicate 26 1) (ones 52) h (length-replicate {A = ℕ} 26 1) (length-append (replicate 26 1) (ones 52) ∙ ap (λ (k : ℕ). 26 + k) (length-ones 52))
     ∙ sym form
 
 -- the fresh state is in range

@@ -107,11 +107,11 @@ pattern-text (p ∷ ps) f h = piece-text h (patternItems ps) (writePattern ps) (
 
 -- ACTIONS
 
-even-taken : (t r : List ℕ) → take (length t) (evened t ++ r) ≡ t
+pub even-taken : (t r : List ℕ) → take (length t) (evened t ++ r) ≡ t
 unfolding evened
 even-taken t r = rw (append-assoc t _ r) (take-append-seam t _)
 
-number-back : (n : ℕ) → n % 256 + 256 * ((n / 256) % 256) + 65536 * ((n / 65536) % 256) + 16777216 * (n / 16777216) ≡ n
+pub number-back : (n : ℕ) → n % 256 + 256 * ((n / 256) % 256) + 65536 * ((n / 65536) % 256) + 16777216 * (n / 16777216) ≡ n
 number-back n = omega arith
 
 call-text : (c : Call) (r : List ℕ) → actionText (callItems c ++ r) ≡ callBytes writeText c
@@ -191,18 +191,18 @@ call-size (storeText i (after plus) t) r = let z = even-length t in omega arith
 call-size (storeText i (after minus) t) r = let z = even-length t in omega arith
 call-size (setIncrement i n) r = refl
 
-action-size : (a : Action) (r : List ℕ) → actionSize (actionItems a ++ r) ≡ length (actionItems a)
+pub action-size : (a : Action) (r : List ℕ) → actionSize (actionItems a ++ r) ≡ length (actionItems a)
 unfolding actionItems actionSize pick
 action-size (text b) r = refl
 action-size (tag n) r = refl
 action-size (call c) r = call-size c r
 
 -- an action takes some bytes
-action-some : (a : Action) → 0 < length (actionItems a)
+pub action-some : (a : Action) → 0 < length (actionItems a)
 action-some a = let s = action-size a [] in let z = some-size (actionItems a ++ []) in omega arith
 
 -- the rest behind an action
-action-rest : (a : Action) (r : List ℕ) → drop (actionSize (actionItems a ++ r)) (actionItems a ++ r) ≡ r
+pub action-rest : (a : Action) (r : List ℕ) → drop (actionSize (actionItems a ++ r)) (actionItems a ++ r) ≡ r
 action-rest a r = drop-at (actionItems a) r (actionSize (actionItems a ++ r)) (sym (action-size a r))
 
 pub actions-text : (xs : List Action) → actionsText 0 (replacementItems xs) ≡ writeReplacement xs

@@ -21,16 +21,16 @@ part-text-length-end : tie.Need-part-text-length-end
 part-text-length-end c = let a = c .before .before in omega (arith, is-long (a .args .state .now) (a .pre .0), c .entry-at .ensures .0)
 
 text-length-requires : tie.Need-text-length-requires
-text-length-requires c κs = search needs
+text-length-requires c κs = tt
 
 add-result : tie.Need-add-result
 add-result c = let a = c .before .before .before .before in omega (arith, c .before .before .entry-at .ensures .0, text-fits (c .text-length .result) (c .before .before .entry-at .result) (drop (c .before .before .entry-at .result) (a .args .state .now)) (c .text-length .ensures))
 
 sub-result : tie.Need-sub-result
-sub-result c = search needs
+sub-result c = omega arith
 
 part-result-start : tie.Need-part-result-start
-part-result-start c = search needs
+part-result-start c = omega arith
 
 part-result-end : tie.Need-part-result-end
 part-result-end c = let a = c .before .before .before .before in omega (arith, is-long (a .args .state .now) (a .pre .0), c .before .before .entry-at .ensures .0, text-fits (c .text-length .result) (c .before .before .entry-at .result) (drop (c .before .before .entry-at .result) (a .args .state .now)) (c .text-length .ensures))

@@ -8,10 +8,10 @@ pointer-requires : tie.Need-pointer-requires
 pointer-requires c κs = search needs
 
 place-requires : tie.Need-place-requires
-place-requires c κs = search needs
+place-requires c κs = search
 
 mul-result : tie.Need-mul-result
-mul-result c = search needs
+mul-result c = omega arith
 
 sub-result : tie.Need-sub-result
 sub-result c =

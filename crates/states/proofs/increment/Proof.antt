@@ -6,7 +6,7 @@ use Rattle.states.proofs.increment.Statement.{statement}
 use Rattle.states.proofs.increment.Tie as tie
 
 place-requires : tie.Need-place-requires
-place-requires c κs = search needs
+place-requires c κs = omega arith
 
 mul-number-at : tie.Need-mul-number-at
 mul-number-at c = search needs

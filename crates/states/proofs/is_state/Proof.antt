@@ -1,6 +1,7 @@
 use denote.Ref.{now}
 use Rattle.states.proofs.Steps.{other-length, passes}
 use borrow.Author.Needs.{needs}
+use native.Mathlib.Omega.{arith}
 use Rattle.states.proofs.is_state.Statement.{statement}
 use Rattle.states.proofs.is_state.Tie as tie
 
@@ -8,10 +9,10 @@ returns : tie.Need-returns
 returns c = other-length (now (c .before .before .args .state)) (c .if1 .taken)
 
 shared-slice-read-trace : tie.Need-shared-slice-read-trace
-shared-slice-read-trace c = search needs
+shared-slice-read-trace c = omega arith
 
 shared-slice-read-nflag : tie.Need-shared-slice-read-nflag
-shared-slice-read-nflag c = search needs
+shared-slice-read-nflag c = omega (arith, c .before .before .if1 .left)
 
 sub-pointers-fit : tie.Need-sub-pointers-fit
 sub-pointers-fit c = search needs
@@ -23,7 +24,7 @@ part-pointers-fit-end : tie.Need-part-pointers-fit-end
 part-pointers-fit-end c = search needs
 
 pointers-fit-requires : tie.Need-pointers-fit-requires
-pointers-fit-requires c κs = search needs
+pointers-fit-requires c κs = tt
 
 sub-numbers-fit : tie.Need-sub-numbers-fit
 sub-numbers-fit c = search needs
@@ -35,19 +36,19 @@ part-numbers-fit-end : tie.Need-part-numbers-fit-end
 part-numbers-fit-end c = search needs
 
 numbers-fit-requires : tie.Need-numbers-fit-requires
-numbers-fit-requires c κs = search needs
+numbers-fit-requires c κs = search
 
 sub-entries-fit : tie.Need-sub-entries-fit
-sub-entries-fit c = search needs
+sub-entries-fit c = omega (arith, c .before .before .before .before .before .before .if1 .left)
 
 part-entries-fit-start : tie.Need-part-entries-fit-start
 part-entries-fit-start c = search needs
 
 part-entries-fit-end : tie.Need-part-entries-fit-end
-part-entries-fit-end c = search needs
+part-entries-fit-end c = omega (arith, c .before .before .before .before .before .before .if1 .left)
 
 entries-fit-requires : tie.Need-entries-fit-requires
-entries-fit-requires c κs = search needs
+entries-fit-requires c κs = omega arith
 
 returns-2 : tie.Need-returns-2
 returns-2 c =

@@ -4,19 +4,19 @@ use Rattle.states.proofs.number_at.Statement.{statement}
 use Rattle.states.proofs.number_at.Tie as tie
 
 shared-slice-read-wide : tie.Need-shared-slice-read-wide
-shared-slice-read-wide c = search needs
+shared-slice-read-wide c = omega arith
 
 wide-requires : tie.Need-wide-requires
-wide-requires c κs = search needs
+wide-requires c κs = tt
 
 add-wide : tie.Need-add-wide
 add-wide c = search needs
 
 shared-slice-read-wide-2 : tie.Need-shared-slice-read-wide-2
-shared-slice-read-wide-2 c = search needs
+shared-slice-read-wide-2 c = omega arith
 
 wide-requires-2 : tie.Need-wide-requires-2
-wide-requires-2 c κs = search needs
+wide-requires-2 c κs = tt
 
 mul-result : tie.Need-mul-result
 mul-result c = omega arith
@@ -31,7 +31,7 @@ shared-slice-read-wide-3 : tie.Need-shared-slice-read-wide-3
 shared-slice-read-wide-3 c = search needs
 
 wide-requires-3 : tie.Need-wide-requires-3
-wide-requires-3 c κs = search needs
+wide-requires-3 c κs = tt
 
 mul-result-2 : tie.Need-mul-result-2
 mul-result-2 c = omega arith
@@ -43,10 +43,10 @@ add-wide-3 : tie.Need-add-wide-3
 add-wide-3 c = search needs
 
 shared-slice-read-wide-4 : tie.Need-shared-slice-read-wide-4
-shared-slice-read-wide-4 c = search needs
+shared-slice-read-wide-4 c = omega arith
 
 wide-requires-4 : tie.Need-wide-requires-4
-wide-requires-4 c κs = search needs
+wide-requires-4 c κs = tt
 
 mul-result-3 : tie.Need-mul-result-3
 mul-result-3 c = omega arith
@@ -55,7 +55,7 @@ add-result-3 : tie.Need-add-result-3
 add-result-3 c = omega arith
 
 returns : tie.Need-returns
-returns c = search needs
+returns c = omega arith
 
 pub number-at-spec : {M : Type 1} → statement M
 number-at-spec =

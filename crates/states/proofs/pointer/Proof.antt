@@ -8,7 +8,7 @@ place-requires : tie.Need-place-requires
 place-requires c κs = search needs
 
 add-result : tie.Need-add-result
-add-result c = search needs
+add-result c = omega arith
 
 shared-slice-read-result : tie.Need-shared-slice-read-result
 shared-slice-read-result c = let a = c .before .before .before in omega (arith, is-long (a .args .state .now) (a .pre .0))

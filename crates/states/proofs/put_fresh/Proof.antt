@@ -1,5 +1,6 @@
 use borrow.Author.Needs.{needs}
 use Rattle.states.proofs.Fresh.{fresh-stored}
+use native.Mathlib.Omega.{arith}
 use Rattle.states.proofs.put_fresh.Statement.{statement}
 use Rattle.states.proofs.put_fresh.Tie as tie
 
@@ -13,7 +14,7 @@ put-ones-requires : tie.Need-put-ones-requires
 put-ones-requires c κs = search needs
 
 same-length : tie.Need-same-length
-same-length c = search needs
+same-length c = omega arith
 
 returns : tie.Need-returns
 returns c =

@@ -7,7 +7,7 @@ use Rattle.states.proofs.put_number.Statement.{statement}
 use Rattle.states.proofs.put_number.Tie as tie
 
 cast-state : tie.Need-cast-state
-cast-state c = search needs
+cast-state c = omega arith
 
 slice-write-state : tie.Need-slice-write-state
 slice-write-state c = search needs
@@ -16,7 +16,7 @@ cast-state-2 : tie.Need-cast-state-2
 cast-state-2 c = search needs
 
 add-state : tie.Need-add-state
-add-state c = search needs
+add-state c = omega arith
 
 slice-write-state-2 : tie.Need-slice-write-state-2
 slice-write-state-2 c = simp length-set (omega arith)
@@ -25,7 +25,7 @@ cast-state-3 : tie.Need-cast-state-3
 cast-state-3 c = search needs
 
 add-state-2 : tie.Need-add-state-2
-add-state-2 c = search needs
+add-state-2 c = omega arith
 
 slice-write-state-3 : tie.Need-slice-write-state-3
 slice-write-state-3 c = simp length-set (omega arith)

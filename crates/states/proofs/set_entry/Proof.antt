@@ -5,13 +5,13 @@ use Rattle.states.proofs.set_entry.Statement.{statement}
 use Rattle.states.proofs.set_entry.Tie as tie
 
 entry-at-requires : tie.Need-entry-at-requires
-entry-at-requires c κs = search needs
+entry-at-requires c κs = search
 
 put-text-requires : tie.Need-put-text-requires
 put-text-requires c κs = let a = c .before .before .before .before .before in omega (arith, is-long (a .args .state .now) (a .pre .0), c .before .entry-at .ensures .0, a .pre .3)
 
 add-fill : tie.Need-add-fill
-add-fill c = search needs
+add-fill c = omega arith
 
 add-fill-2 : tie.Need-add-fill-2
 add-fill-2 c = search needs

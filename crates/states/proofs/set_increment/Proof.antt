@@ -5,7 +5,7 @@ use Rattle.states.proofs.set_increment.Statement.{statement}
 use Rattle.states.proofs.set_increment.Tie as tie
 
 place-requires : tie.Need-place-requires
-place-requires c κs = search needs
+place-requires c κs = search
 
 mul-put-number : tie.Need-mul-put-number
 mul-put-number c = search needs
@@ -17,7 +17,7 @@ put-number-requires : tie.Need-put-number-requires
 put-number-requires c κs = let a = c .before .before .before in omega (arith, is-long (a .args .state .now) (a .pre .0))
 
 same-length : tie.Need-same-length
-same-length c = search needs
+same-length c = search
 
 returns : tie.Need-returns
 returns c = λ w h. let a = c .before .before .before .before .before .before in let called = c .before .before in increment-set (a .args .state .now) (called .put-number .last .0) (a .args .i) w h (a .pre .1) (a .args .n) (called .before .place .result) (a .pre .2) (called .before .place .ensures .0) (called .put-number .ensures)

@@ -9,7 +9,7 @@ place-requires : tie.Need-place-requires
 place-requires c κs = search needs
 
 add-at : tie.Need-add-at
-add-at c = search needs
+add-at c = omega arith
 
 slice-write-state : tie.Need-slice-write-state
 slice-write-state c = let a = c .before .before in omega (arith, is-long (a .args .state .now) (a .pre .0))

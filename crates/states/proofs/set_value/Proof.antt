@@ -11,13 +11,13 @@ mul-put-number : tie.Need-mul-put-number
 mul-put-number c = search needs
 
 add-put-number : tie.Need-add-put-number
-add-put-number c = search needs
+add-put-number c = omega arith
 
 put-number-requires : tie.Need-put-number-requires
 put-number-requires c κs = let a = c .before .before .before in omega (arith, is-long (a .args .state .now) (a .pre .0))
 
 same-length : tie.Need-same-length
-same-length c = search needs
+same-length c = search
 
 returns : tie.Need-returns
 returns c = λ w h. let a = c .before .before .before .before .before .before in let called = c .before .before in value-set (a .args .state .now) (called .put-number .last .0) (a .args .i) w h (a .pre .1) (a .args .n) (called .before .place .result) (a .pre .2) (called .before .place .ensures .0) (called .put-number .ensures)

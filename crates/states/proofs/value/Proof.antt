@@ -9,7 +9,7 @@ place-requires : tie.Need-place-requires
 place-requires c κs = search needs
 
 mul-number-at : tie.Need-mul-number-at
-mul-number-at c = search needs
+mul-number-at c = omega (arith, c .before .before .pre)
 
 add-number-at : tie.Need-add-number-at
 add-number-at c = search needs

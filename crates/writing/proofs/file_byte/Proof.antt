@@ -1,12 +1,12 @@
 -- Assumes nothing.
 use denote.Ref.{now}
 use Rattle.writing.proofs.Listed.{padded-file, padded-zero}
-use borrow.Author.Needs.{needs}
+use native.Mathlib.Omega.{arith}
 use Rattle.writing.proofs.file_byte.Statement.{statement}
 use Rattle.writing.proofs.file_byte.Tie as tie
 
 shared-slice-read-result : tie.Need-shared-slice-read-result
-shared-slice-read-result c = search needs
+shared-slice-read-result c = omega arith
 
 returns : tie.Need-returns
 returns c = padded-file (c .before .before .args .n) (c .before .before .args .i) (now (c .before .before .args .file)) (c .before .before .pre .0) (c .before .before .pre .2) (c .before .if1 .taken)

@@ -14,25 +14,32 @@ write-slots-requires : tie.Need-write-slots-requires
 write-slots-requires c κs = (length-replicate {A = ℕ} 32768 0, c .before .before .before .pre .1)
 
 enum-known-answer : tie.Need-enum-known-answer
-enum-known-answer c = search needs
+enum-known-answer c = search
 
 enum-told : tie.Need-enum-told
-enum-told c = search needs
+enum-told c = search
 
 returns : tie.Need-returns
 returns c = write-none (c .before .before .before .write-slots .ensures) (c .enum-told .given .1)
 
 slice-aggregate-copy-file : tie.Need-slice-aggregate-copy-file
-slice-aggregate-copy-file c = search needs
+slice-aggregate-copy-file c = search
 
 copy-file-requires : tie.Need-copy-file-requires
-copy-file-requires c κs = (written-within (c .before .before .before .before .before .before .write-slots .ensures) (c .before .before .before .answer .given .1), (c .before .before .before .before .before .before .write-slots .kept .0 ∙ length-replicate {A = ℕ} 32768 0), c .before .before .before .before .before .before .before .before .before .before .pre .0)
+copy-file-requires c κs =
+    let b3 = c .before .before .before in
+    let b6 = b3 .before .before .before in
+    let b10 = b6 .before .before .before .before in
+    (written-within (b6 .write-slots .ensures) (b3 .answer .given .1), (b6 .write-slots .kept .0 ∙ length-replicate {A = ℕ} 32768 0), b10 .pre .0)
 
 same-length : tie.Need-same-length
-same-length c = search needs
+same-length c = search
 
 returns-2 : tie.Need-returns-2
-returns-2 c = write-file (c .before .before .before .before .before .before .before .before .before .write-slots .ensures) (c .before .before .before .before .before .before .answer .given .1) (c .before .before .before .before .before .before .before .before .before .write-slots .kept .0 ∙ length-replicate {A = ℕ} 32768 0) (c .before .before .copy-file .ensures)
+returns-2 c =
+    let b6 = c .before .before .before .before .before .before in
+    let b9 = b6 .before .before .before in
+    write-file (b9 .write-slots .ensures) (b6 .answer .given .1) (b9 .write-slots .kept .0 ∙ length-replicate {A = ℕ} 32768 0) (c .before .before .copy-file .ensures)
 
 pub write-table-spec : {M : Type 1} → statement M
 write-table-spec =

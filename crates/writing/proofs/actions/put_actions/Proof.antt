@@ -8,7 +8,6 @@ use Rattle.writing.specs.Puts.{Rest}
 use Rattle.writing.specs.Items.{actionText, actionSize, actionsText, Whole}
 use Rattle.writing.proofs.Putting.{room, rest-all, rest-next, by-bytes, rest-full, rest-done}
 use Rattle.writing.proofs.Steps.{actions-step, actions-end, whole-held, whole-next, tail-part, whole-end}
-use borrow.Author.Needs.{needs}
 use Rattle.writing.proofs.actions.put_actions.Statement.{statement}
 use Rattle.writing.proofs.actions.put_actions.Tie as tie
 
@@ -34,10 +33,10 @@ put-action-requires : tie.Need-put-action-requires Inv-loop μ-loop
 put-action-requires c κs = (record { within = omega arith; short = omega arith }, rw (tail-part (now (c .before .before .before .before .before .before .args .items)) (c .before .before .before .loop .at)) (whole-held (now (c .before .before .before .before .before .before .args .items)) (c .before .before .before .loop .at) (c .before .before .before .loop .inv .3) (omega arith)))
 
 enum-known-m : tie.Need-enum-known-m Inv-loop μ-loop
-enum-known-m c = search needs
+enum-known-m c = search
 
 enum-told : tie.Need-enum-told Inv-loop μ-loop
-enum-told c = search needs
+enum-told c = search
 
 same-length : tie.Need-same-length Inv-loop μ-loop
 same-length c = omega arith

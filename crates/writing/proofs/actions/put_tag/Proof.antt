@@ -9,52 +9,88 @@ use Rattle.writing.proofs.actions.put_tag.Statement.{statement}
 use Rattle.writing.proofs.actions.put_tag.Tie as tie
 
 slice-aggregate-put : tie.Need-slice-aggregate-put
-slice-aggregate-put c = search needs
+slice-aggregate-put c = omega arith
 
 put-requires : tie.Need-put-requires
-put-requires c κs = search needs
+put-requires c κs = search
 
 enum-known-m : tie.Need-enum-known-m
-enum-known-m c = search needs
+enum-known-m c = search
 
 enum-told : tie.Need-enum-told
-enum-told c = search needs
+enum-told c = search
 
 same-length : tie.Need-same-length
-same-length c = search needs
+same-length c =
+    let b4 = c .before .before .before .before in
+    omega (arith, b4 .put .kept .0)
 
 returns : tie.Need-returns
-returns c = no-more (digits (c .before .before .before .before .before .before .before .before .args .tag) ++ (125 ∷ [])) (c .before .before .before .before .put .ensures) (c .enum-told .given .1)
+returns c =
+    let b4 = c .before .before .before .before in
+    let b8 = b4 .before .before .before .before in
+    no-more (digits (b8 .args .tag) ++ (125 ∷ [])) (b4 .put .ensures) (c .enum-told .given .1)
 
 wide-requires : tie.Need-wide-requires
-wide-requires c κs = search needs
+wide-requires c κs = tt
 
 put-number-requires : tie.Need-put-number-requires
-put-number-requires c κs = record { within = room (c .before .before .before .before .before .before .before .put .ensures) (c .before .before .before .m .given .1); short = omega arith }
+put-number-requires c κs =
+    let b3 = c .before .before .before in
+    let b7 = b3 .before .before .before .before in
+    let b11 = b7 .before .before .before .before in
+    record { within = room (b7 .put .ensures) (b3 .m .given .1); short = omega (arith, b7 .put .kept .0, b11 .pre) }
 
 enum-known-k : tie.Need-enum-known-k
-enum-known-k c = search needs
+enum-known-k c = search
 
 enum-told-2 : tie.Need-enum-told-2
-enum-told-2 c = search needs
+enum-told-2 c = search
 
 same-length-2 : tie.Need-same-length-2
-same-length-2 c = search needs
+same-length-2 c =
+    let b4 = c .before .before .before .before in
+    let b5 = b4 .before in
+    let b8 = b5 .before .before .before in
+    let b12 = b8 .before .before .before .before in
+    omega (arith, b12 .put .kept .0, b4 .put-number .kept .0)
 
 returns-2 : tie.Need-returns-2
-returns-2 c = also (c .before .before .before .before .before .before .before .before .before .before .before .before .put .ensures) (c .before .before .before .before .before .before .before .before .m .given .1) (no-more (125 ∷ []) (by-bytes (ap digits (c .before .before .before .before .before .wide .ensures .0)) (c .before .before .before .before .put-number .ensures)) (c .enum-told2 .given .1))
+returns-2 c =
+    let b4 = c .before .before .before .before in
+    let b5 = b4 .before in
+    let b8 = b5 .before .before .before in
+    let b12 = b8 .before .before .before .before in
+    also (b12 .put .ensures) (b8 .m .given .1) (no-more (125 ∷ []) (by-bytes (ap digits (b5 .wide .ensures .0)) (b4 .put-number .ensures)) (c .enum-told2 .given .1))
 
 slice-aggregate-put-2 : tie.Need-slice-aggregate-put-2
 slice-aggregate-put-2 c = search needs
 
 put-requires-2 : tie.Need-put-requires-2
-put-requires-2 c κs = record { within = room (c .before .before .before .before .before .before .before .put-number .ensures) (c .before .before .before .k .given .1); short = omega arith }
+put-requires-2 c κs =
+    let b3 = c .before .before .before in
+    let b7 = b3 .before .before .before .before in
+    let b15 = b7 .before .before .before .before .before .before .before .before in
+    let b19 = b15 .before .before .before .before in
+    record { within = room (b7 .put-number .ensures) (b3 .k .given .1); short = omega (arith, b7 .put-number .kept .0, b15 .put .kept .0, b19 .pre) }
 
 same-length-3 : tie.Need-same-length-3
-same-length-3 c = search needs
+same-length-3 c =
+    let b6 = c .before .before .before .before .before .before in
+    let b10 = b6 .before .before .before .before in
+    let b11 = b10 .before in
+    let b14 = b11 .before .before .before in
+    let b18 = b14 .before .before .before .before in
+    omega (arith, b18 .put .kept .0, b10 .put-number .kept .0, c .before .before .put2 .kept .0)
 
 returns-3 : tie.Need-returns-3
-returns-3 c = also (c .before .before .before .before .before .before .before .before .before .before .before .before .before .before .before .before .before .before .put .ensures) (c .before .before .before .before .before .before .before .before .before .before .before .before .before .before .m .given .1) (also (by-bytes (ap digits (c .before .before .before .before .before .before .before .before .before .before .before .wide .ensures .0)) (c .before .before .before .before .before .before .before .before .before .before .put-number .ensures)) (c .before .before .before .before .before .before .k .given .1) (c .before .before .put2 .ensures))
+returns-3 c =
+    let b6 = c .before .before .before .before .before .before in
+    let b10 = b6 .before .before .before .before in
+    let b11 = b10 .before in
+    let b14 = b11 .before .before .before in
+    let b18 = b14 .before .before .before .before in
+    also (b18 .put .ensures) (b14 .m .given .1) (also (by-bytes (ap digits (b11 .wide .ensures .0)) (b10 .put-number .ensures)) (b6 .k .given .1) (c .before .before .put2 .ensures))
 
 pub put-tag-spec : {M : Type 1} → statement M
 put-tag-spec =

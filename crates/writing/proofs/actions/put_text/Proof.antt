@@ -8,7 +8,6 @@ use Rattle.macros.specs.Write.{writeText, textMarks}
 use Rattle.writing.specs.Puts.{Rest}
 use Rattle.writing.proofs.Putting.{room, rest-all, rest-next, rest-full, rest-done}
 use Rattle.writing.proofs.Steps.{text-step, text-end}
-use borrow.Author.Needs.{needs}
 use Rattle.writing.proofs.actions.put_text.Statement.{statement}
 use Rattle.writing.proofs.actions.put_text.Tie as tie
 
@@ -22,7 +21,7 @@ loop-holds : tie.Need-loop-holds Inv-loop μ-loop
 loop-holds c = (omega arith, omega arith, refl, rest-all)
 
 slice-aggregate-put-marked : tie.Need-slice-aggregate-put-marked Inv-loop μ-loop
-slice-aggregate-put-marked c = search needs
+slice-aggregate-put-marked c = omega arith
 
 shared-slice-read-put-marked : tie.Need-shared-slice-read-put-marked Inv-loop μ-loop
 shared-slice-read-put-marked c = omega arith
@@ -31,10 +30,10 @@ put-marked-requires : tie.Need-put-marked-requires Inv-loop μ-loop
 put-marked-requires c κs = record { within = omega arith; short = omega arith }
 
 enum-known-m : tie.Need-enum-known-m Inv-loop μ-loop
-enum-known-m c = search needs
+enum-known-m c = search
 
 enum-told : tie.Need-enum-told Inv-loop μ-loop
-enum-told c = search needs
+enum-told c = search
 
 same-length : tie.Need-same-length Inv-loop μ-loop
 same-length c = omega arith

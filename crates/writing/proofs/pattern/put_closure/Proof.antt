@@ -15,7 +15,7 @@ put-requires : tie.Need-put-requires
 put-requires c κs = search needs
 
 same-length : tie.Need-same-length
-same-length c = search needs
+same-length c = omega (arith, c .before .before .put .kept .0)
 
 returns : tie.Need-returns
 unfolding closureText pick
@@ -25,14 +25,17 @@ slice-aggregate-put-2 : tie.Need-slice-aggregate-put-2
 slice-aggregate-put-2 c = search needs
 
 put-requires-2 : tie.Need-put-requires-2
-put-requires-2 c κs = search needs
+put-requires-2 c κs = search
 
 same-length-2 : tie.Need-same-length-2
-same-length-2 c = search needs
+same-length-2 c = omega (arith, c .before .before .put2 .kept .0)
 
 returns-2 : tie.Need-returns-2
 unfolding closureText pick
-returns-2 c = simp (ne-eqb _ _ (c .before .before .before .before .before .before .if1 .left), eq-eqb _ _ (c .before .before .before .before .before .if2 .taken)) (c .before .before .put2 .ensures)
+returns-2 c =
+    let b5 = c .before .before .before .before .before in
+    let b6 = b5 .before in
+    simp (ne-eqb _ _ (b6 .if1 .left), eq-eqb _ _ (b5 .if2 .taken)) (c .before .before .put2 .ensures)
 
 returns-3 : tie.Need-returns-3
 unfolding closureText pick

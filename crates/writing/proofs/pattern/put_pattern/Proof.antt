@@ -8,7 +8,6 @@ use Rattle.writing.specs.Puts.{Rest}
 use Rattle.writing.specs.Items.{patternText}
 use Rattle.writing.proofs.Putting.{room, rest-all, rest-next, rest-full, rest-done}
 use Rattle.writing.proofs.Steps.{pattern-step, pattern-end}
-use borrow.Author.Needs.{needs}
 use Rattle.writing.proofs.pattern.put_pattern.Statement.{statement}
 use Rattle.writing.proofs.pattern.put_pattern.Tie as tie
 
@@ -34,10 +33,10 @@ put-item-requires : tie.Need-put-item-requires Inv-loop μ-loop
 put-item-requires c κs = record { within = omega arith; short = omega arith }
 
 enum-known-m : tie.Need-enum-known-m Inv-loop μ-loop
-enum-known-m c = search needs
+enum-known-m c = search
 
 enum-told : tie.Need-enum-told Inv-loop μ-loop
-enum-told c = search needs
+enum-told c = search
 
 same-length : tie.Need-same-length Inv-loop μ-loop
 same-length c = omega arith
@@ -46,7 +45,7 @@ returns : tie.Need-returns Inv-loop μ-loop
 returns c = rest-full _ (c .before .before .before .before .before .before .before .before .before .loop .inv .4) (pattern-step (now (c .before .before .before .before .before .before .before .before .before .before .before .before .args .items)) (c .before .before .before .before .before .before .before .before .before .loop .at) (c .before .before .before .before .before .before .before .before .before .loop .held) (omega arith) refl) (c .before .before .before .before .put-item .ensures) (c .enum-told .given .1)
 
 element-code-requires : tie.Need-element-code-requires Inv-loop μ-loop
-element-code-requires c κs = search needs
+element-code-requires c κs = tt
 
 add-at : tie.Need-add-at Inv-loop μ-loop
 add-at c = omega arith

@@ -16,10 +16,10 @@ slice-aggregate-put-marked : tie.Need-slice-aggregate-put-marked
 slice-aggregate-put-marked c = search needs
 
 put-marked-requires : tie.Need-put-marked-requires
-put-marked-requires c κs = search needs
+put-marked-requires c κs = search
 
 same-length : tie.Need-same-length
-same-length c = search needs
+same-length c = omega (arith, c .before .before .put-marked .kept .0)
 
 returns : tie.Need-returns
 unfolding unitText patternMarks pick
@@ -29,33 +29,54 @@ slice-aggregate-put : tie.Need-slice-aggregate-put
 slice-aggregate-put c = search needs
 
 put-requires : tie.Need-put-requires
-put-requires c κs = search needs
+put-requires c κs = search
 
 enum-known-m : tie.Need-enum-known-m
-enum-known-m c = search needs
+enum-known-m c = search
 
 enum-told : tie.Need-enum-told
-enum-told c = search needs
+enum-told c = search
 
 same-length-2 : tie.Need-same-length-2
-same-length-2 c = search needs
+same-length-2 c =
+    let b4 = c .before .before .before .before in
+    omega (arith, b4 .put .kept .0)
 
 returns-2 : tie.Need-returns-2
 unfolding unitText patternMarks pick
-returns-2 c = simp (le-ltb _ _ (c .before .before .before .before .before .before .before .before .if1 .left), lt-ltb _ _ (c .before .before .before .before .before .before .before .if2 .taken)) (no-more (digits (c .before .before .before .before .before .before .before .before .before .before .args .b)) (c .before .before .before .before .put .ensures) (c .enum-told .given .1))
+returns-2 c =
+    let b4 = c .before .before .before .before in
+    let b7 = b4 .before .before .before in
+    let b8 = b7 .before in
+    let b10 = b8 .before .before in
+    simp (le-ltb _ _ (b8 .if1 .left), lt-ltb _ _ (b7 .if2 .taken)) (no-more (digits (b10 .args .b)) (b4 .put .ensures) (c .enum-told .given .1))
 
 wide-requires : tie.Need-wide-requires
-wide-requires c κs = search needs
+wide-requires c κs = tt
 
 put-number-requires : tie.Need-put-number-requires
-put-number-requires c κs = record { within = room (c .before .before .before .before .before .before .before .put .ensures) (c .before .before .before .m .given .1); short = omega arith }
+put-number-requires c κs =
+    let b3 = c .before .before .before in
+    let b7 = b3 .before .before .before .before in
+    let b13 = b7 .before .before .before .before .before .before in
+    record { within = room (b7 .put .ensures) (b3 .m .given .1); short = omega (arith, b7 .put .kept .0, b13 .pre) }
 
 same-length-3 : tie.Need-same-length-3
-same-length-3 c = search needs
+same-length-3 c =
+    let b3 = c .before .before .before in
+    let b6 = b3 .before .before .before in
+    let b10 = b6 .before .before .before .before in
+    omega (arith, b10 .put .kept .0, c .before .before .put-number .kept .0)
 
 returns-3 : tie.Need-returns-3
 unfolding unitText patternMarks pick
-returns-3 c = simp (le-ltb _ _ (c .before .before .before .before .before .before .before .before .before .before .before .before .before .before .if1 .left), lt-ltb _ _ (c .before .before .before .before .before .before .before .before .before .before .before .before .before .if2 .taken)) (by-bytes (ap (λ (x : ℕ). 63 ∷ digits x) (c .before .before .before .wide .ensures .0)) (also (c .before .before .before .before .before .before .before .before .before .before .put .ensures) (c .before .before .before .before .before .before .m .given .1) (c .before .before .put-number .ensures)))
+returns-3 c =
+    let b3 = c .before .before .before in
+    let b6 = b3 .before .before .before in
+    let b10 = b6 .before .before .before .before in
+    let b13 = b10 .before .before .before in
+    let b14 = b13 .before in
+    simp (le-ltb _ _ (b14 .if1 .left), lt-ltb _ _ (b13 .if2 .taken)) (by-bytes (ap (λ (x : ℕ). 63 ∷ digits x) (b3 .wide .ensures .0)) (also (b10 .put .ensures) (b6 .m .given .1) (c .before .before .put-number .ensures)))
 
 slice-aggregate-put-2 : tie.Need-slice-aggregate-put-2
 slice-aggregate-put-2 c = search needs
@@ -64,24 +85,32 @@ put-requires-2 : tie.Need-put-requires-2
 put-requires-2 c κs = search needs
 
 same-length-4 : tie.Need-same-length-4
-same-length-4 c = search needs
+same-length-4 c = omega (arith, c .before .before .put2 .kept .0)
 
 returns-4 : tie.Need-returns-4
 unfolding unitText patternMarks pick
-returns-4 c = simp (le-ltb _ _ (c .before .before .before .before .before .before .before .if1 .left), le-ltb _ _ (c .before .before .before .before .before .before .if2 .left), lt-ltb _ _ (c .before .before .before .before .before .if3 .taken)) (c .before .before .put2 .ensures)
+returns-4 c =
+    let b5 = c .before .before .before .before .before in
+    let b6 = b5 .before in
+    let b7 = b6 .before in
+    simp (le-ltb _ _ (b7 .if1 .left), le-ltb _ _ (b6 .if2 .left), lt-ltb _ _ (b5 .if3 .taken)) (c .before .before .put2 .ensures)
 
 slice-aggregate-put-3 : tie.Need-slice-aggregate-put-3
 slice-aggregate-put-3 c = search needs
 
 put-requires-3 : tie.Need-put-requires-3
-put-requires-3 c κs = search needs
+put-requires-3 c κs = search
 
 same-length-5 : tie.Need-same-length-5
-same-length-5 c = search needs
+same-length-5 c = omega (arith, c .before .before .put3 .kept .0)
 
 returns-5 : tie.Need-returns-5
 unfolding unitText patternMarks pick
-returns-5 c = simp (le-ltb _ _ (c .before .before .before .before .before .before .before .if1 .left), le-ltb _ _ (c .before .before .before .before .before .before .if2 .left), le-ltb _ _ (c .before .before .before .before .before .if3 .left)) (c .before .before .put3 .ensures)
+returns-5 c =
+    let b5 = c .before .before .before .before .before in
+    let b6 = b5 .before in
+    let b7 = b6 .before in
+    simp (le-ltb _ _ (b7 .if1 .left), le-ltb _ _ (b6 .if2 .left), le-ltb _ _ (b5 .if3 .left)) (c .before .before .put3 .ensures)
 
 pub put-unit-spec : {M : Type 1} → statement M
 put-unit-spec =

@@ -6,7 +6,6 @@ use denote.Ref.{now}
 use lib.ListN.{length}
 use Rattle.writing.proofs.Tabled.{table-length}
 use Rattle.writing.proofs.Listed.{Reaches, reach-none, reach-end, reach-all, here, reach-next, next-within, reach-stop}
-use borrow.Author.Needs.{needs}
 use Rattle.writing.proofs.slots.write_slots.Statement.{statement}
 use Rattle.writing.proofs.slots.write_slots.Tie as tie
 
@@ -47,10 +46,10 @@ write-macro-requires : tie.Need-write-macro-requires Inv-loop μ-loop
 write-macro-requires c κs = (omega arith, omega arith, here (now (c .before .before .before .before .before .before .before .before .args .table)) (c .before .before .before .before .before .loop .file) (c .before .before .before .before .before .loop .n) (c .before .before .before .before .before .loop .k) (c .before .before .before .before .before .loop .inv .3) (c .before .before .if1 .left) (c .before .before .before .before .before .before .before .before .pre .1 .0) (c .before .before .before .before .before .before .before .before .pre .1 .1) .parts)
 
 enum-known-answer : tie.Need-enum-known-answer Inv-loop μ-loop
-enum-known-answer c = search needs
+enum-known-answer c = search
 
 enum-told : tie.Need-enum-told Inv-loop μ-loop
-enum-told c = search needs
+enum-told c = search
 
 same-length-2 : tie.Need-same-length-2 Inv-loop μ-loop
 same-length-2 c = omega arith

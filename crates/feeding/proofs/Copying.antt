@@ -1,0 +1,42 @@
+-- Copying bytes over others, and zeros from a place on.
+-- Assumes nothing.
+use Prim.Native.Nat.{ℕ, _+_, _-_, _≤_, _<_}
+use mathlib.Core.Path.{_≡_, refl, sym, ap, _∙_}
+use mathlib.Core.List.{List, [], _∷_, _++_, append-nil}
+use native.Mathlib.Nat.{zero-add}
+use native.Mathlib.Omega.{arith}
+use lib.ListN.{length, getD, take, drop, set, replicate, length-append, length-replicate, drop-of-length-le}
+use lib.Seq.{take-at, drop-at}
+use Rattle.states.specs.Access.{replaced}
+use Rattle.states.proofs.Replaced.{text-more, text-end, fill-end}
+
+pub copy-more : (d s t : List ℕ) (i : ℕ) → i < length s → length s ≤ length d → t ≡ replaced d 0 (take i s) → set t i (getD s i 0) ≡ replaced d 0 (take (i + 1) s)
+copy-more d s t i h fit e = rw (zero-add i) at (text-more d t s 0 i h (omega arith) e)
+
+pub copy-end : (d s t : List ℕ) (i : ℕ) → length s ≤ i → t ≡ replaced d 0 (take i s) → t ≡ s ++ drop (length s) d
+unfolding replaced
+copy-end d s t i h e = rw (zero-add (length s)) at (text-end d t s 0 i h e)
+
+pub clear-end : (d t : List ℕ) (p i : ℕ) → p ≤ length d → i ≡ length d → t ≡ replaced d p (replicate (i - p) 0) → t ≡ take p d ++ replicate (length d - p) 0
+unfolding replaced
+clear-end d t p i l h e =
+    let z : List ℕ = replicate (length d - p) 0 in
+    let far : length d ≤ p + length z = omega (arith, length-replicate {A = ℕ} (length d - p) 0) in
+    fill-end d t p i (length d) 0 h e ∙ ap (λ (x : List ℕ). take p d ++ x) (ap (λ (x : List ℕ). z ++ x) (drop-of-length-le d far) ∙ append-nil z)
+
+-- a line, and zeros behind it
+pub laid : (d s t u : List ℕ) → length s ≤ length d → t ≡ s ++ drop (length s) d → u ≡ take (length s) t ++ replicate (length t - length s) 0 → length t ≡ length d
+    → u ≡ s ++ replicate (length d - length s) 0
+laid d s t u h e f l =
+    f ∙ (ap (λ (x : ℕ). take (length s) t ++ replicate (x - length s) 0) l
+    ∙ ap (λ (x : List ℕ). x ++ replicate (length d - length s) 0) (ap (take (length s)) e ∙ take-at s (drop (length s) d) (length s) refl))
+
+-- all of it copied
+pub copied-whole : (d s t : List ℕ) → length s ≡ length d → t ≡ s ++ drop (length s) d → t ≡ s
+copied-whole d s t h e =
+    let far : length d ≤ length s = omega arith in
+    e ∙ (ap (λ (x : List ℕ). s ++ x) (drop-of-length-le d far) ∙ append-nil s)
+
+-- the first bytes are those copied
+pub copied-front : (d s t : List ℕ) (n : ℕ) → length s ≡ n → t ≡ s ++ drop (length s) d → take n t ≡ s
+copied-front d s t n h e = ap (take n) e ∙ take-at s (drop (length s) d) n h

@@ -1,0 +1,224 @@
+-- One step of a line: the end, or a pass.
+-- Assumes nothing.
+use Prim.Native.Nat.{ℕ, suc, _+_, _-_, _*_, _≤_, _<_}
+use mathlib.Core.Path.{_≡_, refl, ap, sym, _∙_, subst}
+use mathlib.Core.Bool.{Bool, true, false}
+use mathlib.Core.List.{List, _++_}
+use native.Mathlib.Omega.{arith}
+use lib.ListN.{length, getD, take, drop}
+use lib.Seq.{length-take-le}
+use Rattle.macros.specs.Bounds.{mostMacros, mostLineBytes}
+use Rattle.macros.specs.Refusals.WorkRefusal.{budgetUsedUp}
+use Rattle.macros.specs.Macro.{Macro, Table}
+use Rattle.macros.specs.Formed.{Bytes}
+use Rattle.tables.specs.Form.{slotBytes, tableBytes}
+use Rattle.lines.specs.State.{State}
+use Rattle.lines.specs.Replacing.{Work}
+use Rattle.lines.specs.Replacing.Done.{bad, good}
+use Rattle.lines.specs.Pass.{pass, occurred, outcome}
+use Rattle.lines.specs.Line.{Line, isControl, textOf}
+use Rattle.states.specs.Access.{Holds, IsState}
+use Rattle.replacing.specs.Contract.{IsSlot, IsMoment}
+use Rattle.passing.specs.Contract.{Lent, Passes}
+use Rattle.passing.specs.Contract.{Comes as PassComes}
+use Rattle.replacing.specs.declared.Fault.{Fault}
+use Rattle.passing.specs.declared.Passed.{Passed}
+use Rattle.passing.specs.declared.Passed.the-variants.{Over as Passing, Refused as Refuses}
+use Rattle.feeding.specs.Contract.{IsTable}
+use Rattle.feeding.specs.Passing.{Counted, closedFlags, OpenBelow, Stands, Ready, GoesOn, Steps, Ends, endedOf}
+use Rattle.feeding.specs.declared.Why.the-variants.{BudgetUsedUp, AtWork}
+use Rattle.feeding.specs.declared.Stand.{Stand}
+use Rattle.feeding.specs.declared.Ended.{Ended}
+use Rattle.feeding.specs.declared.Ended.the-variants.{Done, Control, Refused}
+use Rattle.feeding.specs.declared.Next.{Next}
+use Rattle.feeding.specs.declared.Next.the-variants.{On, Over}
+use Rattle.feeding.proofs.Copying.{copied-front}
+use Rattle.feeding.proofs.Slotting.{SlotAt, slot-at, table-size}
+use Rattle.feeding.proofs.Running.{new-bytes, at-control, at-done, at-used, pass-refused, pass-none, pass-some}
+
+-- the bytes lent for the slot of the macro k
+abbrev pub slotPart : List ℕ → ℕ → List ℕ
+slotPart tb k = take (1024 * k + 1024 - 1024 * k) (drop (1024 * k) tb)
+
+part-slot : (tb : List ℕ) (k : ℕ) → slotPart tb k ≡ take slotBytes (drop (slotBytes * k) tb)
+part-slot tb k = let e : 1024 * k + 1024 - 1024 * k ≡ 1024 = omega arith in rw e refl
+
+-- a pass's answer, known
+done-as : {b b′ t out out′ s mk mk′ : List ℕ} {r : Passed} → Passes s t b b′ out out′ mk mk′ r → (r₂ : Passed) → r ≡ r₂ → Passes s t b b′ out out′ mk mk′ r₂
+done-as p r₂ e = rw e at p
+
+module _ {tb kn b tx nw mk fl : List ℕ} {count budget : ℕ} {a : Stand} (y : Ready tb kn b tx nw mk fl count budget a) where
+  pub step-control : {c : Bool} → c ≡ isControl (take (a .size) tx) → c ≡ true → Steps tb kn b b tx tx nw mk fl fl count budget a (Over (Control (a .size) (a .begun)))
+  step-control e f =
+      record {
+        goes = record {
+          comes = λ whole ms h l s. at-control tb ms h whole budget b tx fl a s (sym e ∙ f);
+          left = (y .size, y .bytes, y .state);
+        };
+      }
+
+  module _ {c : Bool} (e : c ≡ isControl (take (a .size) tx)) (f : c ≡ false) {top : ℕ} (o : OpenBelow fl (a .due) top) where
+    plain : isControl (take (a .size) tx) ≡ false
+    plain = sym e ∙ f
+
+    pub step-done : top < 1 → Steps tb kn b b tx tx nw mk fl fl count budget a (Over (Done (a .size) (a .occurred) (a .begun)))
+    step-done g =
+        let z : top ≡ 0 = omega arith in
+        record {
+          goes = record {
+            comes = λ whole ms h l s. at-done tb ms h whole budget b tx fl a s plain (omega (arith, y .due, l)) (subst (OpenBelow fl (a .due)) z o);
+            left = (y .size, y .state);
+          };
+        }
+
+    module _ (g : 1 ≤ top) where
+      abbrev k : ℕ
+      k = top - 1
+
+      opened : OpenBelow fl (a .due) (suc k)
+      opened = subst (OpenBelow fl (a .due)) (let z : top ≡ suc (top - 1) = omega arith in z) o
+
+      pub in-use : k < count
+      in-use = omega (arith, o .below, y .due)
+
+      pub few : count ≤ mostMacros
+      few = omega (arith, y .table .counted, y .table .isTable .accepted .count)
+
+      pub step-used : budget ≤ a .begun → Steps tb kn b b tx tx nw mk fl fl count budget a (Over (Refused BudgetUsedUp (a .begun)))
+      step-used q =
+          record {
+            goes = record {
+              comes = λ whole ms h l s. (
+                budgetUsedUp,
+                refl,
+                at-used tb ms h whole budget b tx fl a s plain (omega (arith, y .due, l)) k opened (slot-at tb ms h k (omega (arith, in-use, l))) q,
+              );
+              left = tt;
+            };
+          }
+
+      pub in-table : 1024 * k + 1024 ≤ length tb
+      in-table = omega (arith, in-use, few, table-size tb (y .table .macros) (y .table .isTable))
+
+      pub flag-there : k < length fl
+      flag-there = omega (arith, in-use, few, y .flags)
+
+      slot-of : (ms : Table) → IsTable tb ms → length ms ≡ count → SlotAt tb ms k
+      slot-of ms h l = slot-at tb ms h k (omega (arith, in-use, l))
+
+      is-slot : (ms : Table) (h : IsTable tb ms) (l : length ms ≡ count) → IsSlot (slotPart tb k) (slot-of ms h l .macro)
+      is-slot ms h l = record { spellable = slot-of ms h l .spellable; form = slot-of ms h l .bytes ∙ sym (part-slot tb k) }
+
+      pub pass-lent : Lent (slotPart tb k) kn (take (a .size) tx) b nw mk
+      pass-lent =
+          record {
+            macro = (slot-of (y .table .macros) (y .table .isTable) (y .table .counted) .macro, is-slot (y .table .macros) (y .table .isTable) (y .table .counted));
+            table = y .kinds;
+            bytes = y .bytes;
+            short = omega (arith, length-take-le (a .size) tx (omega (arith, y .size, y .text)), y .size);
+            state = y .state;
+            room = y .new;
+            clear = y .marks;
+          }
+
+      module _ {b′ nw′ mk′ : List ℕ} {r : Passed} (p : Passes (slotPart tb k) (take (a .size) tx) b b′ nw nw′ mk mk′ r) (room : a .begun < budget) where
+        pub step-refused : {x : Fault} {n : ℕ} {z : Ended} → r ≡ Refuses x n → z ≡ endedOf r (a .begun + 1) → Steps tb kn b b′ tx tx nw′ mk′ fl fl count budget a (Over z)
+        step-refused {x} {n} q i =
+            let p₂ = done-as p (Refuses x n) q in
+            rw (i ∙ ap (λ (w : Passed). endedOf w (a .begun + 1)) q)
+            (record {
+              goes = record {
+                comes = λ whole ms h l s.
+                    let u = p₂ .comes (slot-of ms h l .macro) (is-slot ms h l) (s .state) (s .holds) .moment in (
+                      _,
+                      refl,
+                      pass-refused tb ms h whole budget b tx fl a s plain (omega (arith, y .due, l)) k opened (slot-of ms h l) room (u .0) _ (u .1),
+                    );
+                left = tt;
+              };
+            })
+
+        module _ {o₂ : Bool} {n : ℕ} (q : r ≡ Passing o₂ n) where
+          over : Passes (slotPart tb k) (take (a .size) tx) b b′ nw nw′ mk mk′ (Passing o₂ n)
+          over = done-as p (Passing o₂ n) q
+
+          pub size-within : n ≤ mostLineBytes
+          size-within = over .within
+
+          module _ (w : length nw′ ≡ length nw) where
+            pub copied-fits : length (take n nw′) ≤ length tx
+            copied-fits = omega (arith, length-take-le n nw′ (omega (arith, size-within, w, y .new)), size-within, y .text)
+
+            here : PassComes (take (a .size) tx) b′ nw′ (Passing o₂ n) (slot-of (y .table .macros) (y .table .isTable) (y .table .counted) .macro) (y .state .0)
+            here = over .comes (slot-of (y .table .macros) (y .table .isTable) (y .table .counted) .macro) (is-slot (y .table .macros) (y .table .isTable) (y .table .counted)) (y .state .0) (y .state .1)
+
+            after : IsState b′
+            after = (here .moment .0 .state, here .moment .2 .state)
+
+            pub step-none : o₂ ≡ false → Steps tb kn b b′ tx tx nw′ mk′ fl fl count budget a (On (record { size = a .size; occurred = a .occurred; due = k; begun = a .begun + 1 }))
+            step-none j =
+                record {
+                  goes = (
+                    record {
+                      table = y .table;
+                      kinds = y .kinds;
+                      state = after;
+                      bytes = y .bytes;
+                      text = y .text;
+                      new = w ∙ y .new;
+                      marks = over .cleared ∙ y .marks;
+                      flags = y .flags;
+                      size = y .size;
+                      due = omega (arith, in-use);
+                      begun = omega (arith, room);
+                    },
+                    refl,
+                    λ whole ms h l s.
+                        let u = over .comes (slot-of ms h l .macro) (is-slot ms h l) (s .state) (s .holds) in
+                        pass-none tb ms h whole budget b tx fl a s plain (omega (arith, y .due, l)) k opened (slot-of ms h l) room (u .moment .0) (u .moment .1) (sym (u .says) ∙ j) b′ (u .moment .2 .state),
+                  );
+                }
+
+            module _ (j : o₂ ≡ true) {tx′ fl′ : List ℕ} (d : tx′ ≡ take n nw′ ++ drop (length (take n nw′)) tx) (m : length tx′ ≡ length tx)
+                (x : fl′ ≡ closedFlags fl (getD tb (1024 * k) 0) k) (v : length fl′ ≡ length fl) where
+              front : take n tx′ ≡ take n nw′
+              front = copied-front tx (take n nw′) tx′ n (length-take-le n nw′ (omega (arith, size-within, w, y .new))) d
+
+              pub step-some : Steps tb kn b b′ tx tx′ nw′ mk′ fl fl′ count budget a (On (record { size = n; occurred = true; due = count; begun = a .begun + 1 }))
+              step-some =
+                  record {
+                    goes = (
+                      record {
+                        table = y .table;
+                        kinds = y .kinds;
+                        state = after;
+                        bytes = subst Bytes (here .moment .2 .line ∙ sym front)
+                            (new-bytes (slot-of (y .table .macros) (y .table .isTable) (y .table .counted) .macro) (take (a .size) tx) (y .state .0) (here .moment .0) (here .moment .1)
+                            (slot-of (y .table .macros) (y .table .isTable) (y .table .counted) .spellable .0) (y .bytes) (y .state .1 .inRange));
+                        text = m ∙ y .text;
+                        new = w ∙ y .new;
+                        marks = over .cleared ∙ y .marks;
+                        flags = v ∙ y .flags;
+                        size = size-within;
+                        due = omega arith;
+                        begun = omega (arith, room);
+                      },
+                      refl,
+                      λ whole ms h l s.
+                          let u = over .comes (slot-of ms h l .macro) (is-slot ms h l) (s .state) (s .holds) in
+                          pass-some tb ms h whole budget b tx fl a s plain (omega (arith, y .due, l)) k opened (slot-of ms h l) room (u .moment .0) (u .moment .1) (sym (u .says) ∙ j) b′ tx′ fl′ n count
+                          (u .moment .2 .state) (u .moment .2 .line ∙ sym front) (omega (arith, in-use, few, y .flags)) x l,
+                    );
+                  }
+
+-- THE LOOP
+
+module _ {tb kn b b′ tx tx′ nw′ mk′ fl fl′ : List ℕ} {count budget : ℕ} {a : Stand} {r : Next} (x : Steps tb kn b b′ tx tx′ nw′ mk′ fl fl′ count budget a r) where
+  pub goes-on : {z : Stand} → r ≡ On z → GoesOn tb kn b b′ tx tx′ nw′ mk′ fl fl′ count budget a (On z)
+  goes-on e = rw e at (x .goes)
+
+  pub comes-over : {z : Ended} → r ≡ Over z → {b₀ tx₀ fl₀ : List ℕ} {a₀ : Stand} → ((whole : Line) (ms : Table) → IsTable tb ms → length ms ≡ count → Stands whole ms budget b₀ tx₀ fl₀ a₀ → Stands whole ms budget b tx fl a)
+      → Ends tb b₀ b′ tx₀ tx′ fl₀ count budget a₀ z
+  comes-over {z} e f =
+      let g : Ends tb b b′ tx tx′ fl count budget a z = rw e at (x .goes) in
+      record { comes = λ whole ms h l s. g .comes whole ms h l (f whole ms h l s); left = g .left }

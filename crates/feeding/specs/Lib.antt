@@ -1,0 +1,4 @@
+pub mod Contract
+pub mod Passing
+pub mod Ordering
+pub mod Answering

@@ -1,0 +1,92 @@
+// Feeding a line (01, part 6): its passes, control lines, and the answer.
+mod answers;
+mod control;
+mod memory;
+mod passes;
+mod slots;
+
+use answers::take_line;
+use replacing::Fault as WorkFault;
+use scanning::Fault as FileFault;
+ghost use Rattle.feeding.specs.Contract.{Lent, Feeds};
+ghost use Rattle.feeding.specs.Answering.{Tested};
+
+// Why a line is refused.
+pub enum Why {
+    BudgetTooLarge,
+    LineTooLong,
+    BadByte,
+    BadControl,
+    InMacro(FileFault, usize),
+    BudgetUsedUp,
+    AtWork(WorkFault),
+}
+
+// A line's answer with the passes begun; one that goes out has its length too.
+pub enum Fed {
+    Out(usize, usize),
+    Withheld(usize),
+    Control(usize),
+    Refused(Why, usize),
+}
+
+// Where a line stands, before a pass or at its end: its length, whether it had an occurrence, how many of the oldest macros may be due, and the passes begun.
+pub(crate) struct Stand {
+    pub(crate) size: usize,
+    pub(crate) occurred: bool,
+    pub(crate) due: usize,
+    pub(crate) begun: usize,
+}
+
+// How a line ends: done, with its length and whether it had an occurrence; a control line, with its length; or refused. Last the passes begun.
+pub(crate) enum Ended {
+    Done(usize, bool, usize),
+    Control(usize, usize),
+    Refused(Why, usize),
+}
+
+// After a pass, or instead of it.
+pub(crate) enum Next {
+    On(Stand),
+    Over(Ended),
+}
+
+// What a control line comes to.
+pub(crate) enum Order {
+    Taken,
+    Wrong(Why),
+}
+
+// 22: "holds byte 0 or line feed".
+fn has_bad_byte(line: &[u8]) -> bool
+    ensures { λ r. ⌜ Tested (now (line .entry)) r ⌝ }
+{
+    let mut i = 0;
+    while i < line.len() {
+        if line[i] == 0 {
+            return true;
+        }
+        if line[i] == b'\n' {
+            return true;
+        }
+        i += 1;
+    }
+    false
+}
+
+// Feeds a line to a table and a state. A refusal leaves table, state and output as they were.
+pub fn feed(table: &mut [u8], state: &mut [u8], line: &[u8], budget: u32, output: &mut [u8]) -> Fed
+    requires { ⌜ Lent (now table) (now state) (now output) ⌝ }
+    ensures { λ r. ⌜ Feeds (now (table .entry)) (now (table .exit)) (now (state .entry)) (now (state .exit)) budget (now (line .entry)) (now (output .entry)) (now (output .exit)) r ⌝ }
+{
+    if 1000000 < budget {
+        return Fed::Refused(Why::BudgetTooLarge, 0);
+    }
+    if 1054 < line.len() {
+        return Fed::Refused(Why::LineTooLong, 0);
+    }
+    if has_bad_byte(line) {
+        return Fed::Refused(Why::BadByte, 0);
+    }
+    take_line(table, state, line, budget as usize, output)
+}

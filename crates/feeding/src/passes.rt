@@ -1,0 +1,128 @@
+// The passes of a line (01, part 6).
+use crate::Ended;
+use crate::Next;
+use crate::Stand;
+use crate::Why;
+use crate::memory::copy_over;
+use crate::slots::close;
+use crate::slots::open_below;
+use passing::pass;
+use passing::Passed;
+ghost use mathlib.Core.Path.{_≡_};
+ghost use Rattle.lines.specs.Line.{isControl};
+ghost use Rattle.feeding.specs.Passing.{Ready, Steps, Ends, endedOf};
+
+// "a line beginning with `$` is a control line".
+fn is_control(line: &[u8]) -> bool
+    ensures { λ r. ⌜ r ≡ isControl (now (line .entry)) ⌝ }
+{
+    if line.len() < 1 {
+        return false;
+    }
+    line[0] == b'$'
+}
+
+// A pass that was refused ends the line.
+fn ended_by(passed: Passed, begun: usize) -> Ended
+    ensures { λ r. ⌜ r ≡ endedOf passed begun ⌝ }
+{
+    match passed {
+        Passed::Refused(f, _) => Ended::Refused(Why::AtWork(f), begun),
+        Passed::Over(_, _) => Ended::Refused(Why::BudgetUsedUp, begun),
+    }
+}
+
+// The next pass, if one is due and the budget is not used up; after one with an occurrence all open macros are due again.
+fn step(
+    table: &[u8],
+    count: usize,
+    kinds: &[u8; 256],
+    state: &mut [u8],
+    text: &mut [u8],
+    new: &mut [u8],
+    marks: &mut [u8],
+    closed: &mut [u8],
+    budget: usize,
+    stand: Stand,
+) -> Next
+    requires { ⌜ Ready (now table) (now kinds) (now state) (now text) (now new) (now marks) (now closed) count budget stand ⌝ }
+    ensures { λ r. ⌜ Steps (now (table .entry)) (now (kinds .entry)) (now (state .entry)) (now (state .exit)) (now (text .entry)) (now (text .exit)) (now (new .exit)) (now (marks .exit)) (now (closed .entry)) (now (closed .exit)) count budget stand r ⌝ }
+{
+    let n = stand.size;
+    let begun = stand.begun;
+    if is_control(&text[..n]) {
+        return Next::Over(Ended::Control(n, begun));
+    }
+    let top = open_below(closed, stand.due);
+    if top < 1 {
+        return Next::Over(Ended::Done(n, stand.occurred, begun));
+    }
+    if budget - begun < 1 {
+        return Next::Over(Ended::Refused(Why::BudgetUsedUp, begun));
+    }
+    let next = begun + 1;
+    let k = top - 1;
+    let a = 1024 * k;
+    let e = a + 1024;
+    let passed = pass(&table[a..e], kinds, &text[..n], state, new, marks);
+    let Passed::Over(o, size) = passed else {
+        return Next::Over(ended_by(passed, next));
+    };
+    if o {
+        copy_over(text, &new[..size]);
+        close(closed, table[a], k);
+        return Next::On(Stand {
+            size: size,
+            occurred: true,
+            due: count,
+            begun: next,
+        });
+    }
+    Next::On(Stand {
+        size: n,
+        occurred: stand.occurred,
+        due: k,
+        begun: next,
+    })
+}
+
+// The passes from where the line stands to its end.
+pub(crate) fn all_passes(
+    table: &[u8],
+    count: usize,
+    kinds: &[u8; 256],
+    state: &mut [u8],
+    text: &mut [u8],
+    new: &mut [u8],
+    marks: &mut [u8],
+    closed: &mut [u8],
+    budget: usize,
+    start: Stand,
+) -> Ended
+    requires { ⌜ Ready (now table) (now kinds) (now state) (now text) (now new) (now marks) (now closed) count budget start ⌝ }
+    ensures { λ r. ⌜ Ends (now (table .entry)) (now (state .entry)) (now (state .exit)) (now (text .entry)) (now (text .exit)) (now (closed .entry)) count budget start r ⌝ }
+{
+    let mut stand = start;
+    loop {
+        let next = step(
+            table,
+            count,
+            kinds,
+            state,
+            text,
+            new,
+            marks,
+            closed,
+            budget,
+            stand,
+        );
+        match next {
+            Next::On(then) => {
+                stand = then;
+            }
+            Next::Over(end) => {
+                return end;
+            }
+        }
+    }
+}

@@ -1,0 +1,13 @@
+pub mod ItemLaws
+pub mod TextLaws
+pub mod MarkLaws
+pub mod CopyFits
+pub mod RepeatLaws
+pub mod TryLaws
+pub mod FindLaws
+pub mod PairLaws
+pub mod CallLaws
+pub mod GrowLaws
+pub mod PlaceLaws
+pub mod GoingLaws
+pub mod SlotLaws

@@ -1,0 +1,87 @@
+use mathlib.Core.Path.{refl}
+use native.Mathlib.Omega.{arith}
+use Rattle.replacing.proofs.Occurring.{slot-size, parts-fit, is-divided, are-fit, occurs}
+use borrow.Author.Needs.{needs}
+use Rattle.replacing.proofs.occurrence.Statement.{statement}
+use Rattle.replacing.proofs.occurrence.Tie as tie
+
+size-at-requires : tie.Need-size-at-requires
+size-at-requires c κs = (omega arith, omega (arith, slot-size (c .before .before .before .before .before .pre)))
+
+add-pattern : tie.Need-add-pattern
+add-pattern c = omega (arith, parts-fit (c .before .before .before .before .before .before .pre), slot-size (c .before .before .before .before .before .before .pre), c .size-at .ensures)
+
+size-at-requires-2 : tie.Need-size-at-requires-2
+size-at-requires-2 c κs = (omega arith, omega (arith, slot-size (c .before .before .before .before .before .before .pre)))
+
+add-replacement : tie.Need-add-replacement
+add-replacement c = omega (arith, parts-fit (c .before .before .before .before .before .before .before .pre), slot-size (c .before .before .before .before .before .before .before .pre), c .before .size-at .ensures, c .size-at2 .ensures)
+
+size-at-requires-3 : tie.Need-size-at-requires-3
+size-at-requires-3 c κs = (omega arith, omega (arith, slot-size (c .before .before .before .before .before .before .before .pre)))
+
+add-commands : tie.Need-add-commands
+add-commands c = omega (arith, parts-fit (c .before .before .before .before .before .before .before .before .pre), slot-size (c .before .before .before .before .before .before .before .before .pre), c .before .before .size-at .ensures, c .before .size-at2 .ensures, c .size-at3 .ensures)
+
+sub-act : tie.Need-sub-act
+sub-act c = search needs
+
+part-act-start : tie.Need-part-act-start
+part-act-start c = search needs
+
+part-act-end : tie.Need-part-act-end
+part-act-end c = omega (arith, parts-fit (c .before .before .before .before .before .before .before .before .pre), slot-size (c .before .before .before .before .before .before .before .before .pre), c .before .before .size-at .ensures)
+
+sub-act-2 : tie.Need-sub-act-2
+sub-act-2 c = search needs
+
+part-act-start-2 : tie.Need-part-act-start-2
+part-act-start-2 c = search needs
+
+part-act-end-2 : tie.Need-part-act-end-2
+part-act-end-2 c = omega (arith, parts-fit (c .before .before .before .before .before .before .before .before .before .pre), slot-size (c .before .before .before .before .before .before .before .before .before .pre), c .before .before .before .size-at .ensures, c .before .before .size-at2 .ensures, c .before .size-at3 .ensures)
+
+slice-aggregate-act : tie.Need-slice-aggregate-act
+slice-aggregate-act c = search needs
+
+act-requires : tie.Need-act-requires
+act-requires c κs = (is-divided (c .before .before .before .before .before .before .before .before .before .before .before .before .pre) (c .before .before .before .before .before .before .size-at .ensures), are-fit (c .before .before .before .before .before .before .before .before .before .before .before .before .pre) (c .before .before .before .before .before .before .size-at .ensures) (c .before .before .before .before .before .size-at2 .ensures) (c .before .before .before .before .size-at3 .ensures), c .before .before .before .before .before .before .before .before .before .before .before .before .pre .state, record { room = refl; fits = omega (arith, c .before .before .before .before .before .before .before .before .before .before .before .before .pre .sized) })
+
+slice-aggregate-append : tie.Need-slice-aggregate-append
+slice-aggregate-append c = search needs
+
+append-requires : tie.Need-append-requires
+append-requires c κs = (c .before .before .before .before .before .before .before .before .before .before .before .before .before .before .before .before .before .before .pre .room, c .before .before .before .before .before .act .kept .1 .1 .1 .1 .1 .1 .0, c .before .before .before .before .before .act .ensures .fits)
+
+same-length : tie.Need-same-length
+same-length c = search needs
+
+same-length-2 : tie.Need-same-length-2
+same-length-2 c = search needs
+
+returns : tie.Need-returns
+returns c = occurs (c .before .before .before .before .before .before .before .before .before .before .before .before .before .before .before .before .before .before .before .before .before .pre) (c .before .before .before .before .before .before .before .before .before .before .before .before .before .before .before .size-at .ensures) (c .before .before .before .before .before .before .before .before .before .before .before .before .before .before .size-at2 .ensures) (c .before .before .before .before .before .before .before .before .before .before .before .before .before .size-at3 .ensures) (c .before .before .before .before .before .before .before .before .act .ensures) (c .before .before .before .before .before .before .before .before .act .kept .1 .1 .1 .1 .1 .1 .0) (c .before .before .append .ensures)
+
+pub occurrence-spec : {M : Type 1} → statement M
+occurrence-spec =
+    tie.close
+    (tie.spec
+    size-at-requires
+    add-pattern
+    size-at-requires-2
+    add-replacement
+    size-at-requires-3
+    add-commands
+    sub-act
+    part-act-start
+    part-act-end
+    sub-act-2
+    part-act-start-2
+    part-act-end-2
+    slice-aggregate-act
+    act-requires
+    slice-aggregate-append
+    append-requires
+    same-length
+    same-length-2
+    returns)

@@ -1,0 +1,4 @@
+pub mod Contract
+pub mod Tags
+pub mod Acting
+pub mod Moments

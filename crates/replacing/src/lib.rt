@@ -1,0 +1,85 @@
+// Replacing (01, part 4): what an occurrence inserts and changes.
+mod actions;
+mod calls;
+mod tags;
+mod texts;
+
+use actions::act;
+use texts::copy;
+ghost use mathlib.Core.Path.{_≡_};
+ghost use Prim.Native.Nat.{_+_, _≤_, _<_};
+ghost use lib.ListN.{length};
+ghost use Rattle.macros.specs.Bounds.{mostLineBytes};
+ghost use Rattle.tables.specs.Check.{twoAt};
+ghost use Rattle.replacing.specs.Contract.{Lent, Occurs, sizeOf};
+ghost use Rattle.replacing.specs.Moments.{Joins};
+
+// 32 to 35.
+pub enum Fault {
+    NewLineTooLong,
+    TagTooLong,
+    PointerTooHigh,
+    CounterTooHigh,
+}
+
+// The bytes of the new line; or a refusal, with the bytes that the new line has by then.
+pub enum Outcome {
+    Made(usize),
+    Refused(Fault, usize),
+}
+
+// The length in two bytes of a slot's header.
+fn size_at(slot: &[u8], i: usize) -> usize
+    requires { ⌜ (i < 8) × (i + 1 < length (now slot)) ⌝ }
+    ensures { λ r. ⌜ r ≡ twoAt (now (slot .entry)) i ⌝ }
+{
+    let low = slot[i] as usize;
+    let high = slot[i + 1] as usize;
+    low + 256 * high
+}
+
+// The occurrence's text, so far as it came, joins the new line.
+fn append(out: &mut [u8], size: usize, text: &[u8], done: Outcome) -> Outcome
+    requires { ⌜ (length (now out) ≡ mostLineBytes) × (length (now text) ≡ mostLineBytes) × (size + sizeOf done ≤ mostLineBytes) ⌝ }
+    ensures { λ r. ⌜ Joins (now (out .entry)) size (now (text .entry)) done (now (out .exit)) r ⌝ }
+{
+    match done {
+        Outcome::Made(k) => {
+            copy(out, size, &text[..k]);
+            Outcome::Made(size + k)
+        }
+        Outcome::Refused(fault, k) => {
+            copy(out, size, &text[..k]);
+            Outcome::Refused(fault, size + k)
+        }
+    }
+}
+
+// "For each occurrence replacement and then commands act, left to right": the macro of a slot, with the division whose spans end where `ends` says.
+// The commands' items stand behind the replacement's, and are actions too.
+pub fn occurrence(
+    slot: &[u8],
+    ends: &[u16],
+    line: &[u8],
+    state: &mut [u8],
+    out: &mut [u8],
+    size: usize,
+) -> Outcome
+    requires { ⌜ Lent (now slot) (now ends) (now line) (now state) (now out) size ⌝ }
+    ensures { λ r. ⌜ Occurs (now (slot .entry)) (now (ends .entry)) (now (line .entry)) (now (state .entry)) (now (state .exit)) (now (out .entry)) (now (out .exit)) size r ⌝ }
+{
+    let pattern = 8 + size_at(slot, 2);
+    let replacement = pattern + size_at(slot, 4);
+    let commands = replacement + size_at(slot, 6);
+    let mut text = [0u8; 1054];
+    let done = act(
+        &slot[8..pattern],
+        ends,
+        line,
+        &slot[pattern..commands],
+        state,
+        size,
+        &mut text,
+    );
+    append(out, size, &text, done)
+}
