@@ -4,7 +4,7 @@ use Prim.Native.Nat.{ℕ, zero, suc, _+_, _-_, _≤_, _<_}
 use mathlib.Core.Path.{_≡_, refl, ap, sym, _∙_}
 use mathlib.Core.Bool.{Bool, true, false}
 use mathlib.Core.List.{List, [], _∷_, _++_, reverse, reverse-append}
-use native.Mathlib.Nat.{add-zero, zero-add}
+use native.Mathlib.Nat.{add-zero}
 use native.Mathlib.Decide.{decLe}
 use native.Mathlib.Omega.{arith}
 use borrow.Author.Tests.{eqb-true, eqb-false, eq-eqb, ne-eqb}
@@ -17,7 +17,7 @@ use Rattle.macros.specs.Macro.Symbol.{equal, less}
 use Rattle.tables.specs.Form.{symbolCode}
 use Rattle.lines.specs.Line.{Numbered, isIn, unlessClosed, openFrom, newestFirst, closing, isControl}
 use Rattle.feeding.specs.Contract.{IsTable}
-use Rattle.feeding.specs.Passing.{dueBelow, isSet, Marks, closedFlags, OpenBelow}
+use Rattle.feeding.specs.Passing.{dueBelow, isSet, Closes, closedFlags, OpenBelow}
 use Rattle.feeding.proofs.Slotting.{SlotAt, slot-at}
 
 -- WHICH ARE DUE
@@ -65,7 +65,7 @@ set-true (suc n) f = refl
 set-false : (n : ℕ) → n ≡ 0 → isSet n ≡ false
 set-false n e = ap isSet e
 
-module _ (table : List ℕ) (ms : Table) (h : IsTable table ms) (flags closed : List ℕ) (g : Marks flags closed) where
+module _ (table : List ℕ) (ms : Table) (h : IsTable table ms) (flags closed : List ℕ) (g : Closes flags closed) where
   -- closed macros are passed over
   pub skipped : (k r : ℕ) → k ≤ length ms → r ≤ k → ((i : ℕ) → r ≤ i → i < k → getD flags i 0 ≡ 0 → ⊥) → dueBelow k closed ms ≡ dueBelow r closed ms
   unfolding unlessClosed
@@ -93,7 +93,7 @@ module _ (table : List ℕ) (ms : Table) (h : IsTable table ms) (flags closed : 
 
 -- CLOSING
 
-pub none-closed : Marks (replicate mostMacros 0) []
+pub none-closed : Closes (replicate mostMacros 0) []
 unfolding isIn
 none-closed i h = sym (set-false (getD (replicate mostMacros 0) i 0) (getD-replicate mostMacros i 0 0 h))
 
@@ -102,19 +102,19 @@ module _ (i k : ℕ) (ks : List ℕ) where
   unfolding isIn
   in-split b e = rw (e, isIn)
 
-pub close-marks : (flags closed : List ℕ) (k : ℕ) → Marks flags closed → k < length flags → (y : Symbol) → Marks (closedFlags flags (symbolCode y) k) (closing y k closed)
+pub closes-more : (flags closed : List ℕ) (k : ℕ) → Closes flags closed → k < length flags → (y : Symbol) → Closes (closedFlags flags (symbolCode y) k) (closing y k closed)
 unfolding closedFlags symbolCode closing pick
-close-marks flags closed k g l equal i h = g i h
-close-marks flags closed k g l less i h = by (eqb i k) refl
+closes-more flags closed k g l equal i h = g i h
+closes-more flags closed k g l less i h = by (eqb i k) refl
   where
     by : (b : Bool) → eqb i k ≡ b → isIn i (k ∷ closed) ≡ isSet (getD (set flags k 1) i 0)
     by true e = in-split i k closed true e ∙ sym (ap (λ (j : ℕ). isSet (getD (set flags k 1) j 0)) (eqb-true i k e) ∙ ap isSet (getD-set-same flags k 1 0 l))
     by false e = in-split i k closed false e ∙ (g i h ∙ sym (ap isSet (getD-set-other flags k i 1 0 (eqb-false i k e))))
 
 -- what closing stores
-pub closes : (flags : List ℕ) (s k : ℕ) → s ≡ 1 → set flags k 1 ≡ closedFlags flags s k
+pub closes-one : (flags : List ℕ) (s k : ℕ) → s ≡ 1 → set flags k 1 ≡ closedFlags flags s k
 unfolding closedFlags pick
-closes flags s k e = rw (eq-eqb s 1 e) refl
+closes-one flags s k e = rw (eq-eqb s 1 e) refl
 
 pub leaves : (flags : List ℕ) (s k : ℕ) → (s ≡ 1 → ⊥) → flags ≡ closedFlags flags s k
 unfolding closedFlags pick

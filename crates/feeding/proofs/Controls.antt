@@ -1,25 +1,24 @@
 -- Control lines: their words, their values, and what they order.
 -- Assumes nothing.
-use Prim.Native.Nat.{ℕ, zero, suc, _+_, _-_, _*_, _≤_, _<_}
+use Prim.Native.Nat.{ℕ, suc, _+_, _-_, _*_, _≤_, _<_}
 use mathlib.Core.Path.{_≡_, refl, ap, sym, _∙_, subst}
 use mathlib.Core.Bool.{Bool, true, false, false≢true}
 use mathlib.Core.List.{List, [], _∷_, _++_, append-assoc}
 use native.Mathlib.Numerals.{add-one}
 use native.Mathlib.Omega.{arith}
-use borrow.Author.Tests.{eq-eqb, ne-eqb, eqb-true, eqb-false}
+use borrow.Author.Tests.{eq-eqb, ne-eqb, eqb-true}
 use lib.Dec.{eqb}
-use lib.ListN.{length, getD, take, drop, replicate, length-append, length-drop, drop-of-length-le}
+use lib.ListN.{length, getD, take, drop, replicate, length-drop, drop-of-length-le}
 use lib.Seq.{drop-cons, take-at, take-all}
 use Rattle.macros.specs.Bounds.{mostMacros}
-use Rattle.macros.specs.Refusals.Refusal.{ofLine, ofFile}
+use Rattle.macros.specs.Refusals.Refusal.{ofLine}
 use Rattle.macros.specs.Refusals.LineRefusal.{badControl}
 use Rattle.macros.specs.Macro.{Table, pick}
 use Rattle.macros.specs.Formed.{Bytes}
-use Rattle.macros.specs.Read.{Read, readOnto}
-use Rattle.macros.specs.Read.Read.{refusedAt, table}
-use Rattle.macros.specs.Accepted.{Spellable, Each, Accepted}
+use Rattle.macros.specs.Read.{readOnto}
+use Rattle.macros.specs.Accepted.{Accepted}
 use Rattle.macros.proofs.Laws.{read-keeps}
-use Rattle.tables.specs.Form.{slotBytes, tableBytes, slot, slots, form}
+use Rattle.tables.specs.Form.{slotBytes, slot, slots, form}
 use Rattle.tables.proofs.Tables.{slots-size, formSize}
 use Rattle.lines.specs.State.{State}
 use Rattle.lines.specs.Matching.{begins}
@@ -28,14 +27,12 @@ use Rattle.lines.specs.Feeding.Order.{wrong, orders}
 use Rattle.lines.proofs.KeepBytes.{bytes-octets, bytes-drop}
 use Rattle.states.specs.Access.{Holds, OfState}
 use Rattle.reading.specs.File.{Lent, Onto}
-use Rattle.scanning.specs.Scan.{faultOf}
 use Rattle.scanning.specs.declared.Fault.{Fault}
 use Rattle.reading.specs.declared.Reading.{Reading}
 use Rattle.reading.specs.declared.Reading.the-variants.{Table as TableOf, Refused as NoTable}
-use Rattle.feeding.specs.Contract.{IsTable}
 use Rattle.feeding.specs.Passing.{Counted}
 use Rattle.feeding.specs.Ordering.{valueOf, Obeys, Orders, AddsOne, wrongOf}
-use Rattle.feeding.specs.declared.Why.the-variants.{BadControl, InMacro}
+use Rattle.feeding.specs.declared.Why.the-variants.{BadControl}
 use Rattle.feeding.specs.declared.Order.{Order as Obeyed}
 use Rattle.feeding.specs.declared.Order.the-variants.{Taken, Wrong}
 

@@ -7,27 +7,25 @@ use mathlib.Core.List.{List, [], _∷_, _++_}
 use native.Mathlib.Numerals.{add-one}
 use native.Mathlib.Omega.{arith}
 use borrow.Author.Tests.{le-leb, lt-leb, lt-ltb, eq-eqb, ne-eqb}
-use lib.Dec.{leb, ltb, eqb}
+use lib.Dec.{ltb, eqb}
 use lib.ListN.{length, getD, take, drop, replicate, length-replicate, drop-of-length-le}
 use lib.Seq.{drop-cons, take-at, take-suc, take-all, length-take-le}
 use Rattle.kinds.specs.Kind.{kindTable}
 use Rattle.macros.specs.Bounds.{mostLineBytes, mostBudget}
-use Rattle.macros.specs.Refusals.{Refusal}
 use Rattle.macros.specs.Refusals.Refusal.{ofWork}
 use Rattle.macros.specs.Macro.{Table}
 use Rattle.macros.specs.Formed.{Bytes}
 use Rattle.lines.specs.State.{State}
 use Rattle.lines.specs.Line.{Ending, Line, newestFirst, passes, passesOf, hadOccurrence, ending, lineOf}
-use Rattle.lines.specs.Line.Ending.{refused, done, control}
-use Rattle.lines.specs.Feeding.{Kind, Answer, Order, orderOf, kindOfDone, refusal, ofOrder, answered, answer, hasBadByte}
+use Rattle.lines.specs.Line.Ending.{done, control}
+use Rattle.lines.specs.Feeding.{Kind, Answer, orderOf, kindOfDone, refusal, outputOf, ofOrder, answered, answer, hasBadByte}
 use Rattle.lines.specs.Feeding.{feed as fed}
-use Rattle.lines.specs.Feeding.Kind.{refusedWith, out, withheld, controlled}
+use Rattle.lines.specs.Feeding.Kind.{out, withheld}
 use Rattle.lines.proofs.KeepBytes.{bytes-append}
 use Rattle.states.specs.Form.{stateBytes}
 use Rattle.states.specs.Access.{Holds, IsState, OfState}
 use Rattle.states.proofs.Parts.{state-size}
-use Rattle.feeding.specs.Contract.{IsTable, refusalOf, kindOf, laidOut, Answers, Feeds}
-use Rattle.feeding.specs.Contract.{passesOf as begunOf}
+use Rattle.feeding.specs.Contract.{IsTable, refusalOf, laidOut, Answers, Feeds}
 use Rattle.feeding.specs.Passing.{Counted, Counts, Comes, Ends, Left, Stands, Ready}
 use Rattle.feeding.specs.Ordering.{Orders}
 use Rattle.feeding.specs.Answering.{Fits, Started, Runs, withheldBy, Finished, GoesOut, keptBy, Ruling, Rules, Takes}
@@ -110,13 +108,13 @@ module _ {b b′ out₁ z t : List ℕ} (o : Bool) (y : Finished b out₁ z t) (
   kept = copied-whole b z b′ (state-length z (y .after) ∙ sym (y .state)) e
 
   pub go-withheld : h ≡ true → {o′ : List ℕ} → o′ ≡ take 0 out₁ ++ replicate (length out₁ - 0) 0 → (p : ℕ) → GoesOut b′ out₁ o′ z t o p (Withheld p)
-  unfolding laidOut
+  unfolding laidOut outputOf
   go-withheld g {o′} x p =
       let k : (st : State) → Holds z st → kindOfDone (st .nflag) o t ≡ withheld = λ st s. kind-held (st .nflag) o t (ap (λ (n : ℕ). withheldBy n o) (sym (f st s)) ∙ (sym w ∙ g)) in
-      record { state = kept; passes = refl; kind = k; output = λ st s. no-output out₁ o′ (y .output) x ∙ sym (ap (λ (j : Kind). laidOut j out₁) (k st s)) }
+      record { state = kept; passes = refl; kind = k; size = λ st s. ap (λ (j : Kind). length (outputOf j)) (k st s); output = λ st s. no-output out₁ o′ (y .output) x ∙ sym (ap (λ (j : Kind). laidOut j out₁) (k st s)) }
 
   pub go-out : h ≡ false → {o′ : List ℕ} → o′ ≡ t ++ replicate (length out₁ - length t) 0 → (p : ℕ) → GoesOut b′ out₁ o′ z t o p (Out p (length t))
-  unfolding laidOut
+  unfolding laidOut outputOf
   go-out g {o′} x p =
       let k : (st : State) → Holds z st → kindOfDone (st .nflag) o t ≡ out t = λ st s. kind-out (st .nflag) o t (ap (λ (n : ℕ). withheldBy n o) (sym (f st s)) ∙ (sym w ∙ g)) in
       let q : take (length t) o′ ≡ t = ap (take (length t)) x ∙ take-at t (replicate (length out₁ - length t) 0) (length t) refl in
@@ -124,6 +122,7 @@ module _ {b b′ out₁ z t : List ℕ} (o : Bool) (y : Finished b out₁ z t) (
         state = kept;
         passes = refl;
         kind = λ st s. k st s ∙ ap out (sym q);
+        size = λ st s. ap (λ (j : Kind). length (outputOf j)) (k st s);
         output = λ st s. x ∙ (ap (λ (n : ℕ). t ++ replicate (n - length t) 0) (y .output) ∙ sym (ap (λ (j : Kind). laidOut j out₁) (k st s)));
       }
 
@@ -132,18 +131,18 @@ module _ {b b′ out₁ z t : List ℕ} (o : Bool) (y : Finished b out₁ z t) (
 module _ {tb tb′ : List ℕ} {count : ℕ} {b z z′ t : List ℕ} {r : Obeyed} (x : Orders tb tb′ z z′ count t r) where
   pub rule-taken : r ≡ Taken → {b′ o o′ : List ℕ} → b′ ≡ keptBy r z′ b → length o ≡ mostLineBytes → o′ ≡ take 0 o ++ replicate (length o - 0) 0 → (p : ℕ)
       → Rules tb tb′ count b b′ o o′ z t p (Control p)
-  unfolding ofOrder laidOut
+  unfolding ofOrder laidOut outputOf
   rule-taken e {b′} {o} {o′} d m f p =
       let x₂ : Orders tb tb′ z z′ count t Taken = rw e at x in
       record {
         answers = λ ms h c old st ho hs.
             let v = x₂ .obeys ms h c st hs in
             subst (λ (a : Answer). Answers a tb′ b′ o o′ (Control p)) (sym (ap (ofOrder ms old p) (v .2)))
-            (record { kind = refl; passes = refl; table = v .3; state = subst (λ (j : List ℕ). Holds j (v .1)) (sym (d ∙ ap (λ (j : Obeyed). keptBy j z′ b) e)) (v .4); output = no-output o o′ m f });
+            (record { kind = refl; passes = refl; size = refl; table = v .3; state = subst (λ (j : List ℕ). Holds j (v .1)) (sym (d ∙ ap (λ (j : Obeyed). keptBy j z′ b) e)) (v .4); output = no-output o o′ m f });
       }
 
   pub rule-wrong : {w : Why} → r ≡ Wrong w → {b′ : List ℕ} → b′ ≡ keptBy r z′ b → (o : List ℕ) (p : ℕ) → Rules tb tb′ count b b′ o o z t p (Refused w p)
-  unfolding ofOrder refusal laidOut
+  unfolding ofOrder refusal laidOut outputOf
   rule-wrong {w} e {b′} d o p =
       let x₂ : Orders tb tb′ z z′ count t (Wrong w) = rw e at x in
       record {
@@ -153,6 +152,7 @@ module _ {tb tb′ : List ℕ} {count : ℕ} {b z z′ t : List ℕ} {r : Obeyed
             (record {
               kind = refl;
               passes = refl;
+              size = refl;
               table = subst (λ (j : List ℕ). IsTable j ms) (sym (v .1)) h;
               state = subst (λ (j : List ℕ). Holds j old) (sym (d ∙ ap (λ (j : Obeyed). keptBy j z′ b) e)) ho;
               output = refl;
@@ -194,6 +194,7 @@ module _ {tb b z z′ tx tx′ t : List ℕ} {count n budget : ℕ} {r : Ended} 
               (record {
                 kind = g .kind (c .state) (c .holds);
                 passes = sym (g .passes);
+                size = g .size (c .state) (c .holds);
                 table = h;
                 state = subst (λ (j : List ℕ). Holds j (c .state)) (sym (g .state)) (c .holds);
                 output = g .output (c .state) (c .holds);
@@ -232,23 +233,23 @@ module _ {tb b z z′ tx tx′ t : List ℕ} {count n budget : ℕ} {r : Ended} 
         }
 
   pub take-refused : {w : Why} {p : ℕ} → r ≡ AtRefusal w p → (o : List ℕ) → Takes tb tb b b budget t o o (Refused w p)
-  unfolding answered refusal laidOut
+  unfolding answered refusal laidOut outputOf
   take-refused {w} {p} e o =
       record {
         answers = λ ms h st hb.
             let c : Comes (lineOf ms st budget t) z′ tx′ (AtRefusal w p) = subst (Comes (lineOf ms st budget t) z′ tx′) e (ran ms h st hb) in
             let q : answer ms st (lineOf ms st budget t) ≡ refusal ms st p (ofWork (c .0)) = answer-as ms st (lineOf ms st budget t) (c .2 .count) (c .2 .ends) in
             subst (λ (j : Answer). Answers j tb b o o (Refused w p)) (sym (q ∙ ap (refusal ms st p) (sym (c .1))))
-            (record { kind = refl; passes = refl; table = h; state = hb; output = refl });
+            (record { kind = refl; passes = refl; size = refl; table = h; state = hb; output = refl });
       }
 
 -- FEEDING
 
 module _ (tb b o : List ℕ) (budget : ℕ) (t : List ℕ) where
   refused-first : (w : Why) → ((ms : Table) (st : State) → fed ms st budget t ≡ refusal ms st 0 (refusalOf w)) → Feeds tb tb b b budget t o o (Refused w 0)
-  unfolding refusal laidOut
+  unfolding refusal laidOut outputOf
   refused-first w q ms h st hb =
-      subst (λ (j : Answer). Answers j tb b o o (Refused w 0)) (sym (q ms st)) (record { kind = refl; passes = refl; table = h; state = hb; output = refl })
+      subst (λ (j : Answer). Answers j tb b o o (Refused w 0)) (sym (q ms st)) (record { kind = refl; passes = refl; size = refl; table = h; state = hb; output = refl })
 
   pub feeds-budget : 1000000 < budget → Feeds tb tb b b budget t o o (Refused BudgetTooLarge 0)
   unfolding fed
@@ -294,7 +295,7 @@ stands-start : (ms : Table) (st : State) (budget : ℕ) (b tx : List ℕ) (n cou
 unfolding lineOf
 stands-start ms st budget b tx n count h l =
     let e : budget - 0 ≡ budget = omega arith in
-    record { state = st; closed = []; holds = h; marks = none-closed; rest = rw (e, due-all [] ms count l) (after-none (passes ms budget [] (newestFirst [] ms) st (take n tx))) }
+    record { state = st; closed = []; holds = h; closes = none-closed; rest = rw (e, due-all [] ms count l) (after-none (passes ms budget [] (newestFirst [] ms) st (take n tx))) }
 
 pub runs-start : {tb b b′ tx tx′ : List ℕ} {count n budget : ℕ} {r : Ended} → Ends tb b b′ tx tx′ (replicate 96 0) count budget (record { size = n; occurred = false; due = count; begun = 0 }) r
     → Runs tb count b b′ tx tx′ n budget r

@@ -7,32 +7,31 @@ use mathlib.Core.List.{List, [], _∷_}
 use mathlib.Core.Option.{none}
 use native.Mathlib.Nat.{add-zero, zero-add}
 use native.Mathlib.Omega.{arith}
-use lib.ListN.{length, getD, take, set}
-use Rattle.macros.specs.Bounds.{mostMacros, mostLineBytes}
+use lib.ListN.{length, getD, take}
 use Rattle.macros.specs.Refusals.{WorkRefusal}
 use Rattle.macros.specs.Refusals.WorkRefusal.{budgetUsedUp}
 use Rattle.macros.specs.Macro.{Macro, Table}
 use Rattle.macros.specs.Formed.{Bytes, Formed}
-use Rattle.tables.specs.Form.{slotBytes, symbolCode}
+use Rattle.tables.specs.Form.{slotBytes}
 use Rattle.lines.specs.State.{State, InRange}
-use Rattle.lines.specs.Replacing.{Work, Done, onto}
+use Rattle.lines.specs.Replacing.{Work, Done}
 use Rattle.lines.specs.Replacing.Done.{bad, good}
 use Rattle.lines.specs.Pass.{Walk, pass, occurred, outcome}
 use Rattle.lines.specs.Pass.Walk.{ended as walkEnded, occurs}
-use Rattle.lines.specs.Line.{Numbered, Pass, Line, isControl, newestFirst, closedBy, due, follow, afterPass, textOf, passes, lineOf, passesOf, hadOccurrence, ending}
+use Rattle.lines.specs.Line.{Numbered, Pass, Line, isControl, newestFirst, closedBy, due, follow, afterPass, textOf, passes, passesOf, hadOccurrence, ending}
 use Rattle.lines.specs.Line.Line.{ended, passed}
 use Rattle.lines.specs.Line.Ending.{refused, done, control}
 use Rattle.lines.specs.Demand.{Walks}
 use Rattle.lines.proofs.PassLaws.{pass-walks}
-use Rattle.lines.proofs.KeepBytes.{bytes-onto, length-onto}
+use Rattle.lines.proofs.KeepBytes.{bytes-onto}
 use Rattle.lines.proofs.KeepWork.{Sound, SoundDone}
 use Rattle.lines.proofs.KeepPass.{pass-sound}
-use Rattle.states.specs.Access.{Holds, IsState}
+use Rattle.states.specs.Access.{Holds}
 use Rattle.feeding.specs.Contract.{IsTable}
-use Rattle.feeding.specs.Passing.{dueBelow, Marks, closedFlags, OpenBelow, After, Stands, IsDone, IsControl, IsRefused}
+use Rattle.feeding.specs.Passing.{dueBelow, Closes, closedFlags, OpenBelow, After, Stands, IsDone, IsControl, IsRefused}
 use Rattle.feeding.specs.declared.Stand.{Stand}
 use Rattle.feeding.proofs.Slotting.{SlotAt}
-use Rattle.feeding.proofs.Closing.{due-all, none-due, first-due, close-marks}
+use Rattle.feeding.proofs.Closing.{due-all, none-due, first-due, closes-more}
 
 -- A PASS
 
@@ -134,7 +133,7 @@ module _ (table : List ℕ) (ms : Table) (h : IsTable table ms) (whole : Line) (
     pub at-done : OpenBelow flags (a .due) 0 → IsDone whole b text (a .size) (a .occurred) (a .begun)
     unfolding ending passesOf hadOccurrence rest
     at-done o =
-        let d = none-due table ms h flags (s .closed) (s .marks) (a .due) l o in
+        let d = none-due table ms h flags (s .closed) (s .closes) (a .due) l o in
         let x = came (ended (done (take (a .size) text) (s .state)))
         (ap (λ (y : List Numbered). passes ms (budget - a .begun) (s .closed) y (s .state) (take (a .size) text)) d ∙ to-done ms (s .closed) (s .state) (take (a .size) text) (budget - a .begun) c) in
         record { state = s .state; holds = s .holds; ends = x .ends; occurs = x .occurs ∙ or-false (a .occurred); count = x .count ∙ add-zero (a .begun) }
@@ -145,7 +144,7 @@ module _ (table : List ℕ) (ms : Table) (h : IsTable table ms) (whole : Line) (
 
       first : (n : ℕ) → budget - a .begun ≡ n → rest ≡ passes ms n (s .closed) (e ∷ dueBelow k (s .closed) ms) (s .state) (take (a .size) text)
       unfolding rest e
-      first n q = rw (q, first-due table ms h flags (s .closed) (s .marks) (a .due) k l o slot) refl
+      first n q = rw (q, first-due table ms h flags (s .closed) (s .closes) (a .due) k l o slot) refl
 
       pub at-used : budget ≤ a .begun → IsRefused whole budgetUsedUp (a .begun)
       unfolding ending passesOf
@@ -177,7 +176,7 @@ module _ (table : List ℕ) (ms : Table) (h : IsTable table ms) (whole : Line) (
                 state = s .state;
                 closed = s .closed;
                 holds = subst (Holds b′) (same-state (slot .macro) (take (a .size) text) (s .state) v q f) g′;
-                marks = s .marks;
+                closes = s .closes;
                 rest = after-next whole _ _ (a .begun) (a .occurred) x f;
               }
 
@@ -187,13 +186,13 @@ module _ (table : List ℕ) (ms : Table) (h : IsTable table ms) (whole : Line) (
           unfolding e events left closedBy
           pass-some f b′ text′ flags′ n count g′ w i z y =
               let x = came _ (first (suc left) lefts ∙ to-again ms (s .closed) (s .state) (take (a .size) text) e (dueBelow k (s .closed) ms) c left v q f) in
-              let mk : Marks flags′ (closedBy e (s .closed)) =
-              subst (λ (j : List ℕ). Marks j (closedBy e (s .closed))) (sym (z ∙ ap (λ (j : ℕ). closedFlags flags j k) (slot .first))) (close-marks flags (s .closed) k (s .marks) i (slot .macro .symbol)) in
+              let mk : Closes flags′ (closedBy e (s .closed)) =
+              subst (λ (j : List ℕ). Closes j (closedBy e (s .closed))) (sym (z ∙ ap (λ (j : ℕ). closedFlags flags j k) (slot .first))) (closes-more flags (s .closed) k (s .closes) i (slot .macro .symbol)) in
               let r = after-again whole _ _ (a .begun) (a .occurred) x f in
               record {
                 state = v .state;
                 closed = closedBy e (s .closed);
                 holds = g′;
-                marks = mk;
+                closes = mk;
                 rest = rw (← w, due-all (closedBy e (s .closed)) ms count y) r;
               }

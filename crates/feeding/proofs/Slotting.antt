@@ -16,7 +16,6 @@ use Rattle.macros.specs.Accepted.{Spellable, Each}
 use Rattle.tables.specs.Form.{slotBytes, tableBytes, symbolCode, header, slot, slots, form}
 use Rattle.tables.proofs.Tables.{slot-size, slots-size, formSize}
 use Rattle.feeding.specs.Contract.{IsTable}
-use Rattle.feeding.specs.Passing.{SomeTable, Counts}
 
 -- behind the first k slots
 slots-drop : (ms : Table) → Each Spellable ms → (k : ℕ) → k ≤ length ms → (z : List ℕ) → drop (slotBytes * k) (slots ms ++ z) ≡ slots (drop k ms) ++ z

@@ -9,24 +9,21 @@ use lib.ListN.{length, getD, take, drop}
 use lib.Seq.{length-take-le}
 use Rattle.macros.specs.Bounds.{mostMacros, mostLineBytes}
 use Rattle.macros.specs.Refusals.WorkRefusal.{budgetUsedUp}
-use Rattle.macros.specs.Macro.{Macro, Table}
+use Rattle.macros.specs.Macro.{Table}
 use Rattle.macros.specs.Formed.{Bytes}
-use Rattle.tables.specs.Form.{slotBytes, tableBytes}
-use Rattle.lines.specs.State.{State}
-use Rattle.lines.specs.Replacing.{Work}
-use Rattle.lines.specs.Replacing.Done.{bad, good}
-use Rattle.lines.specs.Pass.{pass, occurred, outcome}
-use Rattle.lines.specs.Line.{Line, isControl, textOf}
-use Rattle.states.specs.Access.{Holds, IsState}
-use Rattle.replacing.specs.Contract.{IsSlot, IsMoment}
+use Rattle.tables.specs.Form.{slotBytes}
+use Rattle.lines.specs.Pass.{pass, occurred}
+use Rattle.lines.specs.Line.{Line, isControl}
+use Rattle.states.specs.Access.{IsState}
+use Rattle.replacing.specs.Contract.{IsSlot}
 use Rattle.passing.specs.Contract.{Lent, Passes}
 use Rattle.passing.specs.Contract.{Comes as PassComes}
 use Rattle.replacing.specs.declared.Fault.{Fault}
 use Rattle.passing.specs.declared.Passed.{Passed}
 use Rattle.passing.specs.declared.Passed.the-variants.{Over as Passing, Refused as Refuses}
 use Rattle.feeding.specs.Contract.{IsTable}
-use Rattle.feeding.specs.Passing.{Counted, closedFlags, OpenBelow, Stands, Ready, GoesOn, Steps, Ends, endedOf}
-use Rattle.feeding.specs.declared.Why.the-variants.{BudgetUsedUp, AtWork}
+use Rattle.feeding.specs.Passing.{closedFlags, OpenBelow, Stands, Ready, GoesOn, Steps, Ends, endedOf}
+use Rattle.feeding.specs.declared.Why.the-variants.{BudgetUsedUp}
 use Rattle.feeding.specs.declared.Stand.{Stand}
 use Rattle.feeding.specs.declared.Ended.{Ended}
 use Rattle.feeding.specs.declared.Ended.the-variants.{Done, Control, Refused}

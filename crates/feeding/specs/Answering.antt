@@ -9,10 +9,10 @@ use Rattle.macros.specs.Macro.{Table}
 use Rattle.macros.specs.Formed.{Bytes}
 use Rattle.lines.specs.State.{State}
 use Rattle.lines.specs.Line.{lineOf}
-use Rattle.lines.specs.Feeding.{orderOf, kindOfDone, ofOrder, answer, hasBadByte}
+use Rattle.lines.specs.Feeding.{orderOf, outputOf, kindOfDone, ofOrder, answer, hasBadByte}
 use Rattle.states.specs.Form.{stateBytes}
 use Rattle.states.specs.Access.{Holds, IsState}
-use Rattle.feeding.specs.Contract.{IsTable, kindOf, passesOf, laidOut, Answers}
+use Rattle.feeding.specs.Contract.{IsTable, kindOf, passesOf, sizeOf, laidOut, Answers}
 use Rattle.feeding.specs.Passing.{Counted, Comes, Left}
 use Rattle.feeding.specs.declared.Order.{Order}
 use Rattle.feeding.specs.declared.Order.the-variants.{Taken, Wrong}
@@ -59,6 +59,7 @@ pub record GoesOut (b′ out out′ z t : List ℕ) (o : Bool) (p : ℕ) (r : Fe
   pub state : b′ ≡ z
   pub passes : passesOf r ≡ p
   pub kind : (st : State) → Holds z st → kindOfDone (st .nflag) o t ≡ kindOf r out′
+  pub size : (st : State) → Holds z st → length (outputOf (kindOfDone (st .nflag) o t)) ≡ sizeOf r
   pub output : (st : State) → Holds z st → out′ ≡ laidOut (kindOfDone (st .nflag) o t) out
 
 -- the state that a control line leaves

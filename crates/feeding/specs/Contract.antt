@@ -1,5 +1,5 @@
 -- What feeding a line promises (01, part 6).
-use Prim.Native.Nat.{ℕ, _-_, _≤_}
+use Prim.Native.Nat.{ℕ, _-_}
 use mathlib.Core.Path.{_≡_}
 use mathlib.Core.List.{List, _++_}
 use lib.ListN.{length, take, replicate}
@@ -59,6 +59,13 @@ passesOf (Withheld p) = p
 passesOf (Control p) = p
 passesOf (Refused w p) = p
 
+-- the bytes of the line that goes out
+abbrev pub sizeOf : Fed → ℕ
+sizeOf (Out p n) = n
+sizeOf (Withheld p) = 0
+sizeOf (Control p) = 0
+sizeOf (Refused w p) = 0
+
 -- the output: the line and zeros; a refusal leaves it as it was
 unfoldable pub laidOut : Kind → List ℕ → List ℕ
 laidOut (refusedWith r) old = old
@@ -70,6 +77,7 @@ laidOut controlled old = replicate mostLineBytes 0
 pub record Answers (a : Answer) (t′ b′ o o′ : List ℕ) (r : Fed) : Type 0 where
   pub kind : a .kind ≡ kindOf r o′
   pub passes : a .passes ≡ passesOf r
+  pub size : length (outputOf (a .kind)) ≡ sizeOf r
   pub table : IsTable t′ (a .table)
   pub state : Holds b′ (a .state)
   pub output : o′ ≡ laidOut (a .kind) o

@@ -13,7 +13,6 @@ use Rattle.states.specs.Access.{Holds}
 use Rattle.feeding.specs.Contract.{IsTable, refusalOf}
 use Rattle.feeding.specs.declared.Order.{Order}
 use Rattle.feeding.specs.declared.Order.the-variants.{Taken, Wrong}
-use Rattle.feeding.specs.declared.Why.{Why}
 use Rattle.feeding.specs.declared.Why.the-variants.{BadControl, InMacro}
 use Rattle.reading.specs.declared.Reading.{Reading}
 use Rattle.reading.specs.declared.Reading.the-variants.{Table as TableOf, Refused as NoTable}

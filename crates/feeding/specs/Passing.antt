@@ -32,6 +32,7 @@ pub record Counted (table : List ℕ) (count : ℕ) : Type 0 where
   pub isTable : IsTable table macros
   pub counted : length macros ≡ count
 
+-- the form of some accepted table
 abbrev pub SomeTable : List ℕ → Type 0
 SomeTable table = (ms : Table) × IsTable table ms
 
@@ -43,13 +44,14 @@ pub record Counts (table : List ℕ) (count : ℕ) : Type 0 where
 unfoldable pub dueBelow : ℕ → List ℕ → Table → List Numbered
 dueBelow k closed ms = reverse (openFrom 0 closed (take k ms))
 
--- a macro's byte is not 0 where it is closed to the line
+-- a byte for each macro: 0 where it is open
 abbrev pub isSet : ℕ → Bool
 isSet zero = false
 isSet (suc n) = true
 
-abbrev pub Marks : List ℕ → List ℕ → Type 0
-Marks flags closed = (i : ℕ) → i < mostMacros → isIn i closed ≡ isSet (getD flags i 0)
+-- the bytes say which macros are closed to the line
+abbrev pub Closes : List ℕ → List ℕ → Type 0
+Closes flags closed = (i : ℕ) → i < mostMacros → isIn i closed ≡ isSet (getD flags i 0)
 
 -- "A `<` macro that occurred is closed to this line": 1 is the code of `<`
 unfoldable pub closedFlags : List ℕ → ℕ → ℕ → List ℕ
@@ -67,12 +69,12 @@ pub record After (whole l : Line) (p : ℕ) (o : Bool) : Type 0 where
   pub count : length (passesOf whole) ≡ p + length (passesOf l)
   pub occurs : hadOccurrence whole ≡ (o || hadOccurrence l)
 
--- the line stands here, before a pass or at its end
+-- the line stands here, before a pass or at its end: its state, its closed macros, and the line that is left
 pub record Stands (whole : Line) (ms : Table) (budget : ℕ) (b text flags : List ℕ) (a : Stand) : Type 0 where
   pub state : State
   pub closed : List ℕ
   pub holds : Holds b state
-  pub marks : Marks flags closed
+  pub closes : Closes flags closed
   pub rest : After whole (passes ms (budget - a .begun) closed (dueBelow (a .due) closed ms) state (take (a .size) text)) (a .begun) (a .occurred)
 
 -- the memories of the passes, where the line stands
@@ -89,7 +91,7 @@ pub record Ready (tb kn b tx nw mk fl : List ℕ) (count budget : ℕ) (a : Stan
   pub due : a .due ≤ count
   pub begun : a .begun ≤ budget
 
--- how the line ends, and what the memories hold then
+-- how the line ends, and what the memories hold then: the state, and the line in its first n bytes
 pub record IsDone (whole : Line) (b text : List ℕ) (n : ℕ) (o : Bool) (p : ℕ) : Type 0 where
   pub state : State
   pub holds : Holds b state
@@ -118,11 +120,12 @@ Left b text (Done n o p) = (n ≤ mostLineBytes) × IsState b
 Left b text (Control n p) = (n ≤ mostLineBytes) × Bytes (take n text) × IsState b
 Left b text (Refused w p) = Unit {0}
 
+-- the end of every line that stands here
 pub record Ends (table b b′ text text′ flags : List ℕ) (count budget : ℕ) (a : Stand) (r : Ended) : Type 0 where
   pub comes : (whole : Line) (ms : Table) → IsTable table ms → length ms ≡ count → Stands whole ms budget b text flags a → Comes whole b′ text′ r
   pub left : Left b′ text′ r
 
--- a pass that was refused ends the line
+-- a pass that was refused ends the line; one that was not is never handed on
 abbrev pub endedOf : Passed → ℕ → Ended
 endedOf (Refuses f n) p = Refused (AtWork f) p
 endedOf (Passes o n) p = Refused BudgetUsedUp p

@@ -7,7 +7,6 @@ use reading::file::read_onto;
 use states::set_nflag;
 use states::set_trace;
 ghost use mathlib.Core.Path.{_≡_};
-ghost use Prim.Native.Nat.{_≤_};
 ghost use Rattle.macros.specs.Formed.{Bytes};
 ghost use Rattle.lines.specs.Matching.{begins};
 ghost use Rattle.states.specs.Access.{IsState};

@@ -6,8 +6,8 @@ use crate::Why;
 use crate::memory::copy_over;
 use crate::slots::close;
 use crate::slots::open_below;
-use passing::pass;
 use passing::Passed;
+use passing::pass;
 ghost use mathlib.Core.Path.{_≡_};
 ghost use Rattle.lines.specs.Line.{isControl};
 ghost use Rattle.feeding.specs.Passing.{Ready, Steps, Ends, endedOf};
@@ -22,7 +22,7 @@ fn is_control(line: &[u8]) -> bool
     line[0] == b'$'
 }
 
-// A pass that was refused ends the line.
+// A pass that was refused ends the line. One that was not is never handed here.
 fn ended_by(passed: Passed, begun: usize) -> Ended
     ensures { λ r. ⌜ r ≡ endedOf passed begun ⌝ }
 {

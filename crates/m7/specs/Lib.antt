@@ -1,3 +1,6 @@
 pub mod Contract
 pub mod OneResult
 pub mod Demand2
+pub mod Feeding
+pub mod Answering
+pub mod Demand3

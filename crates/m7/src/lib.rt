@@ -1,4 +1,7 @@
-// The engine for the host: reading a macro file, writing out a table, and the fresh state.
+// The engine for the host: reading a macro file, writing out a table, the fresh state, and feeding a line.
+mod answers;
+
+use answers::answer_of;
 use reading::Reading;
 use reading::file::read_onto;
 use scanning::Fault;
@@ -13,13 +16,16 @@ ghost use Rattle.tables.specs.Form.{tableBytes};
 ghost use Rattle.scanning.specs.Scan.{faultOf};
 ghost use Rattle.writing.specs.Slots.{refusalOf};
 ghost use Rattle.m7.specs.Contract.{reply, Gives, reads, Writes, freshens};
+ghost use Rattle.m7.specs.Feeding.{Feeds};
 
-// The bytes of a table's memory, of a file's to write to, and of a state's.
+// The bytes of a table's memory, of a file's to write to, of a state's, and of a line's.
 const TABLE_BYTES: usize = 98304;
 
 const FILE_BYTES: usize = 32768;
 
 const STATE_BYTES: usize = 26236;
+
+const LINE_BYTES: usize = 1054;
 
 // What a call answers: 0 or a refusal's number, its place, the passes begun, a line's kind, and a length.
 #[repr(C)]
@@ -89,6 +95,30 @@ pub extern "C" fn m7_fresh(state: &mut [u8]) -> Answer
     taken(0)
 }
 
+// Feeds a line. The kind is 1 for a line that goes out, 2 withheld, 3 control; the length is that of the line that goes out, zeros stand behind it. A refusal leaves the memories as they were.
+#[no_mangle]
+pub extern "C" fn m7_feed(table: &mut [u8], state: &mut [u8], line: &[u8], budget: u32, output: &mut [u8]) -> Answer
+    ensures { λ r. ⌜ Feeds (record { line = now (line .entry); budget = budget; table = now (table .entry); state = now (state .entry); output = now (output .entry); table′ = now (table .exit); state′ = now (state .exit); output′ = now (output .exit); answer = r }) ⌝ }
+{
+    if table.len() != TABLE_BYTES {
+        return refusal(3, 0);
+    }
+    if state.len() != STATE_BYTES {
+        return refusal(3, 0);
+    }
+    if output.len() != LINE_BYTES {
+        return refusal(3, 0);
+    }
+    if !checking::is_table(table) {
+        return refusal(1, 0);
+    }
+    if !states::is_state(state) {
+        return refusal(2, 0);
+    }
+    let fed = feeding::feed(table, state, line, budget, output);
+    answer_of(fed)
+}
+
 // ANSWERS
 
 fn refusal(number: u32, place: usize) -> Answer
@@ -118,7 +148,7 @@ fn taken(size: usize) -> Answer
 }
 
 // The numbers 10 to 19.
-fn file_number(f: Fault) -> u32
+pub(crate) fn file_number(f: Fault) -> u32
     ensures { λ r. ⌜ r ≡ fileNumber (faultOf f) ⌝ }
 {
     match f {

@@ -136,9 +136,9 @@ module _ (s items kinds t b out marks seen ends₀ : List ℕ) (y : Setting s it
             past = c .past ∙ drop-on out′ out n (j .size) (g .past) (c .grows);
             outside = c .outside ∙ g .outside;
             reached = λ m i st x.
-              let r = g .reached m i st x in
-              let z = c .comes m i (r .now) (r .moment) in
-              record { now = z .0; moment = z .1; so = r .so ∙ z .2; hits = r .hits ∙ z .3 };
+                let r = g .reached m i st x in
+                let z = c .comes m i (r .now) (r .moment) in
+                record { now = z .0; moment = z .1; so = r .so ∙ z .2; hits = r .hits ∙ z .3 };
           }
 
     -- at the line's length
@@ -148,10 +148,10 @@ module _ (s items kinds t b out marks seen ends₀ : List ℕ) (y : Setting s it
           let c : Attempts s items t b′ b″ out′ out″ marks′ marks″ ends′ last p n Free = subst (Attempts s items t b′ b″ out′ out″ marks′ marks″ ends′ last p n) e h in
           record {
             comes = λ m i st x.
-              let r = g .reached m i st x in
-              let z = c .comes m i (r .now) (r .moment) in
-              let f = end-free m t last p (r .now) ge (z .0) in
-              record { moment = (r .now, r .so ∙ f .0, z .1); says = sym (r .hits ∙ ap (λ (u : Bool). hit || u) (f .1) ∙ or-false hit) };
+                let r = g .reached m i st x in
+                let z = c .comes m i (r .now) (r .moment) in
+                let f = end-free m t last p (r .now) ge (z .0) in
+                record { moment = (r .now, r .so ∙ f .0, z .1); says = sym (r .hits ∙ ap (λ (u : Bool). hit || u) (f .1) ∙ or-false hit) };
             past = c .past ∙ g .past;
             within = g .size;
             outside = c .outside ∙ g .outside;
@@ -166,10 +166,10 @@ module _ (s items kinds t b out marks seen ends₀ : List ℕ) (y : Setting s it
           let c : Attempts s items t b′ b″ out′ out″ marks′ marks″ ends′ last p n (Occurred q k) = subst (Attempts s items t b′ b″ out′ out″ marks′ marks″ ends′ last p n) e h in
           record {
             comes = λ m i st x.
-              let r = g .reached m i st x in
-              let z = c .comes m i (r .now) (r .moment) in
-              let f = end-match m t last p (r .now) ge q (z .0) (z .1) (z .2) in
-              record { moment = (z .0, r .so ∙ f .0, z .3); says = sym (r .hits ∙ ap (λ (u : Bool). hit || u) (f .1) ∙ or-true hit) };
+                let r = g .reached m i st x in
+                let z = c .comes m i (r .now) (r .moment) in
+                let f = end-match m t last p (r .now) ge q (z .0) (z .1) (z .2) in
+                record { moment = (z .0, r .so ∙ f .0, z .3); says = sym (r .hits ∙ ap (λ (u : Bool). hit || u) (f .1) ∙ or-true hit) };
             past = c .past ∙ drop-on out′ out n k (g .past) (c .grows);
             within = c .size;
             outside = c .outside ∙ g .outside;
@@ -184,9 +184,9 @@ module _ (s items kinds t b out marks seen ends₀ : List ℕ) (y : Setting s it
           let c : Attempts s items t b′ b″ out′ out″ marks′ marks″ ends′ last p n (Refused f k) = subst (Attempts s items t b′ b″ out′ out″ marks′ marks″ ends′ last p n) e h in
           record {
             comes = λ m i st x.
-              let r = g .reached m i st x in
-              let z = c .comes m i (r .now) (r .moment) in
-              record { moment = (z .0, r .so ∙ end-fails m t last p (r .now) ge f (z .0) (z .1) (z .2), z .3); says = tt };
+                let r = g .reached m i st x in
+                let z = c .comes m i (r .now) (r .moment) in
+                record { moment = (z .0, r .so ∙ end-fails m t last p (r .now) ge f (z .0) (z .1) (z .2), z .3); says = tt };
             past = c .past ∙ drop-on out′ out n k (g .past) (c .grows);
             within = c .size;
             outside = c .outside ∙ g .outside;

@@ -77,12 +77,15 @@ module _ (t out : List ℕ) (p n last : ℕ) (hit : Bool) where
       moved : (b : List ℕ) (w : Work) → IsMoment out b n w → (v : Work) × (put (getD t p 0) w ≡ good v) × IsMoment (set out n (getD t p 0)) b (n + 1) v
       moved b w x =
           let v : Work = record { out = getD t p 0 ∷ w .out; size = suc (w .size); state = w .state } in
-          let e : put (getD t p 0) w ≡ good v = put-on (getD t p 0) w (let z = x .size in omega arith) in
-          (v, e, record {
-            line = put-copied (getD t p 0) w v e .line ∙ ap (λ (s : List ℕ). s ++ (getD t p 0 ∷ [])) (x .line) ∙ sym (take-suc-set out n (getD t p 0) (omega arith)) ∙ ap (λ (j : ℕ). take j (set out n (getD t p 0))) (sym (add-one n));
-            size = (let z = x .size in omega arith);
-            state = x .state;
-          })
+          let e : put (getD t p 0) w ≡ good v = put-on (getD t p 0) w (let z = x .size in omega arith) in (
+            v,
+            e,
+            record {
+              line = put-copied (getD t p 0) w v e .line ∙ ap (λ (s : List ℕ). s ++ (getD t p 0 ∷ [])) (x .line) ∙ sym (take-suc-set out n (getD t p 0) (omega arith)) ∙ ap (λ (j : ℕ). take j (set out n (getD t p 0))) (sym (add-one n));
+              size = (let z = x .size in omega arith);
+              state = x .state;
+            },
+          )
 
 -- THE PASS FROM A PLACE ON
 

@@ -37,7 +37,17 @@ pub(crate) enum Went {
 }
 
 // The match at a place makes the replacement.
-fn try_place(slot: &[u8], items: &[u8], kinds: &[u8; 256], line: &[u8], at: At, state: &mut [u8], out: &mut [u8], marks: &mut [u8], ends: &mut [u16]) -> Attempt
+fn try_place(
+    slot: &[u8],
+    items: &[u8],
+    kinds: &[u8; 256],
+    line: &[u8],
+    at: At,
+    state: &mut [u8],
+    out: &mut [u8],
+    marks: &mut [u8],
+    ends: &mut [u16],
+) -> Attempt
     requires { ⌜ AtPlace (now slot) (now items) (now kinds) (now line) (now state) (now out) (now marks) (now ends) (at .place) (at .size) ⌝ }
     ensures { λ r. ⌜ Attempts (now (slot .entry)) (now (items .entry)) (now (line .entry)) (now (state .entry)) (now (state .exit)) (now (out .entry)) (now (out .exit)) (now (marks .entry)) (now (marks .exit)) (now (ends .exit)) (at .last) (at .place) (at .size) r ⌝ }
 {
@@ -66,11 +76,27 @@ fn copy_byte(line: &[u8], at: At, out: &mut [u8]) -> Went
         return Went::Stopped(Fault::NewLineTooLong, n);
     }
     out[n] = line[p];
-    Went::On(At { place: p + 1, last: at.last, size: n + 1, hit: at.hit })
+    Went::On(At {
+        place: p + 1,
+        last: at.last,
+        size: n + 1,
+        hit: at.hit,
+    })
 }
 
 // "A match .. goes on at its end; an empty match also copies the byte there .. and goes on after that byte."
-fn go_on(slot: &[u8], items: &[u8], kinds: &[u8; 256], line: &[u8], at: At, state: &mut [u8], out: &mut [u8], marks: &mut [u8], seen: &mut [u8], ends: &mut [u16]) -> Went
+fn go_on(
+    slot: &[u8],
+    items: &[u8],
+    kinds: &[u8; 256],
+    line: &[u8],
+    at: At,
+    state: &mut [u8],
+    out: &mut [u8],
+    marks: &mut [u8],
+    seen: &mut [u8],
+    ends: &mut [u16],
+) -> Went
     requires { ⌜ AtPlace (now slot) (now items) (now kinds) (now line) (now state) (now out) (now marks) (now ends) (at .place) (at .size) × (at .place < length (now line)) × Seen (now items) (now seen) (now state) ⌝ }
     ensures { λ r. ⌜ Goes (now (slot .entry)) (now (items .entry)) (now (line .entry)) (now (state .entry)) (now (state .exit)) (now (out .entry)) (now (out .exit)) (now (marks .entry)) (now (marks .exit)) (now (seen .exit)) (now (ends .exit)) (at .last) (at .place) (at .size) (at .hit) r ⌝ }
 {
@@ -81,7 +107,12 @@ fn go_on(slot: &[u8], items: &[u8], kinds: &[u8; 256], line: &[u8], at: At, stat
         Attempt::Free => copy_byte(line, at, out),
         Attempt::Occurred(end, k) => {
             renew(items, state, seen, marks);
-            let next = At { place: end, last: end, size: k, hit: true };
+            let next = At {
+                place: end,
+                last: end,
+                size: k,
+                hit: true,
+            };
             if p < end {
                 return Went::On(next);
             }
@@ -91,11 +122,26 @@ fn go_on(slot: &[u8], items: &[u8], kinds: &[u8; 256], line: &[u8], at: At, stat
 }
 
 // "places from 0 to the line's length, both included"; 1,055: there was no match yet.
-fn walk(slot: &[u8], items: &[u8], kinds: &[u8; 256], line: &[u8], state: &mut [u8], out: &mut [u8], marks: &mut [u8], seen: &mut [u8], ends: &mut [u16]) -> Passed
+fn walk(
+    slot: &[u8],
+    items: &[u8],
+    kinds: &[u8; 256],
+    line: &[u8],
+    state: &mut [u8],
+    out: &mut [u8],
+    marks: &mut [u8],
+    seen: &mut [u8],
+    ends: &mut [u16],
+) -> Passed
     requires { ⌜ Setting (now slot) (now items) (now kinds) (now line) (now state) (now out) (now marks) (now ends) × Seen (now items) (now seen) (now state) ⌝ }
     ensures { λ r. ⌜ Walks (now (slot .entry)) (now (items .entry)) (now (line .entry)) (now (state .entry)) (now (state .exit)) (now (out .entry)) (now (out .exit)) (now (marks .entry)) (now (marks .exit)) r ⌝ }
 {
-    let mut at = At { place: 0, last: 1055, size: 0, hit: false };
+    let mut at = At {
+        place: 0,
+        last: 1055,
+        size: 0,
+        hit: false,
+    };
     while at.place < line.len() {
         let went = go_on(slot, items, kinds, line, at, state, out, marks, seen, ends);
         match went {
@@ -116,7 +162,16 @@ fn walk(slot: &[u8], items: &[u8], kinds: &[u8; 256], line: &[u8], state: &mut [
 }
 
 // Only a pattern with calls needs the state under which its marks were made.
-pub(crate) fn walk_all(slot: &[u8], items: &[u8], kinds: &[u8; 256], line: &[u8], state: &mut [u8], out: &mut [u8], marks: &mut [u8], ends: &mut [u16]) -> Passed
+pub(crate) fn walk_all(
+    slot: &[u8],
+    items: &[u8],
+    kinds: &[u8; 256],
+    line: &[u8],
+    state: &mut [u8],
+    out: &mut [u8],
+    marks: &mut [u8],
+    ends: &mut [u16],
+) -> Passed
     requires { ⌜ Setting (now slot) (now items) (now kinds) (now line) (now state) (now out) (now marks) (now ends) ⌝ }
     ensures { λ r. ⌜ Walks (now (slot .entry)) (now (items .entry)) (now (line .entry)) (now (state .entry)) (now (state .exit)) (now (out .entry)) (now (out .exit)) (now (marks .entry)) (now (marks .exit)) r ⌝ }
 {

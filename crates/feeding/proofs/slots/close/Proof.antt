@@ -1,5 +1,5 @@
 use denote.Ref.{now}
-use Rattle.feeding.proofs.Closing.{closes, leaves}
+use Rattle.feeding.proofs.Closing.{closes-one, leaves}
 use borrow.Author.Needs.{needs}
 use Rattle.feeding.proofs.slots.close.Statement.{statement}
 use Rattle.feeding.proofs.slots.close.Tie as tie
@@ -11,7 +11,7 @@ same-length : tie.Need-same-length
 same-length c = search needs
 
 returns : tie.Need-returns
-returns c = closes (now (c .before .args .closed)) (c .before .args .symbol) (c .before .args .k) (c .if1 .taken)
+returns c = closes-one (now (c .before .args .closed)) (c .before .args .symbol) (c .before .args .k) (c .if1 .taken)
 
 returns-2 : tie.Need-returns-2
 returns-2 c = leaves (now (c .before .args .closed)) (c .before .args .symbol) (c .before .args .k) (c .if1 .left)

@@ -17,7 +17,7 @@ loop-holds : tie.Need-loop-holds Inv-loop μ-loop
 loop-holds c = start _ _ _ _ _ _ _ _ _ (c .before .before .before .before .before .before .before .before .pre .0) (c .before .before .before .before .before .before .before .before .pre .1)
 
 go-on-requires : tie.Need-go-on-requires Inv-loop μ-loop
-go-on-requires c κs = (trying _ _ _ _ _ _ _ _ _ (c .before .before .before .before .before .before .before .before .before .before .before .before .before .before .before .before .pre .0) _ _ _ _ _ _ _ _ _ (c .before .before .before .before .before .before .before .loop .inv) , c .before .before .before .before .before .if1 .taken, c .before .before .before .before .before .before .before .loop .inv .sees)
+go-on-requires c κs = (trying _ _ _ _ _ _ _ _ _ (c .before .before .before .before .before .before .before .before .before .before .before .before .before .before .before .before .pre .0) _ _ _ _ _ _ _ _ _ (c .before .before .before .before .before .before .before .loop .inv), c .before .before .before .before .before .if1 .taken, c .before .before .before .before .before .before .before .loop .inv .sees)
 
 enum-known-went : tie.Need-enum-known-went Inv-loop μ-loop
 enum-known-went c = search needs
@@ -50,7 +50,7 @@ loop-again : tie.Need-loop-again Inv-loop μ-loop
 loop-again c = went-on _ _ _ _ _ _ _ _ _ (c .before .before .before .before .before .before .before .before .before .before .before .before .before .before .before .before .before .before .before .before .before .before .before .before .before .before .before .before .before .before .pre .0) _ _ _ _ _ _ _ _ _ (c .before .before .before .before .before .before .before .before .before .before .before .before .before .before .before .before .before .before .before .before .before .loop .inv) _ _ _ _ _ _ (c .before .before .before .before .before .before .before .before .before .before .before .before .before .go-on .ensures) _ (c .before .went2 .given .1) (c .before .before .before .before .before .before .before .before .before .before .before .before .before .go-on .kept .1 .1 .1 .1 .1 .0) (c .before .before .before .before .before .before .before .before .before .before .before .before .before .go-on .kept .1 .1 .1 .1 .1 .1 .0) (c .before .before .before .before .before .before .before .before .before .before .before .before .before .go-on .kept .1 .1 .1 .1 .1 .1 .1 .0) (c .before .before .before .before .before .before .before .before .before .before .before .before .before .go-on .kept .1 .1 .1 .1 .1 .1 .1 .1 .0) (c .before .before .before .before .before .before .before .before .before .before .before .before .before .go-on .kept .1 .1 .1 .1 .1 .1 .1 .1 .1 .0)
 
 try-place-requires : tie.Need-try-place-requires Inv-loop μ-loop
-try-place-requires c κs = trying _ _ _ _ _ _ _ _ _ (c .before .before .before .before .before .before .before .before .before .before .before .before .before .before .before .pre .0) _ _ _ _ _ _ _ _ _ (c .before .before .before .before .before .before .loop .inv) 
+try-place-requires c κs = trying _ _ _ _ _ _ _ _ _ (c .before .before .before .before .before .before .before .before .before .before .before .before .before .before .before .pre .0) _ _ _ _ _ _ _ _ _ (c .before .before .before .before .before .before .loop .inv)
 
 enum-known-tried : tie.Need-enum-known-tried Inv-loop μ-loop
 enum-known-tried c = search needs

@@ -1,0 +1,94 @@
+-- What feeding a line answers is within the bounds of the answer's numbers.
+use Prim.Native.Nat.{ℕ, zero, suc, _≤_}
+use mathlib.Core.Path.{_≡_, refl, ap}
+use mathlib.Core.Bool.{Bool, true, false}
+use mathlib.Core.List.{List}
+use native.Mathlib.Omega.{arith}
+use borrow.Author.Tests.{leb-true}
+use lib.Dec.{leb, eqb}
+use lib.ListN.{length, drop}
+use Rattle.macros.specs.Bounds.{mostFileBytes, mostLineBytes, mostBudget}
+use Rattle.macros.specs.Refusals.{place}
+use Rattle.macros.specs.Refusals.Refusal.{ofHost}
+use Rattle.macros.specs.Refusals.HostRefusal.{budgetTooLarge}
+use Rattle.macros.specs.Macro.{Table}
+use Rattle.macros.specs.Formed.{Octets}
+use Rattle.macros.specs.Read.{Read, readOnto}
+use Rattle.macros.specs.Read.Read.{refusedAt, table}
+use Rattle.macros.specs.Accepted.{Accepted}
+use Rattle.lines.specs.State.{State, InRange}
+use Rattle.lines.specs.Matching.{begins}
+use Rattle.lines.specs.Line.{Ending, passesOf, hadOccurrence, ending, lineOf}
+use Rattle.lines.specs.Line.Ending.{refused, done, control}
+use Rattle.lines.specs.Feeding.{Order, Answer, bytes, flagOrder, macroOrder, orderOf, placeOf, kindOfDone, refusal, ofOrder, answered, answer, hasBadByte, feed}
+use Rattle.lines.specs.Feeding.Order.{wrong, orders}
+use Rattle.lines.proofs.KeepTests.{by-pick, by-elim}
+use Rattle.lines.proofs.FeedKeeps.{feed-keeps}
+use Rattle.m7.proofs.Places.{onto-place}
+
+-- THE PLACE
+
+unfoldable orderPlace : Order → ℕ
+orderPlace (wrong r) = place r
+orderPlace (orders ks st) = 0
+
+abbrev Near : Order → Type 0
+Near o = orderPlace o ≤ mostFileBytes
+
+flag-near : (ms : Table) (st : State) (t : List ℕ) → Near (flagOrder ms st t)
+unfolding flagOrder orderPlace place
+flag-near ms st t =
+    by-pick Near _ _ _ (λ e. omega arith)
+    (λ e. by-pick Near _ _ _ (λ e. omega arith)
+    (λ e. by-pick Near _ _ _ (λ e. omega arith) (λ e. by-pick Near _ _ _ (λ e. omega arith) (λ e. omega arith))))
+
+macro-near : (ms : Table) (st : State) (s : List ℕ) (r : Read) → readOnto ms s ≡ r → Near (macroOrder ms st r)
+unfolding macroOrder orderPlace place
+macro-near ms st s (refusedAt f q) e = onto-place ms s e
+macro-near ms st s (table ks) e = by-pick Near (eqb (length ks) (suc (length ms))) _ _ (λ c. omega arith) (λ c. omega arith)
+
+order-near : (ms : Table) (st : State) (t : List ℕ) → Near (orderOf ms st t)
+unfolding orderOf
+order-near ms st t = by-elim Near (begins (bytes "$MACRO") t) _ _ (λ e. macro-near ms st (drop 6 t) (readOnto ms (drop 6 t)) refl) (λ e. flag-near ms st t)
+
+abbrev InFile : Answer → Type 0
+InFile a = placeOf (a .kind) ≤ mostFileBytes
+
+module _ (ms : Table) (st : State) where
+  ruled-place : (n : ℕ) (o : Order) → Near o → InFile (ofOrder ms st n o)
+  unfolding ofOrder orderPlace refusal placeOf
+  ruled-place n (wrong r) h = h
+  ruled-place n (orders ks s) h = omega arith
+
+  done-place : (f : ℕ) (o : Bool) (t : List ℕ) → placeOf (kindOfDone f o t) ≤ mostFileBytes
+  unfolding kindOfDone placeOf
+  done-place zero o t = omega arith
+  done-place (suc f) true t = omega arith
+  done-place (suc f) false t = omega arith
+
+  answered-place : (n : ℕ) (o : Bool) (e : Ending) → InFile (answered ms st n o e)
+  unfolding answered refusal placeOf place
+  answered-place n o (refused r) = omega arith
+  answered-place n o (done t s) = done-place (s .nflag) o t
+  answered-place n o (control t s) = ruled-place n (orderOf ms s t) (order-near ms s t)
+
+  pub feed-place : (budget : ℕ) (t : List ℕ) → placeOf (feed ms st budget t .kind) ≤ mostFileBytes
+  unfolding feed answer refusal placeOf place
+  feed-place budget t =
+      by-elim InFile (leb budget mostBudget) _ _
+      (λ e. by-elim InFile (leb (length t) mostLineBytes) _ _
+      (λ f. by-elim InFile (hasBadByte t) _ _ (λ g. omega arith)
+      (λ g. answered-place (length (passesOf (lineOf ms st budget t))) (hadOccurrence (lineOf ms st budget t)) (ending (lineOf ms st budget t))))
+      (λ f. omega arith))
+      (λ e. omega arith)
+
+-- THE PASSES
+
+module _ (ms : Table) (st : State) (budget : ℕ) (t : List ℕ) (a : Accepted ms) (i : InRange st) (o : Octets t) where
+  by-budget : (c : Bool) → leb budget mostBudget ≡ c → feed ms st budget t .passes ≤ mostBudget
+  unfolding feed refusal
+  by-budget true e = let h = leb-true budget mostBudget e in let k = feed-keeps ms st budget t a i o .passes in omega arith
+  by-budget false e = let q : feed ms st budget t ≡ refusal ms st 0 (ofHost budgetTooLarge) = rw (feed, e) refl in let z : feed ms st budget t .passes ≡ 0 = ap (λ (x : Answer). x .passes) q in omega arith
+
+  pub feed-passes : feed ms st budget t .passes ≤ mostBudget
+  feed-passes = by-budget (leb budget mostBudget) refl

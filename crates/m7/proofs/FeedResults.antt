@@ -1,0 +1,202 @@
+-- What feeding a line says, taken to the result of m7_feed.
+use Prim.Native.Nat.{ℕ, _≤_}
+use mathlib.Core.Path.{_≡_, refl, sym, ap, subst, _∙_}
+use mathlib.Core.Bool.{Bool, true, false, _&&_}
+use mathlib.Core.List.{List, []}
+use native.Mathlib.Omega.{arith}
+use borrow.Author.Tests.{eq-eqb, ne-eqb}
+use lib.Dec.{eqb}
+use lib.ListN.{length}
+use Rattle.macros.specs.Bounds.{mostFileBytes, mostLineBytes}
+use Rattle.macros.specs.Refusals.{number, place, hostNumber, fileNumber, workNumber}
+use Rattle.macros.specs.Macro.{Table}
+use Rattle.macros.specs.Formed.{Octets}
+use Rattle.tables.specs.Form.{tableBytes}
+use Rattle.tables.specs.Check.{checks}
+use Rattle.tables.proofs.Basics.{clash, and-both}
+use Rattle.tables.proofs.Tables.{checkExact}
+use Rattle.lines.specs.Feeding.{Kind, numberOf, placeOf, kindNumber, feed}
+use Rattle.lines.specs.Feeding.{Answer as Answered}
+use Rattle.lines.specs.Feeding.Kind.{refusedWith, out, withheld, controlled}
+use Rattle.lines.proofs.FeedKeeps.{feed-keeps}
+use Rattle.states.specs.Form.{stateBytes}
+use Rattle.states.specs.Check.{stateChecks}
+use Rattle.states.proofs.Decode.{state-check-exact}
+use Rattle.states.proofs.Held.{passed-is}
+use Rattle.scanning.specs.Scan.{faultOf}
+use Rattle.scanning.specs.declared.Fault.{Fault}
+use Rattle.replacing.specs.Contract.{refusalOf as workOf}
+use Rattle.replacing.specs.declared.Fault.{Fault as WorkFault}
+use Rattle.feeding.specs.Contract.{IsTable, Lent, refusalOf, kindOf, passesOf, sizeOf, laidOut, Answers}
+use Rattle.feeding.specs.Contract.{Feeds as FeedsLine}
+use Rattle.feeding.specs.declared.Why.{Why}
+use Rattle.feeding.specs.declared.Why.the-variants.{InMacro, AtWork}
+use Rattle.feeding.specs.declared.Fed.{Fed}
+use Rattle.feeding.specs.declared.Fed.the-variants.{Out, Withheld, Control, Refused}
+use Rattle.m7.specs.declared.Answer.{Answer}
+use Rattle.m7.specs.Contract.{reply}
+use Rattle.m7.specs.Feeding.{Call, answerOf, outputWith, sizedToFeed, Feeds}
+use Rattle.m7.specs.Answering.{lineReply, told, Small}
+use Rattle.m7.proofs.FeedBounds.{feed-place, feed-passes}
+
+-- THE ANSWER IN NUMBERS
+
+-- by the reason of a refusal
+abbrev refusedAs : Why → ℕ → Answer
+refusedAs w p = lineReply (number (refusalOf w)) (place (refusalOf w)) p 0 0
+
+pub because : {w v : Why} {a : Answer} {p : ℕ} → w ≡ v → a ≡ refusedAs v p → a ≡ refusedAs w p
+because {p = p} e f = f ∙ ap (λ (x : Why). refusedAs x p) (sym e)
+
+pub because-macro : {w : Why} {g : Fault} {q k p : ℕ} {a : Answer} → w ≡ InMacro g q → k ≡ fileNumber (faultOf g) → a ≡ lineReply k q p 0 0 → a ≡ refusedAs w p
+unfolding number place
+because-macro {q = q} {p = p} e n f = because e (f ∙ ap (λ (x : ℕ). lineReply x q p 0 0) n)
+
+pub because-work : {w : Why} {g : WorkFault} {k p : ℕ} {a : Answer} → w ≡ AtWork g → k ≡ workNumber (workOf g) → a ≡ lineReply k 0 p 0 0 → a ≡ refusedAs w p
+unfolding number place
+because-work {p = p} e n f = because e (f ∙ ap (λ (x : ℕ). lineReply x 0 p 0 0) n)
+
+pub macro-place : {w : Why} {g : Fault} {q : ℕ} → w ≡ InMacro g q → place (refusalOf w) ≤ mostFileBytes → q ≤ mostFileBytes
+unfolding place
+macro-place e h = subst (λ (x : Why). place (refusalOf x) ≤ mostFileBytes) e h
+
+-- by the kind
+pub told-as : {r s : Fed} {a : Answer} → r ≡ s → a ≡ told s → a ≡ told r
+told-as e f = f ∙ ap told (sym e)
+
+pub small-as : {r s : Fed} → r ≡ s → Small r → Small s
+small-as e h = subst Small e h
+
+-- the same whatever the output holds
+abbrev toldOf : Fed → List ℕ → Answer
+toldOf r o = lineReply (numberOf (kindOf r o)) (placeOf (kindOf r o)) (passesOf r) (kindNumber (kindOf r o)) (sizeOf r)
+
+told-any : (r : Fed) (o : List ℕ) → told r ≡ toldOf r o
+unfolding told numberOf placeOf kindNumber
+told-any (Out p n) o = refl
+told-any (Withheld p) o = refl
+told-any (Control p) o = refl
+told-any (Refused w p) o = refl
+
+place-any : (r : Fed) (o : List ℕ) → placeOf (kindOf r []) ≡ placeOf (kindOf r o)
+unfolding placeOf
+place-any (Out p n) o = refl
+place-any (Withheld p) o = refl
+place-any (Control p) o = refl
+place-any (Refused w p) o = refl
+
+laid : (k : Kind) (o : List ℕ) → laidOut k o ≡ outputWith k o
+unfolding laidOut outputWith
+laid (refusedWith r) o = refl
+laid (out t) o = refl
+laid withheld o = refl
+laid controlled o = refl
+
+module _ {a : Answered} {t′ b′ o o′ : List ℕ} {r : Fed} (h : Answers a t′ b′ o o′ r) where
+  told-is : told r ≡ answerOf a
+  unfolding answerOf
+  told-is =
+      told-any r o′
+      ∙ ap (λ (k : Kind). lineReply (numberOf k) (placeOf k) (passesOf r) (kindNumber k) (sizeOf r)) (sym (h .kind))
+      ∙ ap (λ (p : ℕ). lineReply (numberOf (a .kind)) (placeOf (a .kind)) p (kindNumber (a .kind)) (sizeOf r)) (sym (h .passes))
+      ∙ ap (lineReply (numberOf (a .kind)) (placeOf (a .kind)) (a .passes) (kindNumber (a .kind))) (sym (h .size))
+
+-- THE CALL
+
+module _ (l : List ℕ) (n : ℕ) (t b o : List ℕ) where
+  abbrev called : (t′ b′ o′ : List ℕ) → Answer → Call
+  called t′ b′ o′ a = record { line = l; budget = n; table = t; state = b; output = o; table′ = t′; state′ = b′; output′ = o′; answer = a }
+
+  abbrev sizes : Bool
+  sizes = eqb (length t) tableBytes && (eqb (length b) stateBytes && eqb (length o) mostLineBytes)
+
+  -- 3
+  other : {a : Answer} → sizes ≡ false → a ≡ reply 3 0 0 → Feeds (called t b o a)
+  unfolding sizedToFeed reply number hostNumber
+  other z e =
+      record {
+        otherSize = λ y. record { answer = e; table = refl; state = refl; output = refl };
+        noTable = λ y no. clash y z;
+        noState = λ y ms f no. clash y z;
+        fed = λ y ms f st h. clash y z;
+      }
+
+  pub other-table : {a : Answer} → (length t ≡ tableBytes → ⊥) → a ≡ reply 3 0 0 → Feeds (called t b o a)
+  other-table f = let e : eqb (length t) tableBytes ≡ false = ne-eqb _ _ f in other (rw e)
+
+  module _ (g : length t ≡ tableBytes) where
+    pub other-state : {a : Answer} → (length b ≡ stateBytes → ⊥) → a ≡ reply 3 0 0 → Feeds (called t b o a)
+    other-state f = let e : eqb (length b) stateBytes ≡ false = ne-eqb _ _ f in let d : eqb (length t) tableBytes ≡ true = eq-eqb _ _ g in other (rw (d, e))
+
+    module _ (h : length b ≡ stateBytes) where
+      pub other-output : {a : Answer} → (length o ≡ mostLineBytes → ⊥) → a ≡ reply 3 0 0 → Feeds (called t b o a)
+      other-output f =
+          let e : eqb (length o) mostLineBytes ≡ false = ne-eqb _ _ f in
+          let d : eqb (length t) tableBytes ≡ true = eq-eqb _ _ g in
+          let c : eqb (length b) stateBytes ≡ true = eq-eqb _ _ h in
+          other (rw (d, c, e))
+
+      module _ (k : length o ≡ mostLineBytes) (ot : Octets t) where
+        all-sized : sizes ≡ true
+        all-sized = and-both (eq-eqb _ _ g) (and-both (eq-eqb _ _ h) (eq-eqb _ _ k))
+
+        -- 1
+        pub no-table : {a : Answer} → checks t ≡ false → a ≡ reply 1 0 0 → Feeds (called t b o a)
+        unfolding sizedToFeed reply number hostNumber
+        no-table z e =
+            record {
+              otherSize = λ y. clash all-sized y;
+              noTable = λ y no. record { answer = e; table = refl; state = refl; output = refl };
+              noState = λ y ms f no. clash (checkExact t ot .1 (ms, f .accepted, f .bytes)) z;
+              fed = λ y ms f st s. clash (checkExact t ot .1 (ms, f .accepted, f .bytes)) z;
+            }
+
+        module _ (z : checks t ≡ true) (ob : Octets b) where
+          some-table : (ms : Table) × IsTable t ms
+          some-table = let s = checkExact t ot .0 z in (s .0, record { accepted = s .1; form = s .2 })
+
+          -- 2
+          pub no-state : {a : Answer} → stateChecks b ≡ false → a ≡ reply 2 0 0 → Feeds (called t b o a)
+          unfolding sizedToFeed reply number hostNumber
+          no-state v e =
+              record {
+                otherSize = λ y. clash all-sized y;
+                noTable = λ y no. let s = some-table in absurd (no (s .0) (record { accepted = s .1 .accepted; bytes = s .1 .form }));
+                noState = λ y ms f no. record { answer = e; table = refl; state = refl; output = refl };
+                fed = λ y ms f st s. clash (state-check-exact b ob .1 (st, s .inRange, s .form)) v;
+              }
+
+          module _ (v : stateChecks b ≡ true) where
+            pub lent : Lent t b o
+            lent = record { table = some-table; state = passed-is b ob v; room = k }
+
+            module _ {t′ b′ o′ : List ℕ} {r : Fed} (w : FeedsLine t t′ b b′ n l o o′ r) where
+              pub is-small : Octets l → Small r
+              is-small ol =
+                  let s = some-table in
+                  let u = passed-is b ob v in
+                  let d = w (s .0) (s .1) (u .0) (u .1) in
+                  let keeps = feed-keeps (s .0) (u .0) n l (s .1 .accepted) (u .1 .inRange) ol in
+                  let p : placeOf (kindOf r []) ≡ placeOf (feed (s .0) (u .0) n l .kind) = place-any r o′ ∙ ap placeOf (sym (d .kind)) in
+                  record {
+                    place = omega (arith, p, feed-place (s .0) (u .0) n l);
+                    passes = omega (arith, d .passes, feed-passes (s .0) (u .0) n l (s .1 .accepted) (u .1 .inRange) ol);
+                    size = omega (arith, d .size, keeps .fits);
+                  }
+
+              pub is-fed : {a : Answer} → a ≡ told r → Feeds (called t′ b′ o′ a)
+              unfolding sizedToFeed
+              is-fed e =
+                  record {
+                    otherSize = λ y. clash all-sized y;
+                    noTable = λ y no. let s = some-table in absurd (no (s .0) (record { accepted = s .1 .accepted; bytes = s .1 .form }));
+                    noState = λ y ms f no. let u = passed-is b ob v in absurd (no (u .0) (u .1));
+                    fed = λ y ms f st s.
+                        let d = w ms (record { accepted = f .accepted; form = f .bytes }) st s in
+                        record {
+                          answers = e ∙ told-is d;
+                          tableHolds = record { accepted = d .table .accepted; bytes = d .table .form };
+                          stateHolds = d .state;
+                          outputHolds = d .output ∙ laid (feed ms st n l .kind) o;
+                        };
+                  }

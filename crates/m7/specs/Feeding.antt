@@ -1,0 +1,72 @@
+-- THE CONTRACT OF m7_feed: from the lent bytes at entry, the whole answer and what each memory then holds.
+use Prim.Native.Nat.{ℕ, _-_}
+use mathlib.Core.Path.{_≡_}
+use mathlib.Core.Bool.{Bool, true, false, _&&_}
+use mathlib.Core.List.{List, _++_}
+use lib.Dec.{eqb}
+use lib.ListN.{length, replicate}
+use Rattle.macros.specs.Bounds.{mostLineBytes}
+use Rattle.macros.specs.Refusals.{HostRefusal, number}
+use Rattle.macros.specs.Refusals.Refusal.{ofHost}
+use Rattle.macros.specs.Refusals.HostRefusal.{badMemory, badTable, badState}
+use Rattle.macros.specs.Macro.{Table}
+use Rattle.tables.specs.Form.{tableBytes}
+use Rattle.lines.specs.State.{State}
+use Rattle.lines.specs.Feeding.{Kind, numberOf, placeOf, kindNumber, outputOf, feed}
+use Rattle.lines.specs.Feeding.{Answer as Fed}
+use Rattle.lines.specs.Feeding.Kind.{refusedWith, out, withheld, controlled}
+use Rattle.states.specs.Form.{stateBytes}
+use Rattle.states.specs.Access.{Holds}
+use Rattle.m7.specs.Contract.{FormOf}
+use Rattle.m7.specs.declared.Answer.{Answer}
+
+-- a call: the line and its budget, the memories at entry and at exit, and the answer
+pub record Call : Type 0 where
+  pub line : List ℕ
+  pub budget : ℕ
+  pub table : List ℕ
+  pub state : List ℕ
+  pub output : List ℕ
+  pub table′ : List ℕ
+  pub state′ : List ℕ
+  pub output′ : List ℕ
+  pub answer : Answer
+
+-- the answer in numbers: number, place, "the passes begun", "its kind (out, withheld, control), its length"
+unfoldable pub answerOf : Fed → Answer
+answerOf a = record { number = numberOf (a .kind); place = placeOf (a .kind); passes = a .passes; kind = kindNumber (a .kind); length = length (outputOf (a .kind)) }
+
+-- "Output past the line is zero"; a refusal leaves the output as it was
+unfoldable pub outputWith : Kind → List ℕ → List ℕ
+outputWith (refusedWith r) old = old
+outputWith (out t) old = t ++ replicate (mostLineBytes - length t) 0
+outputWith withheld old = replicate mostLineBytes 0
+outputWith controlled old = replicate mostLineBytes 0
+
+-- the call returns what the answer a says, in its answer and in every byte of its memories
+pub record Returns (c : Call) (a : Fed) : Type 0 where
+  pub answers : c .answer ≡ answerOf a
+  pub tableHolds : FormOf (c .table′) (a .table)
+  pub stateHolds : Holds (c .state′) (a .state)
+  pub outputHolds : c .output′ ≡ outputWith (a .kind) (c .output)
+
+-- the call returns a host's refusal, and every memory is as it was
+pub record Refuses (c : Call) (r : HostRefusal) : Type 0 where
+  pub answer : c .answer ≡ record { number = number (ofHost r); place = 0; passes = 0; kind = 0; length = 0 }
+  pub table : c .table′ ≡ c .table
+  pub state : c .state′ ≡ c .state
+  pub output : c .output′ ≡ c .output
+
+-- the memories have the sizes that the docs state
+unfoldable pub sizedToFeed : Call → Bool
+sizedToFeed c = eqb (length (c .table)) tableBytes && (eqb (length (c .state)) stateBytes && eqb (length (c .output)) mostLineBytes)
+
+pub record Feeds (c : Call) : Type 0 where
+  -- 3, a lent memory of another size
+  pub otherSize : sizedToFeed c ≡ false → Refuses c badMemory
+  -- 1, bytes that are the form of no accepted table
+  pub noTable : sizedToFeed c ≡ true → ((ms : Table) → FormOf (c .table) ms → ⊥) → Refuses c badTable
+  -- 2, bytes that are the form of no state in range
+  pub noState : sizedToFeed c ≡ true → (ms : Table) → FormOf (c .table) ms → ((st : State) → Holds (c .state) st → ⊥) → Refuses c badState
+  -- else what feeding the line gives
+  pub fed : sizedToFeed c ≡ true → (ms : Table) → FormOf (c .table) ms → (st : State) → Holds (c .state) st → Returns c (feed ms st (c .budget) (c .line))
