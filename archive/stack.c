@@ -12,6 +12,10 @@ enum { STACK_BYTES = 16 << 20, PAINT = 0xA5 };
 static uint8_t table[M7_TABLE_BYTES];
 static uint8_t written[M7_FILE_BYTES];
 static uint8_t file[M7_FILE_BYTES];
+static uint8_t state[M7_STATE_BYTES];
+static uint8_t output[M7_OUTPUT_BYTES];
+static uint8_t line[M7_MOST_LINE_BYTES];
+static size_t line_size;
 static size_t file_size;
 static m7_answer answer;
 
@@ -26,6 +30,13 @@ static void *reads(void *unused)
 static void *writes(void *unused)
 {
     answer = m7_write(table, sizeof table, written, sizeof written);
+    return unused;
+}
+
+static void *feeds(void *unused)
+{
+    answer = m7_feed(table, sizeof table, state, sizeof state, line, line_size,
+                     10000, output, sizeof output);
     return unused;
 }
 
@@ -61,6 +72,25 @@ static void add(const char *text)
     file_size += strlen(text);
 }
 
+/* A macro whose pattern has a unit many times, over a line of 1,054 bytes. */
+static void worst(const char *unit, int times, const char *last)
+{
+    char name[64];
+    int i;
+    file_size = 0;
+    add("'");
+    for (i = 0; i < times; i++)
+        add(unit);
+    add(last);
+    add("'<'';");
+    m7_read(file, file_size, table, sizeof table);
+    m7_fresh(state, sizeof state);
+    memset(line, 'a', sizeof line);
+    line_size = sizeof line;
+    snprintf(name, sizeof name, "m7_feed, %d times %s and %s", times, unit, last);
+    show(name, feeds);
+}
+
 static void nested(int depth)
 {
     int i;
@@ -90,5 +120,21 @@ int main(void)
     add("'='';");
     show("m7_read, classes", reads);
     show("m7_write, classes", writes);
+    worst("a*-", 168, "b");
+    worst("a*-", 168, "");
+    worst("a*", 252, "b");
+    worst("a*", 252, "");
+    worst("{a*-}", 99, "b");
+    worst("{a*-}", 99, "");
+    worst("a", 505, "b");
+    worst("?1", 252, "");
+    worst("[ab]*", 84, "c");
+    worst("&(a)*-", 84, "b");
+    nested(99);
+    m7_read(file, file_size, table, sizeof table);
+    show("m7_feed, 99 nested tags", feeds);
+    memcpy(line, "$MACRO 'a'='b';", 15);
+    line_size = 15;
+    show("m7_feed, $MACRO", feeds);
     return 0;
 }

@@ -50,6 +50,9 @@ extern "C" {
    zeros behind it). */
 #define M7_STATE_BYTES 26236
 
+/* The output of a line that is fed. */
+#define M7_OUTPUT_BYTES 1054
+
 /* The memory that a table is written out to. A macro file to read may have
    any size; one of more bytes than this is refused with 10. */
 #define M7_FILE_BYTES 32768
@@ -59,14 +62,18 @@ extern "C" {
 #define M7_MOST_MACROS 96
 #define M7_MOST_MACRO_BYTES 512
 #define M7_MOST_TAGS 99
+#define M7_MOST_LINE_BYTES 1054
+#define M7_MOST_BUDGET 1000000
 
 /* ANSWERS
 
    number  0 if the call was taken, else the refusal (below)
    place   of a refusal 10 to 19 the byte where it shows, from 0; else 0
-   passes  0 here
-   kind    0 here
-   length  m7_read: the macros read; m7_write: the bytes written; else 0 */
+   passes  m7_feed: the passes begun, also of a refused line; else 0
+   kind    m7_feed: 1 the line goes out, 2 it is withheld, 3 it was a control
+           line, 0 it is refused; else 0
+   length  m7_read: the macros read; m7_write: the bytes written; m7_feed: the
+           bytes of a line that goes out; else 0 */
 typedef struct m7_answer {
     uint32_t number;
     uint32_t place;
@@ -81,8 +88,18 @@ typedef struct m7_answer {
     3  a lent memory of another size than is stated above
     1  a table whose bytes are not the form of at most 96 macros, each of
        which some macro file spells
+    2  a state with a field out of range, a byte 0 inside an entry's text, or
+       an unused byte that is not 0
+    4  a budget over 1,000,000
 
-   The table writer's, with a place: 10 and then 11 over the whole file first,
+   Of whoever sends the line, looked at next, before any pass:
+   21  a line of more than 1,054 bytes
+   22  a line that holds byte 0 or a line feed
+   and later, of a control line:
+   23  another word or value, or not one macro
+
+   The table writer's, with a place; of a $MACRO line the place counts from
+   behind that word. 10 and then 11 over the whole file first,
    then the first byte where a fault shows, the lowest number there.
    10  the file has more than 32,768 bytes; its first byte too many.
        In writing out: the file would have more, at its 32,769th byte
@@ -97,9 +114,19 @@ typedef struct m7_answer {
    17  a pattern without an element
    18  the 513th byte of a macro, from its first quote on.
        In writing out: of a macro as it is written
-   19  the 97th macro's first quote */
+   19  the 97th macro's first quote, those of the table counted with those
+       that $MACRO reads
+
+   The table's at work, at the first such step:
+   31  another pass is due and the budget is used up
+   32  the new line's 1,055th byte
+   33  a stored tag over 50 bytes
+   34  a pointer past 20
+   35  a counter past 999,999,999 */
 #define M7_BAD_TABLE 1
+#define M7_BAD_STATE 2
 #define M7_BAD_MEMORY 3
+#define M7_BUDGET_TOO_LARGE 4
 #define M7_FILE_TOO_LONG 10
 #define M7_ZERO_BYTE 11
 #define M7_INCOMPLETE 12
@@ -110,6 +137,19 @@ typedef struct m7_answer {
 #define M7_NO_ELEMENT 17
 #define M7_MACRO_TOO_LONG 18
 #define M7_TOO_MANY_MACROS 19
+#define M7_LINE_TOO_LONG 21
+#define M7_BAD_BYTE 22
+#define M7_BAD_CONTROL 23
+#define M7_BUDGET_USED_UP 31
+#define M7_NEW_LINE_TOO_LONG 32
+#define M7_TAG_TOO_LONG 33
+#define M7_POINTER_TOO_HIGH 34
+#define M7_COUNTER_TOO_HIGH 35
+
+/* Kinds of an answer to m7_feed. */
+#define M7_OUT 1
+#define M7_WITHHELD 2
+#define M7_CONTROL 3
 
 /* Reads a macro file as a new table, whatever the table's memory held before.
    Refusals: 3, then 10 to 19. Taken: the table's memory holds the table, and
@@ -129,6 +169,31 @@ m7_answer m7_write(const uint8_t *table, size_t table_size,
 /* Stores the fresh state: pointers 1, entries empty, values and increments 1,
    flags 0. Refusal: 3. */
 m7_answer m7_fresh(uint8_t *state, size_t state_size);
+
+/* Feeds a line, without its line feed, to a table and a state, with at most
+   `budget` passes of macros over it.
+
+   Refusals, in this order: 3 (of table, state or output), 1, 2, 4, 21, 22,
+   then what the passes and a control line come to: 31 to 35, 23, and 10 to 19
+   of a $MACRO line. A refused line leaves table, state and output as they
+   were.
+
+   Taken, by kind:
+   M7_OUT       the output holds the rewritten line, length bytes, and zeros
+                behind it; the state is the one after the line
+   M7_WITHHELD  NFLAG is 1 and no macro occurred: the output is all zero
+   M7_CONTROL   a line that begins with $ when a pass is due or at its end:
+                $TRACE 0, $TRACE 1, $NFLAG 0 or $NFLAG 1 set a flag of the
+                state, $MACRO adds a macro to the table as the newest; the
+                output is all zero
+
+   Time: a pass takes at most the pattern's elements times the line's places,
+   as long as no stack or counter that the pattern reads changes. Stack: see
+   docs/DECISIONS.md; 1 MiB is enough for every call. */
+m7_answer m7_feed(uint8_t *table, size_t table_size,
+                  uint8_t *state, size_t state_size,
+                  const uint8_t *line, size_t line_size, uint32_t budget,
+                  uint8_t *output, size_t output_size);
 
 #ifdef __cplusplus
 }

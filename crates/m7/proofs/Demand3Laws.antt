@@ -35,7 +35,7 @@ one ms st c f h k = go (sizedToFeed c) refl
         record {
           answer = refusal ms st 0 (ofHost badMemory);
           returned = record { answers = r .answer; tableHolds = rw (r .table) f; stateHolds = rw (r .state) h; outputHolds = r .output };
-          line = (refl, refl)
+          line = (refl, refl);
         }
 
 calls : (ms : Table) (st : State) (t b : List ℕ) (cs : List Call) → FormOf t ms → Holds b st → InTurn t b cs → Holds3 ms st cs

@@ -97,7 +97,13 @@ pub extern "C" fn m7_fresh(state: &mut [u8]) -> Answer
 
 // Feeds a line. The kind is 1 for a line that goes out, 2 withheld, 3 control; the length is that of the line that goes out, zeros stand behind it. A refusal leaves the memories as they were.
 #[no_mangle]
-pub extern "C" fn m7_feed(table: &mut [u8], state: &mut [u8], line: &[u8], budget: u32, output: &mut [u8]) -> Answer
+pub extern "C" fn m7_feed(
+    table: &mut [u8],
+    state: &mut [u8],
+    line: &[u8],
+    budget: u32,
+    output: &mut [u8],
+) -> Answer
     ensures { λ r. ⌜ Feeds (record { line = now (line .entry); budget = budget; table = now (table .entry); state = now (state .entry); output = now (output .entry); table′ = now (table .exit); state′ = now (state .exit); output′ = now (output .exit); answer = r }) ⌝ }
 {
     if table.len() != TABLE_BYTES {
