@@ -22,7 +22,7 @@ use Rattle.replacing.specs.declared.Fault.{Fault}
 use Rattle.passing.specs.declared.Passed.{Passed}
 use Rattle.passing.specs.declared.Passed.the-variants.{Over as Passing, Refused as Refuses}
 use Rattle.feeding.specs.Contract.{IsTable}
-use Rattle.feeding.specs.Passing.{closedFlags, OpenBelow, Stands, Ready, GoesOn, Steps, Ends, endedOf}
+use Rattle.feeding.specs.Passing.{closedFlags, OpenBelow, Stands, Ready, Followed, Follows, GoesOn, Steps, Ends, endedOf}
 use Rattle.feeding.specs.declared.Why.the-variants.{BudgetUsedUp}
 use Rattle.feeding.specs.declared.Stand.{Stand}
 use Rattle.feeding.specs.declared.Ended.{Ended}
@@ -97,7 +97,7 @@ module _ {tb kn b tx nw mk fl : List ℕ} {count budget : ℕ} {a : Stand} (y : 
       pub in-table : 1024 * k + 1024 ≤ length tb
       in-table = omega (arith, in-use, few, table-size tb (y .table .macros) (y .table .isTable))
 
-      pub flag-there : k < length fl
+      flag-there : k < length fl
       flag-there = omega (arith, in-use, few, y .flags)
 
       slot-of : (ms : Table) → IsTable tb ms → length ms ≡ count → SlotAt tb ms k
@@ -119,7 +119,7 @@ module _ {tb kn b tx nw mk fl : List ℕ} {count budget : ℕ} {a : Stand} (y : 
           }
 
       module _ {b′ nw′ mk′ : List ℕ} {r : Passed} (p : Passes (slotPart tb k) (take (a .size) tx) b b′ nw nw′ mk mk′ r) (room : a .begun < budget) where
-        pub step-refused : {x : Fault} {n : ℕ} {z : Ended} → r ≡ Refuses x n → z ≡ endedOf r (a .begun + 1) → Steps tb kn b b′ tx tx nw′ mk′ fl fl count budget a (Over z)
+        step-refused : {x : Fault} {n : ℕ} {z : Ended} → r ≡ Refuses x n → z ≡ endedOf r (a .begun + 1) → Steps tb kn b b′ tx tx nw′ mk′ fl fl count budget a (Over z)
         step-refused {x} {n} q i =
             let p₂ = done-as p (Refuses x n) q in
             rw (i ∙ ap (λ (w : Passed). endedOf w (a .begun + 1)) q)
@@ -139,20 +139,17 @@ module _ {tb kn b tx nw mk fl : List ℕ} {count budget : ℕ} {a : Stand} (y : 
           over : Passes (slotPart tb k) (take (a .size) tx) b b′ nw nw′ mk mk′ (Passing o₂ n)
           over = done-as p (Passing o₂ n) q
 
-          pub size-within : n ≤ mostLineBytes
+          size-within : n ≤ mostLineBytes
           size-within = over .within
 
           module _ (w : length nw′ ≡ length nw) where
-            pub copied-fits : length (take n nw′) ≤ length tx
-            copied-fits = omega (arith, length-take-le n nw′ (omega (arith, size-within, w, y .new)), size-within, y .text)
-
             here : PassComes (take (a .size) tx) b′ nw′ (Passing o₂ n) (slot-of (y .table .macros) (y .table .isTable) (y .table .counted) .macro) (y .state .0)
             here = over .comes (slot-of (y .table .macros) (y .table .isTable) (y .table .counted) .macro) (is-slot (y .table .macros) (y .table .isTable) (y .table .counted)) (y .state .0) (y .state .1)
 
             after : IsState b′
             after = (here .moment .0 .state, here .moment .2 .state)
 
-            pub step-none : o₂ ≡ false → Steps tb kn b b′ tx tx nw′ mk′ fl fl count budget a (On (record { size = a .size; occurred = a .occurred; due = k; begun = a .begun + 1 }))
+            step-none : o₂ ≡ false → Steps tb kn b b′ tx tx nw′ mk′ fl fl count budget a (On (record { size = a .size; occurred = a .occurred; due = k; begun = a .begun + 1 }))
             step-none j =
                 record {
                   goes = (
@@ -181,7 +178,7 @@ module _ {tb kn b tx nw mk fl : List ℕ} {count budget : ℕ} {a : Stand} (y : 
               front : take n tx′ ≡ take n nw′
               front = copied-front tx (take n nw′) tx′ n (length-take-le n nw′ (omega (arith, size-within, w, y .new))) d
 
-              pub step-some : Steps tb kn b b′ tx tx′ nw′ mk′ fl fl′ count budget a (On (record { size = n; occurred = true; due = count; begun = a .begun + 1 }))
+              step-some : Steps tb kn b b′ tx tx′ nw′ mk′ fl fl′ count budget a (On (record { size = n; occurred = true; due = count; begun = a .begun + 1 }))
               step-some =
                   record {
                     goes = (
@@ -207,6 +204,44 @@ module _ {tb kn b tx nw mk fl : List ℕ} {count budget : ℕ} {a : Stand} (y : 
                           (u .moment .2 .state) (u .moment .2 .line ∙ sym front) (omega (arith, in-use, few, y .flags)) x l,
                     );
                   }
+
+      -- where the line stands after a pass without an occurrence
+      abbrev further : Stand
+      further = record { size = a .size; occurred = a .occurred; due = k; begun = a .begun + 1 }
+
+      module _ {b′ nw′ mk′ : List ℕ} where
+        pub to-follow : {r : Passed} → Passes (slotPart tb k) (take (a .size) tx) b b′ nw nw′ mk mk′ r → length nw′ ≡ length nw → Followed tb tx nw′ fl r further
+        to-follow p w = record { text = y .text; new = w ∙ y .new; within = p .within; slot = omega (arith, in-table); flag = flag-there }
+
+        pub step-passed : (r : Passed) → Passes (slotPart tb k) (take (a .size) tx) b b′ nw nw′ mk mk′ r → a .begun < budget → length nw′ ≡ length nw → {tx′ fl′ : List ℕ} {z : Next}
+            → Follows tb count tx tx′ nw′ fl fl′ r further z → length tx′ ≡ length tx → length fl′ ≡ length fl → Steps tb kn b b′ tx tx′ nw′ mk′ fl fl′ count budget a z
+        step-passed (Refuses x n) p room w f m v = rw (f .by .next, f .by .line, f .by .closed) (step-refused p room refl refl)
+        step-passed (Passing false n) p room w f m v = rw (f .by .next, f .by .line, f .by .closed) (step-none p room refl w refl)
+        step-passed (Passing true n) p room w f m v = rw (f .by .next) (step-some p room refl w refl (f .by .line) m (f .by .closed) v)
+
+-- WHAT FOLLOWS A PASS
+
+module _ {tb tx nw fl : List ℕ} {r : Passed} {on : Stand} (y : Followed tb tx nw fl r on) {o : Bool} {n : ℕ} (e : r ≡ Passing o n) where
+  new-within : n ≤ mostLineBytes
+  new-within = rw e at (y .within)
+
+  pub new-fits : n ≤ length nw
+  new-fits = omega (arith, new-within, y .new)
+
+  pub line-fits : length (take n nw) ≤ length tx
+  line-fits = omega (arith, length-take-le n nw new-fits, new-within, y .text)
+
+module _ {tb tx nw fl : List ℕ} {count : ℕ} {r : Passed} {on : Stand} where
+  pub after-refused : {x : Fault} {n : ℕ} {z : Ended} → r ≡ Refuses x n → z ≡ endedOf r (on .begun) → Follows tb count tx tx nw fl fl r on (Over z)
+  after-refused e f = rw e (record { by = record { next = ap Over (f ∙ ap (λ (w : Passed). endedOf w (on .begun)) e); line = refl; closed = refl } })
+
+  module _ {o : Bool} {n : ℕ} (e : r ≡ Passing o n) where
+    pub after-none : o ≡ false → Follows tb count tx tx nw fl fl r on (On on)
+    after-none f = rw (e, f) (record { by = record { next = refl; line = refl; closed = refl } })
+
+    pub after-some : o ≡ true → {tx′ fl′ : List ℕ} → tx′ ≡ take n nw ++ drop (length (take n nw)) tx → fl′ ≡ closedFlags fl (getD tb (1024 * on .due) 0) (on .due)
+        → Follows tb count tx tx′ nw fl fl′ r on (On (record { size = n; occurred = true; due = count; begun = on .begun }))
+    after-some f d x = rw (e, f) (record { by = record { next = refl; line = d; closed = x } })
 
 -- THE LOOP
 

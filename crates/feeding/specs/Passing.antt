@@ -1,10 +1,10 @@
 -- What the passes of a line promise, from one to the next (01, part 6).
-use Prim.Native.Nat.{ℕ, zero, suc, _+_, _-_, _≤_, _<_}
+use Prim.Native.Nat.{ℕ, zero, suc, _+_, _-_, _*_, _≤_, _<_}
 use mathlib.Core.Path.{_≡_}
 use mathlib.Core.Bool.{Bool, true, false, _||_}
-use mathlib.Core.List.{List, reverse}
+use mathlib.Core.List.{List, _++_, reverse}
 use lib.Dec.{eqb}
-use lib.ListN.{length, getD, take, set, replicate}
+use lib.ListN.{length, getD, take, drop, set, replicate}
 use Rattle.kinds.specs.Kind.{kindTable}
 use Rattle.macros.specs.Bounds.{mostMacros, mostLineBytes}
 use Rattle.macros.specs.Refusals.{WorkRefusal}
@@ -15,7 +15,7 @@ use Rattle.lines.specs.State.{State}
 use Rattle.lines.specs.Line.{Numbered, Line, isIn, openFrom, passes, passesOf, hadOccurrence, ending}
 use Rattle.lines.specs.Line.Ending.{refused, done, control}
 use Rattle.states.specs.Access.{Holds, IsState}
-use Rattle.passing.specs.Contract.{marksBytes}
+use Rattle.passing.specs.Contract.{marksBytes, sizeOf}
 use Rattle.passing.specs.declared.Passed.{Passed}
 use Rattle.passing.specs.declared.Passed.the-variants.{Over as Passes, Refused as Refuses}
 use Rattle.feeding.specs.Contract.{IsTable, refusalOf}
@@ -129,6 +129,34 @@ pub record Ends (table b b′ text text′ flags : List ℕ) (count budget : ℕ
 abbrev pub endedOf : Passed → ℕ → Ended
 endedOf (Refuses f n) p = Refused (AtWork f) p
 endedOf (Passes o n) p = Refused BudgetUsedUp p
+
+-- what is lent behind a pass: `on` is where the line stands if it had no occurrence
+pub record Followed (tb tx nw fl : List ℕ) (r : Passed) (on : Stand) : Type 0 where
+  pub text : length tx ≡ mostLineBytes
+  pub new : length nw ≡ mostLineBytes
+  pub within : sizeOf r ≤ mostLineBytes
+  pub slot : 1024 * on .due < length tb
+  pub flag : on .due < length fl
+
+-- after a pass with an occurrence the new line is the line, a `<` macro is closed, and all open macros are due
+pub record Again (tb : List ℕ) (count : ℕ) (tx tx′ nw fl fl′ : List ℕ) (n : ℕ) (on : Stand) (z : Next) : Type 0 where
+  pub next : z ≡ On (record { size = n; occurred = true; due = count; begun = on .begun })
+  pub line : tx′ ≡ take n nw ++ drop (length (take n nw)) tx
+  pub closed : fl′ ≡ closedFlags fl (getD tb (1024 * on .due) 0) (on .due)
+
+-- otherwise these are as they were
+pub record Still (tx tx′ fl fl′ : List ℕ) (z₂ z : Next) : Type 0 where
+  pub next : z ≡ z₂
+  pub line : tx′ ≡ tx
+  pub closed : fl′ ≡ fl
+
+abbrev pub FollowedBy : List ℕ → ℕ → List ℕ → List ℕ → List ℕ → List ℕ → List ℕ → Passed → Stand → Next → Type 0
+FollowedBy tb count tx tx′ nw fl fl′ (Passes true n) on z = Again tb count tx tx′ nw fl fl′ n on z
+FollowedBy tb count tx tx′ nw fl fl′ (Passes false n) on z = Still tx tx′ fl fl′ (On on) z
+FollowedBy tb count tx tx′ nw fl fl′ (Refuses f n) on z = Still tx tx′ fl fl′ (Over (Refused (AtWork f) (on .begun))) z
+
+pub record Follows (tb : List ℕ) (count : ℕ) (tx tx′ nw fl fl′ : List ℕ) (r : Passed) (on : Stand) (z : Next) : Type 0 where
+  pub by : FollowedBy tb count tx tx′ nw fl fl′ r on z
 
 -- one pass further, or at the end
 abbrev pub GoesOn : List ℕ → List ℕ → List ℕ → List ℕ → List ℕ → List ℕ → List ℕ → List ℕ → List ℕ → List ℕ → ℕ → ℕ → Stand → Next → Type 0

@@ -10,7 +10,7 @@ use passing::Passed;
 use passing::pass;
 ghost use mathlib.Core.Path.{_≡_};
 ghost use Rattle.lines.specs.Line.{isControl};
-ghost use Rattle.feeding.specs.Passing.{Ready, Steps, Ends, endedOf};
+ghost use Rattle.feeding.specs.Passing.{Ready, Followed, Follows, Steps, Ends, endedOf};
 
 // "a line beginning with `$` is a control line".
 fn is_control(line: &[u8]) -> bool
@@ -32,7 +32,38 @@ fn ended_by(passed: Passed, begun: usize) -> Ended
     }
 }
 
-// The next pass, if one is due and the budget is not used up; after one with an occurrence all open macros are due again.
+// What follows a pass: `on` is where the line stands if it had no occurrence; after one with an occurrence, again with the newest.
+fn after_pass(
+    table: &[u8],
+    count: usize,
+    text: &mut [u8],
+    new: &[u8],
+    closed: &mut [u8],
+    passed: Passed,
+    on: Stand,
+) -> Next
+    requires { ⌜ Followed (now table) (now text) (now new) (now closed) passed on ⌝ }
+    ensures { λ r. ⌜ Follows (now (table .entry)) count (now (text .entry)) (now (text .exit)) (now (new .entry)) (now (closed .entry)) (now (closed .exit)) passed on r ⌝ }
+{
+    let begun = on.begun;
+    let Passed::Over(o, size) = passed else {
+        return Next::Over(ended_by(passed, begun));
+    };
+    if o {
+        let k = on.due;
+        copy_over(text, &new[..size]);
+        close(closed, table[1024 * k], k);
+        return Next::On(Stand {
+            size: size,
+            occurred: true,
+            due: count,
+            begun: begun,
+        });
+    }
+    Next::On(on)
+}
+
+// The next pass, if one is due and the budget is not used up.
 fn step(
     table: &[u8],
     count: usize,
@@ -63,27 +94,14 @@ fn step(
     let next = begun + 1;
     let k = top - 1;
     let a = 1024 * k;
-    let e = a + 1024;
-    let passed = pass(&table[a..e], kinds, &text[..n], state, new, marks);
-    let Passed::Over(o, size) = passed else {
-        return Next::Over(ended_by(passed, next));
-    };
-    if o {
-        copy_over(text, &new[..size]);
-        close(closed, table[a], k);
-        return Next::On(Stand {
-            size: size,
-            occurred: true,
-            due: count,
-            begun: next,
-        });
-    }
-    Next::On(Stand {
+    let passed = pass(&table[a..a + 1024], kinds, &text[..n], state, new, marks);
+    let on = Stand {
         size: n,
         occurred: stand.occurred,
         due: k,
         begun: next,
-    })
+    };
+    after_pass(table, count, text, new, closed, passed, on)
 }
 
 // The passes from where the line stands to its end.

@@ -8,23 +8,23 @@ use native.Mathlib.Numerals.{add-one}
 use native.Mathlib.Omega.{arith}
 use lib.ListN.{length, getD, take, drop, set, replicate, getD-replicate, length-replicate, List·getD-append}
 use lib.Seq.{drop-at, take-suc, take-all}
-use Rattle.macros.specs.Macro.{Closure, Member, Mark, PatternUnit, Piece}
+use Rattle.macros.specs.Macro.{Member, Piece}
 use Rattle.macros.specs.Macro.Member.{single, range}
 use Rattle.macros.specs.Macro.Mark.{stack, counter}
 use Rattle.macros.specs.Macro.PatternUnit.{literal, kind, class, callOf}
 use Rattle.macros.specs.Macro.Piece.{element, start, end, left, right}
 use Rattle.macros.specs.Formed.{FormedPieces}
 use Rattle.macros.specs.Write.{digits}
-use Rattle.tables.specs.Form.{closureCode, unitCode, unitOperand, memberItems, membersItems, unitRest, pieceItems, patternItems}
+use Rattle.tables.specs.Form.{unitCode, unitOperand, memberItems, membersItems, unitRest, pieceItems, patternItems}
 use Rattle.tables.proofs.Octet.{closure-code}
 use Rattle.tables.proofs.Order.{oldest}
 use Rattle.lines.specs.State.{State, contents}
-use Rattle.states.specs.Access.{Holds, IsState, replaced}
+use Rattle.states.specs.Access.{IsState, replaced}
 use Rattle.states.proofs.Decode.{one-state-form}
 use Rattle.states.proofs.Replaced.{replaced-whole, text-more, text-end}
 use Rattle.passing.specs.Marks.{Sound}
 use Rattle.passing.specs.Finding.{FormedUnits, IsPattern, Agree}
-use Rattle.passing.specs.Seen.{Pairs, NoCall, LetterIn, SameAt, SameIn, Alike, Seen, Renewed}
+use Rattle.passing.specs.Seen.{Pairs, NoCall, LetterIn, SameAt, Alike, Seen, Renewed}
 use Rattle.passing.proofs.MarkLaws.{sound-zero, sound-agree}
 use Rattle.passing.proofs.PairLaws.{pairs-map, pairs-both}
 

@@ -4,18 +4,17 @@ use mathlib.Core.Path.{_≡_, refl, sym, ap, _∙_, subst}
 use mathlib.Core.Bool.{Bool, true, false, _||_}
 use mathlib.Core.List.{List, []}
 use native.Mathlib.Omega.{arith}
-use lib.ListN.{length, getD, take, drop, replicate, length-replicate}
+use lib.ListN.{length, getD, drop, replicate, length-replicate}
 use Rattle.macros.specs.Bounds.{mostLineBytes}
 use Rattle.macros.specs.Macro.{Macro}
 use Rattle.tables.specs.Form.{bodyBytes}
 use Rattle.lines.specs.State.{State}
-use Rattle.lines.specs.Replacing.{Work, Done, onto}
-use Rattle.lines.specs.Replacing.Done.{bad, good}
+use Rattle.lines.specs.Replacing.{Work, onto}
 use Rattle.lines.specs.Pass.{pass, outcome, occurred}
 use Rattle.lines.specs.Line.{textOf}
-use Rattle.states.specs.Access.{Holds, IsState, replaced}
+use Rattle.states.specs.Access.{Holds, replaced}
 use Rattle.replacing.specs.declared.Fault.{Fault}
-use Rattle.replacing.specs.Contract.{IsSlot, IsMoment, refusalOf}
+use Rattle.replacing.specs.Contract.{IsSlot, IsMoment}
 use Rattle.passing.specs.declared.Passed.{Passed}
 use Rattle.passing.specs.declared.Passed.the-variants.{Over, Refused as PassRefused}
 use Rattle.passing.specs.declared.walking.Attempt.{Attempt}
@@ -23,7 +22,7 @@ use Rattle.passing.specs.declared.walking.Attempt.the-variants.{Free, Oc
 use Rattle.passing.specs.declared.walking.At.{At}
 use Rattle.passing.specs.declared.walking.Went.{Went}
 use Rattle.passing.specs.declared.walking.Went.the-variants.{On, Stopped}
-use Rattle.passing.specs.Contract.{marksBytes, Comes, Passes}
+use Rattle.passing.specs.Contract.{marksBytes, Passes}
 use Rattle.passing.specs.Marks.{Sound}
 use Rattle.passing.specs.Finding.{lastOf}
 use Rattle.passing.specs.Seen.{Seen}

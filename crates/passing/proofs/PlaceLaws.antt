@@ -1,5 +1,5 @@
 -- A pass, one place at a time, as the code takes it.
-use Prim.Native.Nat.{ℕ, zero, suc, _+_, _-_, _*_, _≤_, _<_}
+use Prim.Native.Nat.{ℕ, suc, _+_, _-_, _≤_, _<_}
 use mathlib.Core.Path.{_≡_, refl, sym, ap, _∙_, subst}
 use mathlib.Core.Bool.{Bool, true, false, _||_}
 use mathlib.Core.List.{List, [], _∷_, _++_}
@@ -7,23 +7,21 @@ use mathlib.Core.Option.{Option, none, some}
 use native.Mathlib.Numerals.{add-one}
 use native.Mathlib.Omega.{arith}
 use borrow.Author.Tests.{lt-ltb, le-ltb, le-leb}
-use lib.ListN.{length, getD, take, drop, set, length-set}
+use lib.ListN.{length, getD, take, drop, set}
 use lib.Seq.{take-suc-set, drop-set-lt, drop-drop}
 use Rattle.macros.specs.Bounds.{mostLineBytes}
 use Rattle.macros.specs.Refusals.{WorkRefusal}
-use Rattle.macros.specs.Refusals.WorkRefusal.{newLineTooLong}
 use Rattle.macros.specs.Macro.{Piece, Macro}
 use Rattle.lines.specs.State.{State}
 use Rattle.lines.specs.Matching.{Division, Divides, endOf, stops}
-use Rattle.lines.specs.Replacing.{Work, Done, unless, onto, put, occur}
+use Rattle.lines.specs.Replacing.{Work, unless, put}
 use Rattle.lines.specs.Replacing.Done.{bad, good}
-use Rattle.lines.specs.Pass.{Walk, match, goOn, matched, atEnd, onward, atByte, walk, pass, outcome, occurred}
-use Rattle.lines.specs.Line.{textOf}
+use Rattle.lines.specs.Pass.{match, goOn, matched, atEnd, onward, atByte, walk, pass, outcome, occurred}
 use Rattle.lines.proofs.StepLaws.{walk-end, walk-byte, step-copy, step-match, step-empty}
 use Rattle.lines.proofs.CopiedLaws.{put-copied}
 use Rattle.lines.proofs.CopyLaws.{ends-on, ends-inside}
 use Rattle.lines.proofs.MatchLaws.{Matches, match-matches}
-use Rattle.states.specs.Access.{Holds, IsState}
+use Rattle.states.specs.Access.{IsState}
 use Rattle.replacing.specs.declared.Fault.{Fault}
 use Rattle.replacing.specs.declared.Fault.the-variants.{NewLineTooLong}
 use Rattle.replacing.specs.declared.Outcome.{Outcome}
@@ -33,13 +31,12 @@ use Rattle.passing.specs.declared.Found.{Found}
 use Rattle.passing.specs.declared.Found.the-variants.{Matched, NoMatch}
 use Rattle.passing.specs.declared.walking.Attempt.{Attempt}
 use Rattle.passing.specs.declared.walking.Attempt.the-variants.{Free, Occurred, Refused}
-use Rattle.passing.specs.declared.walking.At.{At}
 use Rattle.passing.specs.declared.walking.Went.{Went}
 use Rattle.passing.specs.declared.walking.Went.the-variants.{On, Stopped}
 use Rattle.passing.specs.Marks.{Sound}
-use Rattle.passing.specs.Finding.{IsPattern, FoundAt, Finds, pickLast, lastOf}
+use Rattle.passing.specs.Finding.{FoundAt, Finds, lastOf}
 use Rattle.passing.specs.Seen.{Seen, Renewed}
-use Rattle.passing.specs.Places.{from, matchAt, AtPlace, Happens, Fails, AttemptComes, attemptSize, Within, Stays, Attempts, wentSize, Next, CopyComes, Copies, WentComes, Ahead, Onward, Goes}
+use Rattle.passing.specs.Places.{from, matchAt, AtPlace, Happens, Fails, Attempts, wentSize, CopyComes, Copies, WentComes, Ahead, Onward, Goes}
 use Rattle.passing.proofs.GrowLaws.{Grown, occur-grown}
 
 -- THE LAST MATCH

@@ -1,12 +1,12 @@
 -- The items of a slot's pattern.
-use Prim.Native.Nat.{ℕ, suc, _+_, _-_, _*_, _≤_, _<_}
-use mathlib.Core.Path.{_≡_, refl, sym, ap, _∙_, subst}
+use Prim.Native.Nat.{ℕ, _+_, _-_, _≤_}
+use mathlib.Core.Path.{_≡_, sym, ap, _∙_}
 use mathlib.Core.List.{List}
 use native.Mathlib.Omega.{arith}
-use lib.ListN.{length, getD, take, drop, length-drop}
+use lib.ListN.{length, take, drop, length-drop}
 use lib.Seq.{length-take-le}
 use Rattle.macros.specs.Macro.{Macro}
-use Rattle.tables.specs.Form.{slotBytes, bodyBytes, patternItems, body, slot}
+use Rattle.tables.specs.Form.{slotBytes, bodyBytes, patternItems, slot}
 use Rattle.tables.specs.Check.{twoAt}
 use Rattle.tables.proofs.Sizes.{body-length, bodySize}
 use Rattle.tables.proofs.Slots.{pattern-at, pattern-part}

@@ -7,18 +7,16 @@ use mathlib.Core.Option.{Option, none, some}
 use lib.ListN.{length, getD, drop}
 use Rattle.kinds.specs.Kind.{kindTable}
 use Rattle.macros.specs.Bounds.{mostLineBytes}
-use Rattle.macros.specs.Refusals.WorkRefusal.{newLineTooLong}
 use Rattle.macros.specs.Macro.{Macro}
 use Rattle.macros.specs.Formed.{Bytes}
 use Rattle.tables.specs.Form.{bodyBytes}
 use Rattle.lines.specs.State.{State}
 use Rattle.lines.specs.Matching.{Division, endOf}
-use Rattle.lines.specs.Replacing.{Work, Done, put, occur}
+use Rattle.lines.specs.Replacing.{Work, put, occur}
 use Rattle.lines.specs.Replacing.Done.{bad, good}
 use Rattle.lines.specs.Pass.{Walk, match, walk, pass, occurred, outcome}
 use Rattle.states.specs.Access.{Holds, IsState}
 use Rattle.replacing.specs.declared.Fault.{Fault}
-use Rattle.replacing.specs.declared.Fault.the-variants.{NewLineTooLong}
 use Rattle.replacing.specs.Contract.{IsSlot, IsMoment, refusalOf}
 use Rattle.passing.specs.Contract.{marksBytes, Comes, sizeOf}
 use Rattle.passing.specs.Marks.{Sound}

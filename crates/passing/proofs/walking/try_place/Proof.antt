@@ -1,6 +1,4 @@
 use mathlib.Core.Path.{_∙_}
-use native.Mathlib.Omega.{arith}
-use denote.Ref.{now}
 use Rattle.passing.proofs.PlaceLaws.{try-free, try-divided, try-made, try-refused}
 use borrow.Author.Needs.{needs}
 use Rattle.passing.proofs.walking.try_place.Statement.{statement}
