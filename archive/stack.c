@@ -73,12 +73,13 @@ static void add(const char *text)
 }
 
 /* A macro whose pattern has a unit many times, over a line of 1,054 bytes. */
-static void worst(const char *unit, int times, const char *last)
+static void mixed(const char *first, const char *unit, int times, const char *last)
 {
     char name[64];
     int i;
     file_size = 0;
     add("'");
+    add(first);
     for (i = 0; i < times; i++)
         add(unit);
     add(last);
@@ -87,8 +88,13 @@ static void worst(const char *unit, int times, const char *last)
     m7_fresh(state, sizeof state);
     memset(line, 'a', sizeof line);
     line_size = sizeof line;
-    snprintf(name, sizeof name, "m7_feed, %d times %s and %s", times, unit, last);
+    snprintf(name, sizeof name, "m7_feed, %s, %d times %s, %s", first, times, unit, last);
     show(name, feeds);
+}
+
+static void worst(const char *unit, int times, const char *last)
+{
+    mixed("", unit, times, last);
 }
 
 static void nested(int depth)
@@ -130,6 +136,9 @@ int main(void)
     worst("?1", 252, "");
     worst("[ab]*", 84, "c");
     worst("&(a)*-", 84, "b");
+    mixed("a*-", "$", 501, "b");
+    mixed("a*-&(b)", "$", 497, "b");
+    mixed("a*-&(b)", "{}", 99, "b");
     nested(99);
     m7_read(file, file_size, table, sizeof table);
     show("m7_feed, 99 nested tags", feeds);

@@ -8,16 +8,22 @@
    RULES FOR EVERY CALL
 
    Each memory is a pointer to its first byte and its size in bytes. A pointer
-   may be null where its size is 0. The memories of one call must not overlap.
-   Calls on different memories may run at the same time on different threads.
-   A call never allocates, prints, waits or fails in another way than by its
-   answer.
+   may be null where its size is 0; else all of that size must be valid. The
+   memories of one call must not overlap. If that does not hold, nothing is
+   promised.
 
-   A call that is refused answers a number other than 0 and leaves every lent
-   memory as it was.
+   A call never allocates, prints or waits. It needs at most 1 MiB of stack;
+   that is measured and not proved (docs/DECISIONS.md).
 
-   The names below with an M7_ in front are the sizes that lent memories must
-   have; a memory of another size is refused with 3. */
+   A call that is refused answers a number other than 0, and when it returns
+   every lent memory is as it was. While it runs it may write those that are
+   not const. So calls may run at the same time on different threads if no
+   memory that one of them may write is lent to another; memories that calls
+   only read may be shared.
+
+   A table, a state, an output and a file to write to must have the sizes
+   M7_TABLE_BYTES, M7_STATE_BYTES, M7_OUTPUT_BYTES and M7_FILE_BYTES, or the
+   call is refused with 3. A file to read and a line may have any size. */
 
 #ifndef M7_H
 #define M7_H
@@ -40,7 +46,7 @@ extern "C" {
    unused), byte 1 the number of its tags, bytes 2 to 7 the lengths in bytes of
    its pattern, its replacement and its commands, two bytes each, low byte
    first. Behind them stand these three, in items of two bytes, a code and an
-   operand (docs/DECISIONS.md). */
+   operand (crates/tables/specs/Form.antt has the codes). */
 #define M7_TABLE_BYTES 98304
 
 /* A state: the flags TRACE and NFLAG (a byte each, 0 or 1); the pointers of
@@ -68,7 +74,9 @@ extern "C" {
 /* ANSWERS
 
    number  0 if the call was taken, else the refusal (below)
-   place   of a refusal 10 to 19 the byte where it shows, from 0; else 0
+   place   of a refusal 10 to 19 the byte where it shows, from 0, which is the
+           file's size where it shows at the file's end; in writing out it
+           counts in the file that would be written; else 0
    passes  m7_feed: the passes begun, also of a refused line; else 0
    kind    m7_feed: 1 the line goes out, 2 it is withheld, 3 it was a control
            line, 0 it is refused; else 0
@@ -104,7 +112,9 @@ typedef struct m7_answer {
    10  the file has more than 32,768 bytes; its first byte too many.
        In writing out: the file would have more, at its 32,769th byte
    11  byte 0
-   12  file end, ; line feed or quote before the open part is complete
+   12  file end, ; line feed or quote before the open part is complete, or a
+       quote or ; out of turn: a quoted text, a class, a call or a skip that is
+       not ended, a macro that lacks its symbol, its replacement or its ;
    13  an empty class or a bad range
    14  a closure with no unit
    15  in a pattern an unmatched right brace, a brace open at the quote, or
@@ -174,22 +184,26 @@ m7_answer m7_fresh(uint8_t *state, size_t state_size);
    `budget` passes of macros over it.
 
    Refusals, in this order: 3 (of table, state or output), 1, 2, 4, 21, 22,
-   then what the passes and a control line come to: 31 to 35, 23, and 10 to 19
-   of a $MACRO line. A refused line leaves table, state and output as they
-   were.
+   then the first that comes up: 31 to 35 in the passes, or of a control line
+   23 and, where it is $MACRO, 12 to 19. Whether a line begins with $ is looked
+   at before 31. A refused line leaves table, state and output as they were.
 
    Taken, by kind:
    M7_OUT       the output holds the rewritten line, length bytes, and zeros
-                behind it; the state is the one after the line
+                behind it; a line of 1,054 bytes has none. It never holds byte
+                0; it may hold line feeds that a replacement made, and none is
+                added at its end. The state is the one after the line
    M7_WITHHELD  NFLAG is 1 and no macro occurred: the output is all zero
    M7_CONTROL   a line that begins with $ when a pass is due or at its end:
                 $TRACE 0, $TRACE 1, $NFLAG 0 or $NFLAG 1 set a flag of the
-                state, $MACRO adds a macro to the table as the newest; the
-                output is all zero
+                state (TRACE has no effect yet), $MACRO adds a macro to the
+                table as the newest; what the passes before changed in the
+                state stays; the output is all zero
 
-   Time: a pass takes at most the pattern's elements times the line's places,
-   as long as no stack or counter that the pattern reads changes. Stack: see
-   docs/DECISIONS.md; 1 MiB is enough for every call. */
+   Time: a pass tries each element of the pattern at each place of the line at
+   most once, and again after a replacement that changes a stack or counter
+   that the pattern reads. To try a class costs its members, a call at most 50
+   bytes. There are at most as many passes as the budget. */
 m7_answer m7_feed(uint8_t *table, size_t table_size,
                   uint8_t *state, size_t state_size,
                   const uint8_t *line, size_t line_size, uint32_t budget,

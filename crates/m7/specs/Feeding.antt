@@ -1,4 +1,6 @@
 -- THE CONTRACT OF m7_feed: from the lent bytes at entry, the whole answer and what each memory then holds.
+-- Ruled out, among others, by the edits larger_output (another size than the docs state is taken), state_number (1 for bytes that are no state),
+-- refused_passes_lost (a refused line has no passes) and withheld_as_control (a withheld line has the kind of a control line).
 use Prim.Native.Nat.{ℕ, _-_}
 use mathlib.Core.Path.{_≡_}
 use mathlib.Core.Bool.{Bool, true, false, _&&_}
@@ -13,7 +15,7 @@ use Rattle.macros.specs.Macro.{Table}
 use Rattle.tables.specs.Form.{tableBytes}
 use Rattle.lines.specs.State.{State}
 use Rattle.lines.specs.Feeding.{Kind, numberOf, placeOf, kindNumber, outputOf, feed}
-use Rattle.lines.specs.Feeding.{Answer as Fed}
+use Rattle.lines.specs.Feeding.{Answer as Answered}
 use Rattle.lines.specs.Feeding.Kind.{refusedWith, out, withheld, controlled}
 use Rattle.states.specs.Form.{stateBytes}
 use Rattle.states.specs.Access.{Holds}
@@ -33,7 +35,7 @@ pub record Call : Type 0 where
   pub answer : Answer
 
 -- the answer in numbers: number, place, "the passes begun", "its kind (out, withheld, control), its length"
-unfoldable pub answerOf : Fed → Answer
+unfoldable pub answerOf : Answered → Answer
 answerOf a = record { number = numberOf (a .kind); place = placeOf (a .kind); passes = a .passes; kind = kindNumber (a .kind); length = length (outputOf (a .kind)) }
 
 -- "Output past the line is zero"; a refusal leaves the output as it was
@@ -44,7 +46,7 @@ outputWith withheld old = replicate mostLineBytes 0
 outputWith controlled old = replicate mostLineBytes 0
 
 -- the call returns what the answer a says, in its answer and in every byte of its memories
-pub record Returns (c : Call) (a : Fed) : Type 0 where
+pub record Returns (c : Call) (a : Answered) : Type 0 where
   pub answers : c .answer ≡ answerOf a
   pub tableHolds : FormOf (c .table′) (a .table)
   pub stateHolds : Holds (c .state′) (a .state)
