@@ -29,11 +29,20 @@ AllReturn (c ∷ cs) (a ∷ as₁) = Returns c a × AllReturn cs as₁
 AllReturn [] (a ∷ as₁) = ⊥
 AllReturn (c ∷ cs) [] = ⊥
 
+-- "a refused line leaves table, state and output as they were", byte for byte
+abbrev pub Keeps : Call → Type 0
+Keeps c = (c .answer .number ≡ 0 → ⊥) → (c .table′ ≡ c .table) × (c .state′ ≡ c .state) × (c .output′ ≡ c .output)
+
+abbrev pub AllKeep : List Call → Type 0
+AllKeep [] = Unit {0}
+AllKeep (c ∷ cs) = Keeps c × AllKeep cs
+
 -- the answers of which demand 3 holds, by the definition Lines of crates/lines, are those that the calls return
 pub record Holds3 (ms : Table) (st : State) (cs : List Call) : Type 0 where
   pub answers : List Answered
   pub returned : AllReturn cs answers
   pub demand : Lines ms st (fedBy cs) answers
+  pub kept : AllKeep cs
 
 -- "For every list of lines .. fed in turn from a fresh state and any accepted table, each with any budget": t is that table's bytes
 abbrev pub Demand3 : Type 0
