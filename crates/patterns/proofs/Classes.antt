@@ -21,7 +21,7 @@ use Rattle.macros.specs.Read.Step.{on, stop}
 use Rattle.macros.specs.Read.Read.{refusedAt}
 use Rattle.tables.specs.Form.{memberItems, membersItems}
 use Rattle.scanning.specs.Scan.{run, At, Reached, Stays}
-use Rattle.scanning.specs.Items.{Wrote, memberBytes}
+use Rattle.items.specs.Items.{Wrote, memberBytes}
 use Rattle.patterns.specs.Class.{classTurn, Plain, Meets, Meeting, lastOf, lastItems, pending, Takes, Membered, Classing, byteFault, putFault}
 use Rattle.scanning.specs.declared.Fault.{Fault}
 use Rattle.scanning.specs.declared.Fault.the-variants.{Incomplete, BadClass}
@@ -34,7 +34,7 @@ use Rattle.patterns.specs.declared.Last.the-variants.{Free, Member as AM
 use Rattle.patterns.specs.declared.Put.{Put}
 use Rattle.patterns.specs.declared.Put.the-variants.{At as PutAt, Refused as NoPut}
 use Rattle.scanning.proofs.Laws.{at-on, at-stop}
-use Rattle.scanning.proofs.Writing.{wrote-none, wrote-more}
+use Rattle.items.proofs.Writing.{wrote-none, wrote-more}
 
 -- A BYTE OF A CLASS
 

@@ -17,7 +17,7 @@ use Rattle.macros.specs.Read.Held.{unit, starred}
 use Rattle.macros.specs.Read.Part.{pattern, patternEscape, opened, patternCalled}
 use Rattle.tables.specs.Form.{unitCode, unitOperand, unitRest, membersItems, pieceItems}
 use Rattle.scanning.specs.Scan.{faultOf, run, Here, Passes, Stays, Calls, wrongCall}
-use Rattle.scanning.specs.Items.{Wrote}
+use Rattle.items.specs.Items.{Wrote}
 use Rattle.patterns.specs.Class.{Classed, Classing}
 use Rattle.patterns.specs.Pattern.{unitOf, pieceOf, headItems, markAt, Joins, Made, Makes, MakesOne, atQuery, atMark, atCall, atClass, atFresh, negOf, IsClass, Inner, Pieces, itemFault, classFault, elementFault}
 use Rattle.scanning.specs.declared.Fault.{Fault}
@@ -33,7 +33,7 @@ use Rattle.patterns.specs.declared.Item.the-variants.{Got, Refused as No
 use Rattle.patterns.specs.declared.Put.{Put}
 use Rattle.patterns.specs.declared.Put.the-variants.{At as PutAt, Refused as NoPut}
 use Rattle.scanning.proofs.Laws.{reached-at, reached-behind}
-use Rattle.scanning.proofs.Writing.{wrote-none, wrote-before}
+use Rattle.items.proofs.Writing.{wrote-none, wrote-before}
 use Rattle.patterns.proofs.Signs.{at-start, at-end, at-star, at-break, at-escape, at-bracket, at-query, at-stack, at-counter, at-literal, query-digit, query-literal, mark-call, mark-literal, call-letter, call-wrong, called-end, called-wrong, unit-star, unit-once, star-dash, star-more, escape-on, opened-not, opened-plain, space-letter, space-called}
 
 -- THE CLOSURE BEHIND A UNIT

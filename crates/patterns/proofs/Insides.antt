@@ -17,7 +17,7 @@ use Rattle.macros.specs.Read.Part.{pattern}
 use Rattle.macros.specs.Read.Reader.{between, inside}
 use Rattle.tables.specs.Form.{pieceItems, patternItems}
 use Rattle.scanning.specs.Scan.{run, Here, Passes}
-use Rattle.scanning.specs.Items.{Wrote, itemsOf}
+use Rattle.items.specs.Items.{Wrote, itemsOf}
 use Rattle.patterns.specs.Pattern.{IsElement, Pieced, Pieces, Fits, Grown, Ends, Reads, Begins, Starts, behindLeft, behindRight, behindElement, insideFault, pieceFault, innerFault, wholeFault}
 use Rattle.scanning.specs.declared.Fault.{Fault}
 use Rattle.scanning.specs.declared.Fault.the-variants.{BadBrace, NoElement}
@@ -31,7 +31,7 @@ use Rattle.patterns.specs.declared.Inside.the-variants.{Closed, Quote, R
 use Rattle.patterns.specs.declared.Whole.{Whole}
 use Rattle.patterns.specs.declared.Whole.the-variants.{Pattern, Refused as NoWhole}
 use Rattle.scanning.proofs.Laws.{read-go, run-now, reached-behind}
-use Rattle.scanning.proofs.Writing.{wrote-none, wrote-more, wrote-all}
+use Rattle.items.proofs.Writing.{wrote-none, wrote-more, wrote-all}
 use Rattle.patterns.proofs.Signs.{at-left, at-full, at-right, at-unmatched, at-unclosed, at-empty, at-quote}
 
 -- ITEMS

@@ -17,7 +17,7 @@ use Rattle.macros.specs.Read.Step.{on, stop}
 use Rattle.macros.specs.Read.Read.{refusedAt}
 use Rattle.tables.specs.Form.{membersItems}
 use Rattle.scanning.specs.Scan.{faultOf, run, Reached}
-use Rattle.scanning.specs.Items.{Wrote, memberBytes}
+use Rattle.items.specs.Items.{Wrote, memberBytes}
 use Rattle.scanning.specs.declared.Fault.the-variants.{Incomplete}
 use Rattle.scanning.specs.declared.Next.{Next}
 use Rattle.scanning.specs.declared.Next.the-variants.{Byte, Refused as NoByte}

@@ -18,7 +18,7 @@ use Rattle.macros.specs.Read.Part.{pattern, members, patternCall, awaitSymbol}
 use Rattle.macros.specs.Read.Read.{refusedAt}
 use Rattle.tables.specs.Form.{closureCode, unitCode, unitOperand, unitRest, pieceItems, patternItems}
 use Rattle.scanning.specs.Scan.{faultOf, run, Here, Reached}
-use Rattle.scanning.specs.Items.{Wrote, itemsOf}
+use Rattle.items.specs.Items.{Wrote, itemsOf}
 use Rattle.scanning.specs.declared.Fault.the-variants.{Incomplete, BadBrace}
 use Rattle.scanning.specs.declared.Next.{Next}
 use Rattle.scanning.specs.declared.Next.the-variants.{Byte, Refused as NoByte}

@@ -14,7 +14,7 @@ use Rattle.macros.specs.Read.{Read, step, readFrom}
 use Rattle.macros.specs.Read.Reader.{between}
 use Rattle.macros.specs.Read.Read.{refusedAt}
 use Rattle.tables.specs.Form.{bodyBytes, slotBytes, two, header, body, slot, slots}
-use Rattle.scanning.specs.Items.{Wrote}
+use Rattle.items.specs.Items.{Wrote}
 use Rattle.reading.specs.File.{Macroed, MacroFrom, usedBytes, slotOf, Seeks, Adds, AddsFrom, noQuote, noMacro}
 use Rattle.scanning.specs.declared.Fault.{Fault}
 use Rattle.scanning.specs.declared.Fault.the-variants.{TooManyMacros}
@@ -26,7 +26,7 @@ use Rattle.reading.specs.declared.Seek.the-variants.{Quote, Done, Skippi
 use Rattle.reading.specs.declared.Added.{Added}
 use Rattle.reading.specs.declared.Added.the-variants.{Refused as NotAll}
 use Rattle.scanning.proofs.Laws.{read-refuse}
-use Rattle.scanning.proofs.Writing.{wrote-none, wrote-behind}
+use Rattle.items.proofs.Writing.{wrote-none, wrote-behind}
 
 -- SLOTS
 

@@ -19,7 +19,7 @@ use Rattle.macros.specs.Read.Phase.{begun}
 use Rattle.macros.specs.Read.Step.{on, stop}
 use Rattle.tables.specs.Form.{callsItems, callItems}
 use Rattle.scanning.specs.Scan.{run, Here, Passes, Reached}
-use Rattle.scanning.specs.Items.{Wrote}
+use Rattle.items.specs.Items.{Wrote}
 use Rattle.reading.specs.Call.{CalledFrom, markOf, nextEnd}
 use Rattle.reading.specs.Action.{Does, CommandFrom, CommandsFrom}
 use Rattle.scanning.specs.declared.Fault.{Fault}
@@ -29,7 +29,7 @@ use Rattle.scanning.specs.declared.Next.the-variants.{Byte, Refused as NoByte}
 use Rattle.reading.specs.declared.Ended.{Ended}
 use Rattle.reading.specs.declared.Ended.the-variants.{Upto, Refused as NoEnd}
 use Rattle.scanning.proofs.Laws.{here-on, here-stop, here-same, reached-behind, reached-at}
-use Rattle.scanning.proofs.Writing.{wrote-none, wrote-more}
+use Rattle.items.proofs.Writing.{wrote-none, wrote-more}
 
 -- COMMANDS ONE BEHIND ANOTHER
 

@@ -25,7 +25,7 @@ use Rattle.macros.specs.Read.Read.{refusedAt}
 use Rattle.tables.specs.Form.{callItems, moveCode, four}
 use Rattle.scanning.specs.Scan.{run, Here, Calls, Reached, faultOf, wrongCall}
 use Rattle.scanning.specs.Number.{Counts, Digits, Kept, Behind, most}
-use Rattle.scanning.specs.Items.{Wrote}
+use Rattle.items.specs.Items.{Wrote}
 use Rattle.reading.specs.Call.{Names, Letter, Naming, Comes, Called, Ends, Sets, SetFrom, TagFrom, nextEnd, numberEnd, nameEnd}
 use Rattle.scanning.specs.declared.Fault.{Fault}
 use Rattle.scanning.specs.declared.Fault.the-variants.{BadCall}
@@ -39,7 +39,7 @@ use Rattle.reading.specs.declared.Ended.{Ended}
 use Rattle.reading.specs.declared.Ended.the-variants.{Upto, Refused as NoEnd}
 use Rattle.scanning.proofs.Laws.{here-on, here-stop, reached-behind}
 use Rattle.scanning.proofs.Numbers.{most-low, most-high, eats-equals, eats-increment}
-use Rattle.scanning.proofs.Writing.{wrote-more}
+use Rattle.items.proofs.Writing.{wrote-more}
 use Rattle.reading.proofs.Naming.{turn-closed, turn-unfit, call-next, call-none, here-wrong, here-into}
 
 -- a call read further

@@ -20,7 +20,7 @@ use Rattle.macros.specs.Read.Read.{refusedAt}
 use Rattle.tables.specs.Form.{patternItems, replacementItems, callsItems, symbolCode, header, body}
 use Rattle.tables.proofs.Order.{tags-reverse}
 use Rattle.scanning.specs.Scan.{run, Here}
-use Rattle.scanning.specs.Items.{Wrote}
+use Rattle.items.specs.Items.{Wrote}
 use Rattle.patterns.specs.Pattern.{Begins, Patterned}
 use Rattle.reading.specs.Action.{SymbolAt, QuoteAt, ReplacedFrom, Replaced, CommandsFrom, symbolOf}
 use Rattle.reading.specs.File.{MacroFrom, noPattern, noNext, noEnd}
@@ -35,7 +35,7 @@ use Rattle.reading.specs.declared.Ended.the-variants.{Upto, Refused as N
 use Rattle.reading.specs.declared.Built.{Built}
 use Rattle.reading.specs.declared.Built.the-variants.{Made, Refused as NoMacro}
 use Rattle.scanning.proofs.Laws.{read-go, read-refuse, run-here}
-use Rattle.scanning.proofs.Writing.{wrote-more}
+use Rattle.items.proofs.Writing.{wrote-more}
 use Rattle.patterns.proofs.Insides.{macro-begins}
 
 -- AT THE `;`

@@ -21,7 +21,7 @@ use Rattle.macros.specs.Read.Turn.{into, textOf, closed, wrong}
 use Rattle.tables.specs.Form.{callItems, moveCode}
 use Rattle.scanning.specs.Scan.{run, Here, Calls, faultOf, wrongCall}
 use Rattle.scanning.specs.Number.{Counts, Digits, Kept, most}
-use Rattle.scanning.specs.Items.{Wrote}
+use Rattle.items.specs.Items.{Wrote}
 use Rattle.reading.specs.Call.{Names, Letter, Naming, Comes, Ends, CalledFrom, Sets, SetFrom, TagFrom, StoreFrom, nextEnd, numberEnd, nameEnd}
 use Rattle.scanning.specs.declared.Fault.{Fault}
 use Rattle.scanning.specs.declared.Fault.the-variants.{BadCall}

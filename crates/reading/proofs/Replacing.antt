@@ -22,7 +22,7 @@ use Rattle.macros.specs.Read.Read.{refusedAt}
 use Rattle.tables.specs.Form.{replacementItems, actionItems}
 use Rattle.scanning.specs.Scan.{run, At, Here, Passes, Stays, Reached, faultOf}
 use Rattle.scanning.specs.Number.{Counts, Digits, Kept, most}
-use Rattle.scanning.specs.Items.{Wrote}
+use Rattle.items.specs.Items.{Wrote}
 use Rattle.reading.specs.Call.{CalledFrom, markOf, nextEnd, numberEnd}
 use Rattle.reading.specs.Action.{Acts, ActionFrom, EscapeFrom, Replaced, ReplacedFrom, wrongTag}
 use Rattle.scanning.specs.declared.Fault.{Fault}
@@ -35,7 +35,7 @@ use Rattle.reading.specs.declared.Ended.{Ended}
 use Rattle.reading.specs.declared.Ended.the-variants.{Upto, Refused as NoEnd}
 use Rattle.scanning.proofs.Laws.{here-on, here-stop, here-same, at-on, reached-behind, reached-at}
 use Rattle.scanning.proofs.Numbers.{eats-tag}
-use Rattle.scanning.proofs.Writing.{wrote-none, wrote-more}
+use Rattle.items.proofs.Writing.{wrote-none, wrote-more}
 use Rattle.reading.proofs.Ending.{most-same, within-yes}
 
 -- ACTIONS ONE BEHIND ANOTHER

@@ -19,7 +19,7 @@ use Rattle.macros.specs.Accepted.{Accepted}
 use Rattle.tables.specs.Form.{slotBytes, tableBytes, slots, form}
 use Rattle.tables.proofs.Tables.{slots-size, formSize}
 use Rattle.scanning.specs.Scan.{faultOf}
-use Rattle.scanning.specs.Items.{Wrote}
+use Rattle.items.specs.Items.{Wrote}
 use Rattle.reading.specs.File.{ZeroAt, Adds, AddsFrom, Lent, Onto, tableOf}
 use Rattle.scanning.specs.declared.Fault.{Fault}
 use Rattle.scanning.specs.declared.Fault.the-variants.{FileTooLong, ZeroByte}

@@ -8,10 +8,10 @@ use native.Mathlib.Numerals.{add-one}
 use lib.ListN.{length, getD, take, set, replicate}
 use lib.Seq.{take-suc, length-take-le}
 use Rattle.tables.specs.Form.{two}
-use Rattle.scanning.specs.Items.{Wrote}
+use Rattle.items.specs.Items.{Wrote}
 use Rattle.reading.specs.File.{usedBytes, slotOf}
 use Rattle.reading.specs.declared.Head.{Head}
-use Rattle.scanning.proofs.Writing.{wrote-one, wrote-behind}
+use Rattle.items.proofs.Writing.{wrote-one, wrote-behind}
 
 pub wrote-take : {a b : List ℕ} {n : ℕ} (f : List ℕ) (i : ℕ) → Wrote a b n (take i f) → i < length f → n + i < length b → Wrote a (set b (n + i) (getD f i 0)) n (take (i + 1) f)
 wrote-take {a} {b} {n} f i w h l =

@@ -20,7 +20,7 @@ use Rattle.macros.specs.Read.Turn.{closed, wrong}
 use Rattle.macros.specs.Read.Read.{refusedAt}
 use Rattle.tables.specs.Form.{callItems, moveCode, evened}
 use Rattle.scanning.specs.Scan.{run, At, Here, Passes, Stays, Calls, Reached, faultOf, wrongCall}
-use Rattle.scanning.specs.Items.{Wrote}
+use Rattle.items.specs.Items.{Wrote}
 use Rattle.reading.specs.Call.{Comes, Ends, Texting, TextRead, TextFrom, StoreFrom, padding, nextEnd}
 use Rattle.scanning.specs.declared.Fault.{Fault}
 use Rattle.scanning.specs.declared.Fault.the-variants.{Incomplete, BadCall}
@@ -29,7 +29,7 @@ use Rattle.scanning.specs.declared.Next.the-variants.{Byte, Refused as NoByte}
 use Rattle.reading.specs.declared.Ended.{Ended}
 use Rattle.reading.specs.declared.Ended.the-variants.{Upto, Refused as NoEnd}
 use Rattle.scanning.proofs.Laws.{here-on, here-stop, at-on, reached-behind}
-use Rattle.scanning.proofs.Writing.{wrote-none, wrote-one, wrote-more, wrote-before}
+use Rattle.items.proofs.Writing.{wrote-none, wrote-one, wrote-more, wrote-before}
 use Rattle.reading.proofs.Phases.{space-call}
 use Rattle.reading.proofs.Naming.{call-skips}
 use Rattle.reading.proofs.Ending.{ends-none, ends-wrong, ends-closed}

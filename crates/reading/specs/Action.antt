@@ -15,7 +15,7 @@ use Rattle.macros.specs.Read.Part.{awaitSymbol, awaitQuote, replacement, comman
 use Rattle.macros.specs.Read.Read.{refusedAt}
 use Rattle.tables.specs.Form.{replacementItems, callsItems}
 use Rattle.scanning.specs.Scan.{faultOf, run, Reached, Here}
-use Rattle.scanning.specs.Items.{Wrote}
+use Rattle.items.specs.Items.{Wrote}
 use Rattle.scanning.specs.declared.Next.{Next}
 use Rattle.scanning.specs.declared.Next.the-variants.{Byte, Refused as NoByte}
 use Rattle.reading.specs.declared.Ended.{Ended}

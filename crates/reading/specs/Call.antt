@@ -18,7 +18,7 @@ use Rattle.macros.specs.Read.Read.{refusedAt}
 use Rattle.tables.specs.Form.{callItems, moveCode, four}
 use Rattle.scanning.specs.Scan.{faultOf, run, Reached, Here}
 use Rattle.scanning.specs.Number.{Eats, most}
-use Rattle.scanning.specs.Items.{Wrote}
+use Rattle.items.specs.Items.{Wrote}
 use Rattle.scanning.specs.declared.Fault.{Fault}
 use Rattle.scanning.specs.declared.Fault.the-variants.{Incomplete}
 use Rattle.scanning.specs.declared.Next.{Next}

@@ -4,13 +4,13 @@ use crate::Name;
 use scanning::Fault;
 use scanning::Next;
 use scanning::Number;
-use scanning::items::put_item;
+use items::put_item;
 use scanning::scan::any_byte;
 use scanning::scan::call_byte;
 use scanning::scan::digits;
-use scanning::scan::escaped_byte;
-use scanning::scan::is_break;
-use scanning::scan::is_lower;
+use letters::escaped_byte;
+use letters::is_break;
+use letters::is_lower;
 use scanning::scan::next_byte;
 use scanning::scan::wrong_byte;
 ghost use mathlib.Core.Path.{_≡_};
@@ -23,7 +23,7 @@ ghost use Rattle.macros.specs.Macro.Mark.{stack};
 ghost use Rattle.macros.specs.Read.{isSign};
 ghost use Rattle.tables.specs.Form.{four};
 ghost use Rattle.scanning.specs.Scan.{Reached, Here};
-ghost use Rattle.scanning.specs.Items.{Wrote};
+ghost use Rattle.items.specs.Items.{Wrote};
 ghost use Rattle.reading.specs.Call.{CalledFrom, CounterFrom, Naming, Texting, TextFrom, SetFrom, TagFrom, StoreFrom, markOf, signCode, padding, nextName, nextEnd, numberEnd, nameEnd};
 
 // REFUSALS HANDED ON

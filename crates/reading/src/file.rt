@@ -18,7 +18,7 @@ use patterns::pattern::whole;
 use scanning::Fault;
 use scanning::MOST_MACRO_BYTES;
 use scanning::Next;
-use scanning::items::clear;
+use items::clear;
 ghost use mathlib.Core.Path.{_≡_};
 ghost use Prim.Native.Nat.{_≤_, _<_};
 ghost use lib.ListN.{length, getD};

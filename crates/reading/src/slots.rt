@@ -1,13 +1,13 @@
 // Storing a macro in its slot of a table.
 use crate::Head;
 use crate::SLOT_BYTES;
-use scanning::items::clear;
-use scanning::items::put_item;
+use items::clear;
+use items::put_item;
 ghost use Prim.Native.Nat.{_≤_, _<_, _+_};
 ghost use lib.ListN.{length, take};
 ghost use Rattle.macros.specs.Bounds.{mostTags};
 ghost use Rattle.tables.specs.Form.{slotBytes, bodyBytes, two};
-ghost use Rattle.scanning.specs.Items.{Wrote};
+ghost use Rattle.items.specs.Items.{Wrote};
 ghost use Rattle.reading.specs.File.{usedBytes, slotOf};
 
 // A number of two bytes, low byte first.

@@ -1,7 +1,7 @@
 -- The machine from a place on: one byte further, for every state.
 -- Assumes nothing.
 use mathlib.Core.Path.{_≡_, refl, ap, sym, _∙_}
-use mathlib.Core.Bool.{Bool, true, false, not, _&&_, and-false, or-false}
+use mathlib.Core.Bool.{Bool, true, false, not, _&&_, and-false}
 use mathlib.Core.List.{List, _∷_}
 use Prim.Native.Nat.{ℕ, suc, _+_, _-_, _≤_, _<_}
 use native.Mathlib.Omega.{arith}
@@ -12,7 +12,7 @@ use lib.Dec.{eqb, ltb}
 use borrow.Author.Tests.{ne-eqb, le-ltb, lt-ltb, ltb-true, ltb-false}
 use Rattle.macros.specs.Refusals.{FileRefusal}
 use Rattle.macros.specs.Refusals.FileRefusal.{incomplete, badCall, macroTooLong}
-use Rattle.macros.specs.Macro.{Macro, pick, among}
+use Rattle.macros.specs.Macro.{Macro, pick}
 use Rattle.macros.specs.Read.{Part, Reader, readFrom, step, partByte, taken, count, skips, atEnd, breaks, otherwise}
 use Rattle.macros.specs.Read.Step.{on, stop}
 use Rattle.macros.specs.Read.Reader.{inside}
@@ -139,18 +139,6 @@ stop-pick st false = refl
 pub otherwise-wrong : (st : Part) (b : ℕ) → (b ≡ 32 → ⊥) → otherwise st b ≡ stop (wrongCall b)
 unfolding otherwise wrongCall
 otherwise-wrong st b e = simp (ne-eqb _ _ e) (stop-pick st (breaks b))
-
-pub breaks-quote : {b : ℕ} → b ≡ 39 → breaks b ≡ true
-unfolding breaks among
-breaks-quote e = simp e
-
-pub breaks-semicolon : {b : ℕ} → b ≡ 59 → breaks b ≡ true
-unfolding breaks among
-breaks-semicolon e = simp e
-
-pub breaks-feed : {b : ℕ} → (b ≡ 39 → ⊥) → (b ≡ 59 → ⊥) → breaks b ≡ eqb b 10
-unfolding breaks among
-breaks-feed e f = simp (ne-eqb _ _ e, ne-eqb _ _ f, or-false)
 
 -- IN A CALL
 

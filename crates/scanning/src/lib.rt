@@ -1,6 +1,5 @@
-// What every part of the macro-file reader is made of: the next byte of a macro, numbers, and writing items.
+// What every part of the macro-file reader is made of: the next byte of a macro, and numbers.
 // What each answer says of the machine of the definitions stands in specs/.
-pub mod items;
 pub mod scan;
 
 // The bytes from a macro's first quote to its `;`, both counted.

@@ -1,14 +1,15 @@
-// The leaves of the reader: bytes behind skips and spaces, escapes and numbers. Only these know of skips and of the 513th byte.
+// The leaves of the reader: bytes behind skips and spaces, and numbers. Only these know of skips and of the 513th byte.
 use crate::Fault;
 use crate::MOST_MACRO_BYTES;
 use crate::Next;
 use crate::Number;
+use letters::is_break;
+use letters::is_digit;
 ghost use mathlib.Core.Path.{_≡_};
 ghost use mathlib.Core.Bool.{true};
 ghost use Prim.Native.Nat.{_≤_, _*_, _+_, _-_};
 ghost use Rattle.macros.specs.Bounds.{mostCounter};
-ghost use Rattle.macros.specs.Macro.{lower, digit};
-ghost use Rattle.macros.specs.Read.{breaks, escaped};
+ghost use Rattle.macros.specs.Macro.{digit};
 ghost use Rattle.scanning.specs.Scan.{Reached, Passes, Stays, Calls, wrongCall, faultOf};
 ghost use Rattle.scanning.specs.Number.{Counts, most, numberFault};
 
@@ -70,44 +71,6 @@ pub fn call_byte(s: &[u8], a: usize, first: usize) -> Next
         }
         at = q + 1;
     }
-}
-
-// The byte that `\` and a byte mean.
-pub fn escaped_byte(b: u8) -> u8
-    ensures { λ r. ⌜ r ≡ escaped b ⌝ }
-{
-    if b == b'n' {
-        return 10;
-    }
-    if b == b't' {
-        return 9;
-    }
-    b
-}
-
-// A raw quote, `;` or line feed.
-pub fn is_break(b: u8) -> bool
-    ensures { λ r. ⌜ r ≡ breaks b ⌝ }
-{
-    if b == b'\'' {
-        return true;
-    }
-    if b == b';' {
-        return true;
-    }
-    b == 10
-}
-
-pub fn is_lower(b: u8) -> bool
-    ensures { λ r. ⌜ r ≡ lower b ⌝ }
-{
-    97 <= b && b <= 122
-}
-
-pub fn is_digit(b: u8) -> bool
-    ensures { λ r. ⌜ r ≡ digit b ⌝ }
-{
-    48 <= b && b <= 57
 }
 
 // What a byte that a call cannot have shows.

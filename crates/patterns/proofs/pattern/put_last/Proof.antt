@@ -2,7 +2,7 @@ use mathlib.Core.List.{[], _∷_}
 use native.Mathlib.Omega.{arith}
 use native.Mathlib.Nat.{add-zero}
 use mathlib.Core.Path.{sym, refl}
-use Rattle.scanning.proofs.Writing.{wrote-none, wrote-more}
+use Rattle.items.proofs.Writing.{wrote-none, wrote-more}
 use borrow.Author.Needs.{needs}
 use Rattle.patterns.proofs.pattern.put_last.Statement.{statement}
 use Rattle.patterns.proofs.pattern.put_last.Tie as tie

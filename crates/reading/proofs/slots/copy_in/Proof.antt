@@ -2,8 +2,8 @@ use mathlib.Core.Path.{_≡_, refl}
 use Prim.Native.Nat.{_≤_, _-_}
 use native.Mathlib.Omega.{arith}
 use lib.ListN.{length, take, length-set}
-use Rattle.scanning.specs.Items.{Wrote}
-use Rattle.scanning.proofs.Writing.{wrote-none}
+use Rattle.items.specs.Items.{Wrote}
+use Rattle.items.proofs.Writing.{wrote-none}
 use Rattle.reading.proofs.Storing.{wrote-take}
 use Rattle.reading.proofs.slots.copy_in.Statement.{statement}
 use Rattle.reading.proofs.slots.copy_in.Tie as tie
