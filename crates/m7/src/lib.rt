@@ -91,7 +91,7 @@ pub extern "C" fn m7_fresh(state: &mut [u8]) -> Answer
     if state.len() != STATE_BYTES {
         return refusal(3, 0);
     }
-    states::put_fresh(state);
+    storing::put_fresh(state);
     taken(0)
 }
 
@@ -118,7 +118,7 @@ pub extern "C" fn m7_feed(
     if !checking::is_table(table) {
         return refusal(1, 0);
     }
-    if !states::is_state(state) {
+    if !state_check::is_state(state) {
         return refusal(2, 0);
     }
     let fed = feeding::feed(table, state, line, budget, output);

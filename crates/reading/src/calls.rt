@@ -1,16 +1,16 @@
 // Calls of a replacement and of commands, from behind their `&(` or `#(` to behind their `)`.
 use crate::Ended;
 use crate::Name;
-use scanning::Fault;
-use scanning::Next;
-use scanning::Number;
 use items::put_item;
-use scanning::scan::any_byte;
-use scanning::scan::call_byte;
-use scanning::scan::digits;
 use letters::escaped_byte;
 use letters::is_break;
 use letters::is_lower;
+use scanning::Fault;
+use scanning::Next;
+use scanning::Number;
+use scanning::scan::any_byte;
+use scanning::scan::call_byte;
+use scanning::scan::digits;
 use scanning::scan::next_byte;
 use scanning::scan::wrong_byte;
 ghost use mathlib.Core.Path.{_≡_};
