@@ -7,7 +7,7 @@ use mathlib.Core.Option.{Option, none, some}
 use Prim.Native.Nat.{ℕ, zero, suc, _+_, _-_, _*_, _≤_, _<_}
 use native.Mathlib.Omega.{arith}
 use native.Mathlib.Decide.{ℕ-discrete}
-use native.Mathlib.Nat.{zero-mul, suc-mul, mul-le-mul-right, le-mul-of-pos-right}
+use native.Mathlib.Nat.{zero-mul, suc-mul, mul-le-mul, le-mul-of-pos-right}
 use lib.ListN.{length, set, drop}
 use Rattle.macros.specs.Bounds.{mostLineBytes}
 use Rattle.macros.specs.Macro.{Closure, PatternUnit, Piece}
@@ -43,8 +43,8 @@ place-zero q w = let z = zero-mul w in omega arith
 place-next : (q n w : ℕ) → placeOf q (n + 1) w ≡ placeOf q n w + w
 place-next q n w = let z = suc-mul n w in let y = ap (λ (k : ℕ). k * w) (let x : n + 1 ≡ suc n = omega arith in x) in omega arith
 
-pub place-inside : (q k n w m : ℕ) → k ≤ n → q + n * w ≤ m → q + k * w ≤ m
-place-inside q k n w m l h = let z = mul-le-mul-right {m = k} {n = n} w l in omega arith
+place-inside : (q k n v w m : ℕ) → k ≤ n → v ≤ w → q + n * w ≤ m → q + k * v ≤ m
+place-inside q k n v w m l x h = let z = mul-le-mul {n₁ = k} {m₁ = v} {n₂ = n} {m₂ = w} l x in omega arith
 
 pub count-inside : (q n w m : ℕ) → 1 ≤ w → q + n * w ≤ m → n ≤ m
 count-inside q n w m l h = let z = le-mul-of-pos-right {m = w} n (omega arith) in omega arith
@@ -140,18 +140,19 @@ module _ (items kinds b t : List ℕ) (at next w q n : ℕ) (marks₀ ends₀ : 
   pub untried-start : Untried items b t at w q n 0 marks₀ marks₀ ends₀
   untried-start = record { some = omega arith; kept = kept-start items b t marks₀ ends₀ (k .noted); furthest = rw (let z : n - 0 ≡ n = omega arith in z) (k .most .furthest) }
 
-  -- a place behind some of the copies
-  pub row-place : (j : ℕ) → j ≤ n → q + j * w ≤ length t
-  row-place j l = place-inside q j n w (length t) l (k .most .row .inside)
+  -- j times v bytes behind q, of n times w
+  module _ (j v : ℕ) (l : j ≤ n) (m : v ≤ w) where
+    pub row-place : q + j * v ≤ length t
+    row-place = place-inside q j n v w (length t) l m (k .most .row .inside)
 
-  pub row-small : (j : ℕ) → j ≤ n → q + j * w ≤ mostLineBytes
-  row-small j l = let h = row-place j l in let s = k .given .short in omega arith
+    pub row-small : q + j * v ≤ mostLineBytes
+    row-small = let h = row-place in let s = k .given .short in omega arith
+
+    pub row-trying : (marks ends : List ℕ) → Noted items b t marks ends → Trying items kinds b t next (q + j * v) marks ends
+    row-trying marks ends o = next-trying items kinds b t at next (q + j * v) marks ends (k .given) o (k .stands) (k .behind) row-place
 
   pub most-small : n ≤ mostLineBytes
   most-small = let l = count-inside q n w (length t) (k .some) (k .most .row .inside) in let s = k .given .short in omega arith
-
-  pub row-trying : (j : ℕ) (marks ends : List ℕ) → j ≤ n → Noted items b t marks ends → Trying items kinds b t next (q + j * w) marks ends
-  row-trying j marks ends l o = next-trying items kinds b t at next (q + j * w) marks ends (k .given) o (k .stands) (k .behind) (row-place j l)
 
   rest-at : (e : Piece) (es : List Piece) → IsRest items at (e ∷ es) → IsRest items next es
   rest-at e es i = rw (k .behind e es i) (rest-next items at e es i)
@@ -187,7 +188,7 @@ module _ (items kinds b t : List ℕ) (at next w q n : ℕ) (marks₀ ends₀ : 
           said-first (element u c) es (after st u es t q) (answer st es t (q + (n - back) * w)) at next q (q + (n - back) * w) m ends′ (k .behind (element u c) es i) z
           (first-found u c es i st h (n - back) m (omega arith) (o .furthest u c es i st h) (s .found)) s;
       kept =
-          kept-end items b t marks₀ marks′ ends′ at (q + (n - back) * w) z (place-inside q (n - back) n w (length t) (omega arith) (k .most .row .inside))
+          kept-end items b t marks₀ marks′ ends′ at (q + (n - back) * w) z (row-place (n - back) w (omega arith) (omega arith))
           (kept-on items b t marks₀ marks marks′ ends ends′ (o .kept) (y .kept));
     }
 
@@ -205,7 +206,7 @@ module _ (items kinds b t : List ℕ) (at next w q n : ℕ) (marks₀ ends₀ : 
         pub mark-kept : Kept items b t marks₀ marks₂ ends′
         mark-kept =
             let s = k .stands in
-            let l = place-inside q (n - back) n w (length t) (omega arith) (k .most .row .inside) in
+            let l = row-place (n - back) w (omega arith) (omega arith) in
             let m = k .given .short in
             let r = rest-inside items at (s .piece) (s .pieces) (s .is) in
             record {

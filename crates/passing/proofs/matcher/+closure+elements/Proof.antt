@@ -1,17 +1,14 @@
 -- Assumes nothing.
-use mathlib.Core.Path.{sym, _∙_}
-use Prim.Native.Nat.{_+_, _-_, _*_}
+use mathlib.Core.Path.{refl, sym, _∙_}
 use native.Mathlib.Omega.{arith}
-use borrow.Author.Needs.{needs}
 use borrow.Author.Tests.{eqb-true}
 use lib.ListN.{length, length-set}
 use Rattle.passing.proofs.TryLaws.{again-wide, read-inside, stands, tried-done, tried-nothing, tried-more, tried-first, tried-fails, next-trying, next-inside, copied-marked, at-small, in-row, in-ends, place-small}
 use Rattle.passing.proofs.RowLaws.{Untried, untried-start, copied-first, copied-none, untried-next, row-place, row-small, row-trying, most-small, count-inside}
 use mir.Val.{Fits}
 use mir.Syntax.{w16, w64}
-use Prim.Native.Nat.{_≤_}
 use Rattle.macros.specs.Bounds.{mostLineBytes}
-use Prim.Native.Nat.{ℕ, _<_}
+use Prim.Native.Nat.{ℕ, _+_, _-_, _*_, _≤_, _<_}
 use borrow.Fn.Kinds.{In}
 use borrow.Fn.PlainCycle.{Measures, is, falls, and}
 use Rattle.passing.proofs.matcher.closure.Reads as closure
@@ -72,19 +69,19 @@ closure-sub-kept : (t : ℕ) → closure-lts.Need-sub-kept (elements-below t, el
 closure-sub-kept t c = let l = c .loop .inv .some in omega arith
 
 closure-mul-r : (t : ℕ) → closure-lts.Need-mul-r (elements-below t, elements.Post, set-mark-reads.Asked, set-mark-reads.Learnt) (closure-at t) closure.Post closure-Inv-loop closure-μ-loop
-closure-mul-r t c = fit-part _ _ _ (row-small (c .before .before .before .before .before .before .args .items .now) (c .before .before .before .before .before .before .args .kinds .now) (c .before .before .before .before .before .before .args .state .now) (c .before .before .before .before .before .before .args .line .now) (c .before .before .before .before .before .before .args .at) (c .before .before .before .before .before .before .args .next) (c .before .before .before .before .before .before .args .w) (c .before .before .before .before .before .before .args .q) (c .before .before .before .before .before .before .args .most) (c .before .before .before .before .before .before .args .marks .now) (c .before .before .before .before .before .before .args .ends .now) (c .before .before .before .before .before .before .pre .1) _ (let l = c .loop .inv .some in omega arith))
+closure-mul-r t c = fit-part _ _ _ (row-small (c .before .before .before .before .before .before .args .items .now) (c .before .before .before .before .before .before .args .kinds .now) (c .before .before .before .before .before .before .args .state .now) (c .before .before .before .before .before .before .args .line .now) (c .before .before .before .before .before .before .args .at) (c .before .before .before .before .before .before .args .next) (c .before .before .before .before .before .before .args .w) (c .before .before .before .before .before .before .args .q) (c .before .before .before .before .before .before .args .most) (c .before .before .before .before .before .before .args .marks .now) (c .before .before .before .before .before .before .args .ends .now) (c .before .before .before .before .before .before .pre .1) _ _ (let l = c .loop .inv .some in omega arith) (let s = c .before .before .before .before .before .before .pre .1 .some in omega arith))
 
 closure-add-r : (t : ℕ) → closure-lts.Need-add-r (elements-below t, elements.Post, set-mark-reads.Asked, set-mark-reads.Learnt) (closure-at t) closure.Post closure-Inv-loop closure-μ-loop
-closure-add-r t c = fit-place _ (row-small (c .before .before .before .before .before .before .args .items .now) (c .before .before .before .before .before .before .args .kinds .now) (c .before .before .before .before .before .before .args .state .now) (c .before .before .before .before .before .before .args .line .now) (c .before .before .before .before .before .before .args .at) (c .before .before .before .before .before .before .args .next) (c .before .before .before .before .before .before .args .w) (c .before .before .before .before .before .before .args .q) (c .before .before .before .before .before .before .args .most) (c .before .before .before .before .before .before .args .marks .now) (c .before .before .before .before .before .before .args .ends .now) (c .before .before .before .before .before .before .pre .1) _ (let l = c .loop .inv .some in omega arith))
+closure-add-r t c = fit-place _ (row-small (c .before .before .before .before .before .before .args .items .now) (c .before .before .before .before .before .before .args .kinds .now) (c .before .before .before .before .before .before .args .state .now) (c .before .before .before .before .before .before .args .line .now) (c .before .before .before .before .before .before .args .at) (c .before .before .before .before .before .before .args .next) (c .before .before .before .before .before .before .args .w) (c .before .before .before .before .before .before .args .q) (c .before .before .before .before .before .before .args .most) (c .before .before .before .before .before .before .args .marks .now) (c .before .before .before .before .before .before .args .ends .now) (c .before .before .before .before .before .before .pre .1) _ _ (let l = c .loop .inv .some in omega arith) (let s = c .before .before .before .before .before .before .pre .1 .some in omega arith))
 
 closure-elements-requires : (t : ℕ) → closure-lts.Need-elements-requires (elements-below t, elements.Post, set-mark-reads.Asked, set-mark-reads.Learnt) (closure-at t) closure.Post closure-Inv-loop closure-μ-loop
-closure-elements-requires t c κs = let m = c .before .before .before .before .before .before .before .before .pre .0 in let i = next-inside _ _ _ (c .before .before .before .before .before .before .before .before .pre .1 .stands) (c .before .before .before .before .before .before .before .before .pre .1 .behind) in (omega arith, row-trying (c .before .before .before .before .before .before .before .before .args .items .now) (c .before .before .before .before .before .before .before .before .args .kinds .now) (c .before .before .before .before .before .before .before .before .args .state .now) (c .before .before .before .before .before .before .before .before .args .line .now) (c .before .before .before .before .before .before .before .before .args .at) (c .before .before .before .before .before .before .before .before .args .next) (c .before .before .before .before .before .before .before .before .args .w) (c .before .before .before .before .before .before .before .before .args .q) (c .before .before .before .before .before .before .before .before .args .most) (c .before .before .before .before .before .before .before .before .args .marks .now) (c .before .before .before .before .before .before .before .before .args .ends .now) (c .before .before .before .before .before .before .before .before .pre .1) _ _ _ (let l = c .before .before .loop .inv .some in omega arith) (c .before .before .loop .inv .kept .noted))
+closure-elements-requires t c κs = let m = c .before .before .before .before .before .before .before .before .pre .0 in let i = next-inside _ _ _ (c .before .before .before .before .before .before .before .before .pre .1 .stands) (c .before .before .before .before .before .before .before .before .pre .1 .behind) in (omega arith, row-trying (c .before .before .before .before .before .before .before .before .args .items .now) (c .before .before .before .before .before .before .before .before .args .kinds .now) (c .before .before .before .before .before .before .before .before .args .state .now) (c .before .before .before .before .before .before .before .before .args .line .now) (c .before .before .before .before .before .before .before .before .args .at) (c .before .before .before .before .before .before .before .before .args .next) (c .before .before .before .before .before .before .before .before .args .w) (c .before .before .before .before .before .before .before .before .args .q) (c .before .before .before .before .before .before .before .before .args .most) (c .before .before .before .before .before .before .before .before .args .marks .now) (c .before .before .before .before .before .before .before .before .args .ends .now) (c .before .before .before .before .before .before .before .before .pre .1) _ _ (let l = c .before .before .loop .inv .some in omega arith) (let s = c .before .before .before .before .before .before .before .before .pre .1 .some in omega arith) _ _ (c .before .before .loop .inv .kept .noted))
 
 closure-enum-known-end : (t : ℕ) → closure-lts.Need-enum-known-end (elements-below t, elements.Post, set-mark-reads.Asked, set-mark-reads.Learnt) (closure-at t) closure.Post closure-Inv-loop closure-μ-loop
-closure-enum-known-end t c = search needs
+closure-enum-known-end t c = c .match .keys1
 
 closure-cast-ends : (t : ℕ) → closure-lts.Need-cast-ends (elements-below t, elements.Post, set-mark-reads.Asked, set-mark-reads.Learnt) (closure-at t) closure.Post closure-Inv-loop closure-μ-loop
-closure-cast-ends t c = fit-cast _ (row-small (c .before .before .before .before .before .before .before .before .before .before .before .before .before .before .before .before .args .items .now) (c .before .before .before .before .before .before .before .before .before .before .before .before .before .before .before .before .args .kinds .now) (c .before .before .before .before .before .before .before .before .before .before .before .before .before .before .before .before .args .state .now) (c .before .before .before .before .before .before .before .before .before .before .before .before .before .before .before .before .args .line .now) (c .before .before .before .before .before .before .before .before .before .before .before .before .before .before .before .before .args .at) (c .before .before .before .before .before .before .before .before .before .before .before .before .before .before .before .before .args .next) (c .before .before .before .before .before .before .before .before .before .before .before .before .before .before .before .before .args .w) (c .before .before .before .before .before .before .before .before .before .before .before .before .before .before .before .before .args .q) (c .before .before .before .before .before .before .before .before .before .before .before .before .before .before .before .before .args .most) (c .before .before .before .before .before .before .before .before .before .before .before .before .before .before .before .before .args .marks .now) (c .before .before .before .before .before .before .before .before .before .before .before .before .before .before .before .before .args .ends .now) (c .before .before .before .before .before .before .before .before .before .before .before .before .before .before .before .before .pre .1) _ (let l = c .before .before .before .before .before .before .before .before .before .before .loop .inv .some in omega arith))
+closure-cast-ends t c = fit-cast _ (row-small (c .before .before .before .before .before .before .before .before .before .before .before .before .before .before .before .before .args .items .now) (c .before .before .before .before .before .before .before .before .before .before .before .before .before .before .before .before .args .kinds .now) (c .before .before .before .before .before .before .before .before .before .before .before .before .before .before .before .before .args .state .now) (c .before .before .before .before .before .before .before .before .before .before .before .before .before .before .before .before .args .line .now) (c .before .before .before .before .before .before .before .before .before .before .before .before .before .before .before .before .args .at) (c .before .before .before .before .before .before .before .before .before .before .before .before .before .before .before .before .args .next) (c .before .before .before .before .before .before .before .before .before .before .before .before .before .before .before .before .args .w) (c .before .before .before .before .before .before .before .before .before .before .before .before .before .before .before .before .args .q) (c .before .before .before .before .before .before .before .before .before .before .before .before .before .before .before .before .args .most) (c .before .before .before .before .before .before .before .before .before .before .before .before .before .before .before .before .args .marks .now) (c .before .before .before .before .before .before .before .before .before .before .before .before .before .before .before .before .args .ends .now) (c .before .before .before .before .before .before .before .before .before .before .before .before .before .before .before .before .pre .1) _ _ (let l = c .before .before .before .before .before .before .before .before .before .before .loop .inv .some in omega arith) (let s = c .before .before .before .before .before .before .before .before .before .before .before .before .before .before .before .before .pre .1 .some in omega arith))
 
 closure-mul-ends : (t : ℕ) → closure-lts.Need-mul-ends (elements-below t, elements.Post, set-mark-reads.Asked, set-mark-reads.Learnt) (closure-at t) closure.Post closure-Inv-loop closure-μ-loop
 closure-mul-ends t c = let z = at-small _ _ _ _ _ (c .before .before .before .before .before .before .before .before .before .before .before .before .before .before .before .before .pre .1 .given) (c .before .before .before .before .before .before .before .before .before .before .before .before .before .before .before .before .pre .1 .stands) in omega arith
@@ -102,10 +99,10 @@ closure-returns : (t : ℕ) → closure-lts.Need-returns (elements-below t, elem
 closure-returns t c = copied-first (c .before .before .before .before .before .before .before .before .before .before .before .before .before .before .before .before .args .items .now) (c .before .before .before .before .before .before .before .before .before .before .before .before .before .before .before .before .args .kinds .now) (c .before .before .before .before .before .before .before .before .before .before .before .before .before .before .before .before .args .state .now) (c .before .before .before .before .before .before .before .before .before .before .before .before .before .before .before .before .args .line .now) (c .before .before .before .before .before .before .before .before .before .before .before .before .before .before .before .before .args .at) (c .before .before .before .before .before .before .before .before .before .before .before .before .before .before .before .before .args .next) (c .before .before .before .before .before .before .before .before .before .before .before .before .before .before .before .before .args .w) (c .before .before .before .before .before .before .before .before .before .before .before .before .before .before .before .before .args .q) (c .before .before .before .before .before .before .before .before .before .before .before .before .before .before .before .before .args .most) (c .before .before .before .before .before .before .before .before .before .before .before .before .before .before .before .before .args .marks .now) (c .before .before .before .before .before .before .before .before .before .before .before .before .before .before .before .before .args .ends .now) (c .before .before .before .before .before .before .before .before .before .before .before .before .before .before .before .before .pre .1) _ (c .before .before .before .before .before .before .before .before .before .before .loop .marks) (c .before .before .before .before .before .before .before .before .before .before .loop .ends) (c .before .before .before .before .before .before .before .before .before .before .loop .inv) _ _ _ (in-ends _ _ _ _ _ (c .before .before .before .before .before .before .before .before .before .before .before .before .before .before .before .before .pre .1 .given) (c .before .before .before .before .before .before .before .before .before .before .before .before .before .before .before .before .pre .1 .stands) _ (c .before .before .before .before .before .before .before .elements .ensures .kept .noted .count)) (rw (c .before .end .given .1) at (c .before .before .before .before .before .before .before .elements .ensures))
 
 closure-enum-told : (t : ℕ) → closure-lts.Need-enum-told (elements-below t, elements.Post, set-mark-reads.Asked, set-mark-reads.Learnt) (closure-at t) closure.Post closure-Inv-loop closure-μ-loop
-closure-enum-told t c = search needs
+closure-enum-told t c = c .match .keys2
 
 closure-set-mark-requires : (t : ℕ) → closure-lts.Need-set-mark-requires (elements-below t, elements.Post, set-mark-reads.Asked, set-mark-reads.Learnt) (closure-at t) closure.Post closure-Inv-loop closure-μ-loop
-closure-set-mark-requires t c κs = in-row _ _ _ _ _ (c .before .before .before .before .before .before .before .before .before .before .before .before .before .before .before .before .pre .1 .given) (c .before .before .before .before .before .before .before .before .before .before .before .before .before .before .before .before .pre .1 .stands) _ _ (c .before .before .before .before .before .before .before .elements .ensures .kept .noted .size) (row-place (c .before .before .before .before .before .before .before .before .before .before .before .before .before .before .before .before .args .items .now) (c .before .before .before .before .before .before .before .before .before .before .before .before .before .before .before .before .args .kinds .now) (c .before .before .before .before .before .before .before .before .before .before .before .before .before .before .before .before .args .state .now) (c .before .before .before .before .before .before .before .before .before .before .before .before .before .before .before .before .args .line .now) (c .before .before .before .before .before .before .before .before .before .before .before .before .before .before .before .before .args .at) (c .before .before .before .before .before .before .before .before .before .before .before .before .before .before .before .before .args .next) (c .before .before .before .before .before .before .before .before .before .before .before .before .before .before .before .before .args .w) (c .before .before .before .before .before .before .before .before .before .before .before .before .before .before .before .before .args .q) (c .before .before .before .before .before .before .before .before .before .before .before .before .before .before .before .before .args .most) (c .before .before .before .before .before .before .before .before .before .before .before .before .before .before .before .before .args .marks .now) (c .before .before .before .before .before .before .before .before .before .before .before .before .before .before .before .before .args .ends .now) (c .before .before .before .before .before .before .before .before .before .before .before .before .before .before .before .before .pre .1) _ (let l = c .before .before .before .before .before .before .before .before .before .before .loop .inv .some in omega arith))
+closure-set-mark-requires t c κs = in-row _ _ _ _ _ (c .before .before .before .before .before .before .before .before .before .before .before .before .before .before .before .before .pre .1 .given) (c .before .before .before .before .before .before .before .before .before .before .before .before .before .before .before .before .pre .1 .stands) _ _ (c .before .before .before .before .before .before .before .elements .ensures .kept .noted .size) (row-place (c .before .before .before .before .before .before .before .before .before .before .before .before .before .before .before .before .args .items .now) (c .before .before .before .before .before .before .before .before .before .before .before .before .before .before .before .before .args .kinds .now) (c .before .before .before .before .before .before .before .before .before .before .before .before .before .before .before .before .args .state .now) (c .before .before .before .before .before .before .before .before .before .before .before .before .before .before .before .before .args .line .now) (c .before .before .before .before .before .before .before .before .before .before .before .before .before .before .before .before .args .at) (c .before .before .before .before .before .before .before .before .before .before .before .before .before .before .before .before .args .next) (c .before .before .before .before .before .before .before .before .before .before .before .before .before .before .before .before .args .w) (c .before .before .before .before .before .before .before .before .before .before .before .before .before .before .before .before .args .q) (c .before .before .before .before .before .before .before .before .before .before .before .before .before .before .before .before .args .most) (c .before .before .before .before .before .before .before .before .before .before .before .before .before .before .before .before .args .marks .now) (c .before .before .before .before .before .before .before .before .before .before .before .before .before .before .before .before .args .ends .now) (c .before .before .before .before .before .before .before .before .before .before .before .before .before .before .before .before .pre .1) _ _ (let l = c .before .before .before .before .before .before .before .before .before .before .loop .inv .some in omega arith) (let s = c .before .before .before .before .before .before .before .before .before .before .before .before .before .before .before .before .pre .1 .some in omega arith))
 
 closure-same-length-3 : (t : ℕ) → closure-lts.Need-same-length-3 (elements-below t, elements.Post, set-mark-reads.Asked, set-mark-reads.Learnt) (closure-at t) closure.Post closure-Inv-loop closure-μ-loop
 closure-same-length-3 t c = c .before .before .before .set-mark .ensures .size ∙ c .before .before .before .before .before .before .before .before .before .before .before .elements .ensures .kept .noted .size ∙ sym (c .before .before .before .before .before .before .before .before .before .before .before .before .before .before .before .before .before .before .before .before .pre .1 .noted .size)
@@ -138,10 +135,10 @@ elements-lead-at-requires : (t : ℕ) → elements-lts.Need-lead-at-requires (el
 elements-lead-at-requires t c κs = record { copying = record { unit = c .before .element-at .ensures .unit; table = c .before .before .before .before .before .before .before .before .pre .1 .given .table; state = c .before .before .before .before .before .before .before .before .pre .1 .given .state; place = c .before .before .before .before .before .before .before .before .pre .1 .place }; wide = c .width-of .ensures }
 
 elements-enum-known-q : (t : ℕ) → elements-lts.Need-enum-known-q (element-at-reads.Asked, element-at-reads.Learnt, width-of-reads.Asked, width-of-reads.Learnt, lead-at-reads.Asked, lead-at-reads.Learnt, behind-reads.Asked, behind-reads.Learnt, may-repeat-reads.Asked, may-repeat-reads.Learnt, is-marked-reads.Asked, is-marked-reads.Learnt, most-copies-reads.Asked, most-copies-reads.Learnt, closure-below t, closure.Post, elements-below t, elements.Post) (elements-at t) elements.Post
-elements-enum-known-q t c = search needs
+elements-enum-known-q t c = c .match .keys1
 
 elements-enum-told : (t : ℕ) → elements-lts.Need-enum-told (element-at-reads.Asked, element-at-reads.Learnt, width-of-reads.Asked, width-of-reads.Learnt, lead-at-reads.Asked, lead-at-reads.Learnt, behind-reads.Asked, behind-reads.Learnt, may-repeat-reads.Asked, may-repeat-reads.Learnt, is-marked-reads.Asked, is-marked-reads.Learnt, most-copies-reads.Asked, most-copies-reads.Learnt, closure-below t, closure.Post, elements-below t, elements.Post) (elements-at t) elements.Post
-elements-enum-told t c = search needs
+elements-enum-told t c = c .match .keys2
 
 elements-returns-2 : (t : ℕ) → elements-lts.Need-returns-2 (element-at-reads.Asked, element-at-reads.Learnt, width-of-reads.Asked, width-of-reads.Learnt, lead-at-reads.Asked, lead-at-reads.Learnt, behind-reads.Asked, behind-reads.Learnt, may-repeat-reads.Asked, may-repeat-reads.Learnt, is-marked-reads.Asked, is-marked-reads.Learnt, most-copies-reads.Asked, most-copies-reads.Learnt, closure-below t, closure.Post, elements-below t, elements.Post) (elements-at t) elements.Post
 elements-returns-2 t c = tried-nothing (c .before .before .before .before .before .before .before .before .before .before .before .args .items .now) (c .before .before .before .before .before .before .before .before .before .before .before .args .state .now) (c .before .before .before .before .before .before .before .before .before .before .before .args .line .now) (c .before .before .before .before .before .before .before .before .before .before .before .args .at) (c .before .before .before .before .before .before .before .before .before .before .before .args .p) (c .before .before .before .before .before .if1 .left) (c .before .before .before .before .element-at .result) (c .before .before .before .width-of .result) (c .before .before .lead-at .result) (record { is = c .before .before .before .before .element-at .ensures; wide = c .before .before .before .width-of .ensures; lead = c .before .before .lead-at .ensures }) (c .before .before .before .before .before .before .before .before .before .before .before .args .marks .now) (c .before .before .before .before .before .before .before .before .before .before .before .args .ends .now) (c .before .before .before .before .before .before .before .before .before .before .before .pre .1 .noted) (c .enum-told .given .1)
@@ -150,13 +147,13 @@ elements-behind-requires : (t : ℕ) → elements-lts.Need-behind-requires (elem
 elements-behind-requires t c κs = c .before .before .before .before .before .element-at .ensures .unit
 
 elements-may-repeat-requires : (t : ℕ) → elements-lts.Need-may-repeat-requires (element-at-reads.Asked, element-at-reads.Learnt, width-of-reads.Asked, width-of-reads.Learnt, lead-at-reads.Asked, lead-at-reads.Learnt, behind-reads.Asked, behind-reads.Learnt, may-repeat-reads.Asked, may-repeat-reads.Learnt, is-marked-reads.Asked, is-marked-reads.Learnt, most-copies-reads.Asked, most-copies-reads.Learnt, closure-below t, closure.Post, elements-below t, elements.Post) (elements-at t) elements.Post
-elements-may-repeat-requires t c κs = search needs
+elements-may-repeat-requires t c κs = tt
 
 elements-is-marked-requires : (t : ℕ) → elements-lts.Need-is-marked-requires (element-at-reads.Asked, element-at-reads.Learnt, width-of-reads.Asked, width-of-reads.Learnt, lead-at-reads.Asked, lead-at-reads.Learnt, behind-reads.Asked, behind-reads.Learnt, may-repeat-reads.Asked, may-repeat-reads.Learnt, is-marked-reads.Asked, is-marked-reads.Learnt, most-copies-reads.Asked, most-copies-reads.Learnt, closure-below t, closure.Post, elements-below t, elements.Post) (elements-at t) elements.Post
 elements-is-marked-requires t c κs = in-row _ _ _ _ _ (c .before .before .before .before .before .before .before .before .before .before .before .before .before .before .before .before .pre .1 .given) (c .before .before .before .before .before .before .before .before .before .element-at .ensures .unit .stands) _ _ (c .before .before .before .before .before .before .before .before .before .before .before .before .before .before .before .before .pre .1 .noted .size) (read-inside (c .before .before .before .before .before .before .before .before .before .before .before .before .before .before .before .before .args .items .now) (c .before .before .before .before .before .before .before .before .before .before .before .before .before .before .before .before .args .state .now) (c .before .before .before .before .before .before .before .before .before .before .before .before .before .before .before .before .args .line .now) (c .before .before .before .before .before .before .before .before .before .before .before .before .before .before .before .before .args .at) (c .before .before .before .before .before .before .before .before .before .before .before .before .before .before .before .before .args .p) (c .before .before .before .before .before .before .before .before .before .element-at .result) (c .before .before .before .before .before .before .before .before .width-of .result) (c .before .before .before .before .before .before .before .lead-at .result) _ (record { is = c .before .before .before .before .before .before .before .before .before .element-at .ensures; wide = c .before .before .before .before .before .before .before .before .width-of .ensures; lead = c .before .before .before .before .before .before .before .lead-at .ensures }) (c .before .before .before .before .before .before .before .before .before .before .before .before .before .before .before .before .pre .1 .given .state) (c .before .before .before .before .before .before .before .before .before .before .before .before .before .before .before .before .pre .1 .place) (c .before .before .before .before .before .q .given .1))
 
 elements-same-length : (t : ℕ) → elements-lts.Need-same-length (element-at-reads.Asked, element-at-reads.Learnt, width-of-reads.Asked, width-of-reads.Learnt, lead-at-reads.Asked, lead-at-reads.Learnt, behind-reads.Asked, behind-reads.Learnt, may-repeat-reads.Asked, may-repeat-reads.Learnt, is-marked-reads.Asked, is-marked-reads.Learnt, most-copies-reads.Asked, most-copies-reads.Learnt, closure-below t, closure.Post, elements-below t, elements.Post) (elements-at t) elements.Post
-elements-same-length t c = search needs
+elements-same-length t c = refl
 
 elements-returns-3 : (t : ℕ) → elements-lts.Need-returns-3 (element-at-reads.Asked, element-at-reads.Learnt, width-of-reads.Asked, width-of-reads.Learnt, lead-at-reads.Asked, lead-at-reads.Learnt, behind-reads.Asked, behind-reads.Learnt, may-repeat-reads.Asked, may-repeat-reads.Learnt, is-marked-reads.Asked, is-marked-reads.Learnt, most-copies-reads.Asked, most-copies-reads.Learnt, closure-below t, closure.Post, elements-below t, elements.Post) (elements-at t) elements.Post
 elements-returns-3 t c = tried-more (c .before .before .before .before .before .before .before .before .before .before .before .before .before .before .before .before .before .before .args .items .now) (c .before .before .before .before .before .before .before .before .before .before .before .before .before .before .before .before .before .before .args .state .now) (c .before .before .before .before .before .before .before .before .before .before .before .before .before .before .before .before .before .before .args .line .now) (c .before .before .before .before .before .before .before .before .before .before .before .before .before .before .before .before .before .before .args .at) (c .before .before .before .before .before .before .before .before .before .before .before .before .before .before .before .before .before .before .args .p) (c .before .before .before .before .before .before .before .before .before .before .before .before .if1 .left) (c .before .before .before .before .before .before .before .before .before .before .before .element-at .result) (c .before .before .before .before .before .before .before .before .before .before .width-of .result) (c .before .before .before .before .before .before .before .before .before .lead-at .result) (record { is = c .before .before .before .before .before .before .before .before .before .before .before .element-at .ensures; wide = c .before .before .before .before .before .before .before .before .before .before .width-of .ensures; lead = c .before .before .before .before .before .before .before .before .before .lead-at .ensures }) _ (c .before .before .before .before .before .before .before .q .given .1) (sym (c .before .before .before .before .may-repeat .ensures) ∙ c .before .before .before .if2 .taken) _ _ _ _ (copied-marked _ _ _ _ _ _ _ (c .before .before .before .before .before .before .before .before .before .before .before .before .before .before .before .before .before .before .pre .1 .noted) (place-small _ _ _ _ _ (c .before .before .before .before .before .before .before .before .before .before .before .before .before .before .before .before .before .before .pre .1 .given) (read-inside (c .before .before .before .before .before .before .before .before .before .before .before .before .before .before .before .before .before .before .args .items .now) (c .before .before .before .before .before .before .before .before .before .before .before .before .before .before .before .before .before .before .args .state .now) (c .before .before .before .before .before .before .before .before .before .before .before .before .before .before .before .before .before .before .args .line .now) (c .before .before .before .before .before .before .before .before .before .before .before .before .before .before .before .before .before .before .args .at) (c .before .before .before .before .before .before .before .before .before .before .before .before .before .before .before .before .before .before .args .p) (c .before .before .before .before .before .before .before .before .before .before .before .element-at .result) (c .before .before .before .before .before .before .before .before .before .before .width-of .result) (c .before .before .before .before .before .before .before .before .before .lead-at .result) _ (record { is = c .before .before .before .before .before .before .before .before .before .before .before .element-at .ensures; wide = c .before .before .before .before .before .before .before .before .before .before .width-of .ensures; lead = c .before .before .before .before .before .before .before .before .before .lead-at .ensures }) (c .before .before .before .before .before .before .before .before .before .before .before .before .before .before .before .before .before .before .pre .1 .given .state) (c .before .before .before .before .before .before .before .before .before .before .before .before .before .before .before .before .before .before .pre .1 .place) (c .before .before .before .before .before .before .before .q .given .1))) (eqb-true _ _ (sym (c .before .is-marked .ensures) ∙ c .if3 .taken)))
@@ -180,10 +177,10 @@ elements-elements-requires : (t : ℕ) → elements-lts.Need-elements-requires (
 elements-elements-requires t c κs = let m = c .before .before .before .before .before .before .before .before .before .before .before .before .before .before .before .before .before .pre .0 in let i = next-inside _ _ _ (c .before .before .before .before .before .before .before .before .before .before .element-at .ensures .unit .stands) (c .before .before .before .before .behind .ensures) in (omega arith, next-trying _ _ _ _ _ _ _ _ _ (c .before .before .before .before .before .before .before .before .before .before .before .before .before .before .before .before .before .pre .1 .given) (c .before .before .before .before .before .before .before .before .before .before .before .before .before .before .before .before .before .pre .1 .noted) (c .before .before .before .before .before .before .before .before .before .before .element-at .ensures .unit .stands) (c .before .before .before .before .behind .ensures) (read-inside (c .before .before .before .before .before .before .before .before .before .before .before .before .before .before .before .before .before .args .items .now) (c .before .before .before .before .before .before .before .before .before .before .before .before .before .before .before .before .before .args .state .now) (c .before .before .before .before .before .before .before .before .before .before .before .before .before .before .before .before .before .args .line .now) (c .before .before .before .before .before .before .before .before .before .before .before .before .before .before .before .before .before .args .at) (c .before .before .before .before .before .before .before .before .before .before .before .before .before .before .before .before .before .args .p) (c .before .before .before .before .before .before .before .before .before .before .element-at .result) (c .before .before .before .before .before .before .before .before .before .width-of .result) (c .before .before .before .before .before .before .before .before .lead-at .result) _ (record { is = c .before .before .before .before .before .before .before .before .before .before .element-at .ensures; wide = c .before .before .before .before .before .before .before .before .before .width-of .ensures; lead = c .before .before .before .before .before .before .before .before .lead-at .ensures }) (c .before .before .before .before .before .before .before .before .before .before .before .before .before .before .before .before .before .pre .1 .given .state) (c .before .before .before .before .before .before .before .before .before .before .before .before .before .before .before .before .before .pre .1 .place) (c .before .before .before .before .before .before .q .given .1)))
 
 elements-enum-known-end : (t : ℕ) → elements-lts.Need-enum-known-end (element-at-reads.Asked, element-at-reads.Learnt, width-of-reads.Asked, width-of-reads.Learnt, lead-at-reads.Asked, lead-at-reads.Learnt, behind-reads.Asked, behind-reads.Learnt, may-repeat-reads.Asked, may-repeat-reads.Learnt, is-marked-reads.Asked, is-marked-reads.Learnt, most-copies-reads.Asked, most-copies-reads.Learnt, closure-below t, closure.Post, elements-below t, elements.Post) (elements-at t) elements.Post
-elements-enum-known-end t c = search needs
+elements-enum-known-end t c = c .match2 .keys1
 
 elements-enum-told-2 : (t : ℕ) → elements-lts.Need-enum-told-2 (element-at-reads.Asked, element-at-reads.Learnt, width-of-reads.Asked, width-of-reads.Learnt, lead-at-reads.Asked, lead-at-reads.Learnt, behind-reads.Asked, behind-reads.Learnt, may-repeat-reads.Asked, may-repeat-reads.Learnt, is-marked-reads.Asked, is-marked-reads.Learnt, most-copies-reads.Asked, most-copies-reads.Learnt, closure-below t, closure.Post, elements-below t, elements.Post) (elements-at t) elements.Post
-elements-enum-told-2 t c = search needs
+elements-enum-told-2 t c = c .match2 .keys2
 
 elements-same-length-4 : (t : ℕ) → elements-lts.Need-same-length-4 (element-at-reads.Asked, element-at-reads.Learnt, width-of-reads.Asked, width-of-reads.Learnt, lead-at-reads.Asked, lead-at-reads.Learnt, behind-reads.Asked, behind-reads.Learnt, may-repeat-reads.Asked, may-repeat-reads.Learnt, is-marked-reads.Asked, is-marked-reads.Learnt, most-copies-reads.Asked, most-copies-reads.Learnt, closure-below t, closure.Post, elements-below t, elements.Post) (elements-at t) elements.Post
 elements-same-length-4 t c = c .before .before .before .before .before .before .elements .ensures .kept .noted .size ∙ sym (c .before .before .before .before .before .before .before .before .before .before .before .before .before .before .before .before .before .before .before .before .before .before .before .before .pre .1 .noted .size)
