@@ -4,6 +4,7 @@ pub mod MarkLaws
 pub mod CopyFits
 pub mod RepeatLaws
 pub mod TryLaws
+pub mod RowLaws
 pub mod FindLaws
 pub mod PairLaws
 pub mod CallLaws

@@ -19,14 +19,10 @@ use Rattle.lines.specs.State.{State}
 use Rattle.lines.specs.Matching.{Division, Rest, fits, width, isEnd, then, more, spare, repeated, chosen, stops}
 use Rattle.lines.proofs.MoreLaws.{stopsOf, or-else, more-false, more-true, more-count, more-again}
 use Rattle.passing.specs.Pieces.{codeUnit, membersOf, codeClosure, closureOf, fitU, widthU, ledTo, leadOf, again}
-use Rattle.passing.specs.Trying.{foundOf}
+use Rattle.passing.specs.Trying.{thenP, foundOf}
 use Rattle.passing.specs.declared.unit.Lead.the-variants.{After, Nothing}
 
 -- END PLACES
-
-abbrev pub thenP : ℕ → Option (List ℕ) → Option (List ℕ)
-thenP q none = none
-thenP q (some l) = some (q ∷ l)
 
 abbrev pub orP : Option (List ℕ) → Option (List ℕ) → Option (List ℕ)
 orP none b = b

@@ -4,7 +4,7 @@ use mathlib.Core.Path.{_≡_, refl, sym, ap, _∙_}
 use mathlib.Core.Bool.{Bool, true, false, false≢true}
 use mathlib.Core.List.{List, [], _∷_}
 use mathlib.Core.Option.{Option, none, some}
-use Prim.Native.Nat.{ℕ, _+_, _*_, _≤_, _<_}
+use Prim.Native.Nat.{ℕ, _+_, _*_, _/_, _≤_, _<_}
 use native.Mathlib.Omega.{arith}
 use native.Mathlib.Decide.{ℕ-discrete}
 use borrow.Author.Tests.{ltb-true}
@@ -13,17 +13,18 @@ use lib.ListN.{length, getD, set, drop, length-set, length-drop}
 use lib.Seq.{getD-set-same, getD-set-other}
 use Rattle.macros.specs.Macro.{Closure, PatternUnit, Piece}
 use Rattle.macros.specs.Macro.Piece.{element, start, end, left, right}
-use Rattle.tables.specs.Form.{pieceItems, patternItems}
+use Rattle.tables.specs.Form.{bodyBytes, pieceItems, patternItems}
 use Rattle.lines.specs.State.{State}
 use Rattle.lines.specs.Matching.{Division, fits, width, more, chosen}
 use Rattle.lines.proofs.MoreLaws.{stopsOf}
 use Rattle.lines.proofs.CopyLaws.{fits-inside}
 use Rattle.states.specs.Access.{Holds, IsState, OfState}
 use Rattle.replacing.specs.Contract.{EndsFrom}
+use Rattle.passing.specs.Contract.{marksBytes}
 use Rattle.passing.specs.Pattern.{IsRest, OfPiece}
-use Rattle.passing.specs.Marks.{mark, copiesFrom, NewMark}
+use Rattle.passing.specs.Marks.{mark}
 use Rattle.passing.specs.Pieces.{membersOf, codeClosure, fitU, widthU, leadOf, again, Stands, IsUnit, IsElement, Wide}
-use Rattle.passing.specs.Trying.{answer, after, foundOf, Said, Given, Noted, Trying, Kept, Tried, Copied}
+use Rattle.passing.specs.Trying.{answer, after, thenP, foundOf, Said, Given, Noted, Trying, Kept, Tried, Copied}
 use Rattle.passing.specs.declared.unit.Unit.{Unit as CodeUnit}
 use Rattle.passing.specs.declared.unit.Closure.{Closure as CodeClosure}
 use Rattle.passing.specs.declared.unit.Closure.the-variants.{Once, OneOrMore, ZeroOrMore}
@@ -36,7 +37,7 @@ use Rattle.passing.proofs.ItemLaws.{piece-even, rest-next, rest-inside,
 use Rattle.passing.proofs.MarkLaws.{sound-at, sound-set}
 use Rattle.passing.proofs.CopyFits.{fit-inside}
 use Rattle.passing.proofs.TextLaws.{led-true}
-use Rattle.passing.proofs.RepeatLaws.{thenP, orP, more-any, more-stop, more-step, rep-nothing, rep-once, rep-star, fit-element, width-element, pieceClosure, closure-piece, fitP, widthP, piece-next}
+use Rattle.passing.proofs.RepeatLaws.{more-any, rep-nothing, rep-once, rep-star, fit-element, width-element, pieceClosure, closure-piece, fitP, widthP, piece-next}
 
 -- ENDS
 
@@ -56,19 +57,15 @@ inside-set ends n i v l h f j = go (ℕ-discrete j i)
 
 -- WHAT AN ANSWER SAYS
 
-found-none : (p : ℕ) (a : Option (List ℕ)) → NoMatch ≡ foundOf p a → a ≡ none
+pub found-none : (p : ℕ) (a : Option (List ℕ)) → NoMatch ≡ foundOf p a → a ≡ none
 found-none p none h = refl
 found-none p (some l) h = absurd (let z : _≡_ {A = ℕ} 0 1 = cc in omega arith)
 
-or-found : (p : ℕ) (a b : Option (List ℕ)) (e : ℕ) → Matched e ≡ foundOf p a → orP a b ≡ a
-or-found p none b e h = absurd (let z : _≡_ {A = ℕ} 0 1 = cc in omega arith)
-or-found p (some l) b e h = refl
-
-said-none : (es : List Piece) (a : Option (List ℕ)) (at p : ℕ) (ends : List ℕ) → a ≡ none → Said es a at p ends NoMatch
+pub said-none : (es : List Piece) (a : Option (List ℕ)) (at p : ℕ) (ends : List ℕ) → a ≡ none → Said es a at p ends NoMatch
 said-none es a at p ends e = rw e (record { found = refl; ended = tt })
 
 -- a piece whose span ends at q, and the rest behind it
-said-first : (e : Piece) (es : List Piece) (a b : Option (List ℕ)) (at next p q m : ℕ) (ends : List ℕ) → next ≡ at + length (pieceItems e) → at < length ends → a ≡ thenP q b
+pub said-first : (e : Piece) (es : List Piece) (a b : Option (List ℕ)) (at next p q m : ℕ) (ends : List ℕ) → next ≡ at + length (pieceItems e) → at < length ends → a ≡ thenP q b
     → Said es b next q ends (Matched m) → Said (e ∷ es) a at p (set ends at q) (Matched m)
 said-first e es a none at next p q m ends n l i h = absurd (let f = h .found in let z : _≡_ {A = ℕ} 0 1 = cc in omega arith)
 said-first e es a (some qs) at next p q m ends n l i h =
@@ -93,7 +90,7 @@ kept-start items b t marks ends n = record { noted = n; outside = refl }
 pub kept-on : (items b t marks marks₁ marks₂ ends₁ ends₂ : List ℕ) → Kept items b t marks marks₁ ends₁ → Kept items b t marks₁ marks₂ ends₂ → Kept items b t marks marks₂ ends₂
 kept-on items b t marks marks₁ marks₂ ends₁ ends₂ k l = record { noted = l .noted; outside = l .outside ∙ k .outside }
 
-kept-end : (items b t marks marks₁ ends : List ℕ) (at q : ℕ) → at < length ends → q ≤ length t → Kept items b t marks marks₁ ends → Kept items b t marks marks₁ (set ends at q)
+pub kept-end : (items b t marks marks₁ ends : List ℕ) (at q : ℕ) → at < length ends → q ≤ length t → Kept items b t marks marks₁ ends → Kept items b t marks marks₁ (set ends at q)
 kept-end items b t marks marks₁ ends at q l h k = record {
   noted = record {
     size = k .noted .size;
@@ -236,89 +233,30 @@ next-inside items at next s f =
 
 -- COPIES
 
--- what holds before the pieces behind the element are tried at q: more copies have no division
-pub record Joint (items b t : List ℕ) (at q : ℕ) (marks₀ marks ends : List ℕ) : Type 0 where
-  pub kept : Kept items b t marks₀ marks ends
-  pub only : (u : PatternUnit) (c : Closure) (es : List Piece) → IsRest items at (element u c ∷ es) → OfState b (λ st. after st u es t q ≡ thenP q (answer st es t q))
-
 pub copied-marked : (items b t : List ℕ) (at q : ℕ) (marks ends : List ℕ) → Noted items b t marks ends → q ≤ 1055 → mark marks at q ≡ 1 → Copied items b t at q marks marks ends NoMatch
 copied-marked items b t at q marks ends k l e = record {
   said = λ u c es i st h. said-none (element u c ∷ es) (after st u es t q) at q ends (ap stopsOf (sound-at items b t marks at q l (k .sound) e u c es i st h));
   kept = kept-start items b t marks ends k;
 }
 
-module _ (items b t : List ℕ) (at : ℕ) (v : CodeUnit) (w q : ℕ) (is : IsUnit items at v) (wide : Wide b v w) (pos : 1 ≤ w) (x : Bool)
-    (tested : OfPiece items at (λ e. OfState b (λ st. x ≡ fitU st v (membersOf e) q (drop q t)))) where
-  module _ (u : PatternUnit) (c : Closure) (es : List Piece) (i : IsRest items at (element u c ∷ es)) (st : State) (h : Holds b st) where
-    copy-fits : (y : Bool) → x ≡ y → fits st u (drop q t) ≡ y
-    copy-fits y g =
-        sym (ap (λ (f : List ℕ → Bool). f (drop q t)) (fit-element st u c q))
-        ∙ ap (λ (z : CodeUnit). fitU st z (membersOf (element u c)) q (drop q t)) (is .unit (element u c) es i)
-        ∙ sym (tested (element u c) es i st h) ∙ g
+-- MEMORIES
 
-    copy-width : w ≡ width st u
-    copy-width = wide st h ∙ sym (ap (widthU st) (is .unit (element u c) es i)) ∙ width-element st u c
+pub place-small : (items kinds b t : List ℕ) (q : ℕ) → Given items kinds b t → q ≤ length t → q ≤ 1055
+place-small items kinds b t q g l = let s = g .short in omega arith
 
-    copy-next : x ≡ true → after st u es t q ≡ orP (after st u es t (q + w)) (thenP q (answer st es t q))
-    copy-next g =
-        more-step (fits st u) (width st u) (chosen st es) t q (let z = copy-width in omega arith) (fits-inside st u) (copy-fits true g)
-        ∙ ap (λ (j : ℕ). orP (after st u es t (q + j)) (thenP q (answer st es t q))) (sym copy-width)
+module _ (items kinds b t : List ℕ) (at : ℕ) (g : Given items kinds b t) (s : Stands items at) where
+  pub at-small : at ≤ bodyBytes
+  at-small = let f = g .fits in let r = rest-inside items at (s .piece) (s .pieces) (s .is) in omega arith
 
-  pub copied-more : x ≡ true → (marks marks′ ends′ : List ℕ) (m : ℕ) → Copied items b t at (q + w) marks marks′ ends′ (Matched m) → Copied items b t at q marks marks′ ends′ (Matched m)
-  copied-more g marks marks′ ends′ m k = record {
-    said = λ u c es i st h.
-        let s = k .said u c es i st h in
-        said-any st u (element u c) es t (after st u es t q) at q (q + w) ends′ (Matched m)
-        (copy-next u c es i st h g ∙ or-found (q + w) (after st u es t (q + w)) (thenP q (answer st es t q)) m (s .found)) s;
-    kept = k .kept;
-  }
+  pub in-ends : (size : ℕ) → size ≡ bodyBytes → at < size
+  in-ends size n = let f = g .fits in let r = rest-inside items at (s .piece) (s .pieces) (s .is) in omega arith
 
-  -- one more copy has no division, or there is none
-  pub joint-failed : x ≡ true → (marks marks′ ends′ : List ℕ) → Copied items b t at (q + w) marks marks′ ends′ NoMatch → Joint items b t at q marks marks′ ends′
-  joint-failed g marks marks′ ends′ k = record {
-    kept = k .kept;
-    only = λ u c es i st h.
-        copy-next u c es i st h g
-        ∙ ap (λ (a : Option (List ℕ)). orP a (thenP q (answer st es t q))) (found-none (q + w) (after st u es t (q + w)) (k .said u c es i st h .found));
-  }
-
-  pub joint-stop : x ≡ false → (marks ends : List ℕ) → Noted items b t marks ends → Joint items b t at q marks marks ends
-  joint-stop g marks ends k = record {
-    kept = kept-start items b t marks ends k;
-    only = λ u c es i st h. more-stop (fits st u) (width st u) (chosen st es) t q (copy-fits u c es i st h false g);
-  }
-
-module _ (items b t : List ℕ) (at q : ℕ) (marks₀ marks ends : List ℕ) (j : Joint items b t at q marks₀ marks ends) (next : ℕ) (after-it : OfPiece items at (λ e. next ≡ at + length (pieceItems e))) (marks′ ends′ : List ℕ) where
-  behind-at : (e : Piece) (es : List Piece) → IsRest items at (e ∷ es) → IsRest items next es
-  behind-at e es i = rw (after-it e es i) (rest-next items at e es i)
-
-  pub copied-first : (m : ℕ) → at < length ends′ → q ≤ length t → Tried items b t next q marks marks′ ends′ (Matched m) → Copied items b t at q marks₀ marks′ (set ends′ at q) (Matched m)
-  copied-first m z v k = record {
-    said = λ u c es i st h.
-        said-first (element u c) es (after st u es t q) (answer st es t q) at next q q m ends′ (after-it (element u c) es i) z (j .only u c es i st h) (k .said es (behind-at (element u c) es i) st h);
-    kept = kept-end items b t marks₀ marks′ ends′ at q z v (kept-on items b t marks₀ marks marks′ ends ends′ (j .kept) (k .kept));
-  }
-
-  pub copied-fails : (marks₂ : List ℕ) → q ≤ 1055 → Stands items at → Tried items b t next q marks marks′ ends′ NoMatch → NewMark marks′ marks₂ at q → Copied items b t at q marks₀ marks₂ ends′ NoMatch
-  copied-fails marks₂ l s k new = record {
-    said = λ u c es i st h. said-none (element u c ∷ es) (after st u es t q) at q ends′ (nothing u c es i st h);
-    kept = record {
-      noted = record {
-        size = new .size ∙ k .kept .noted .size;
-        count = k .kept .noted .count;
-        inside = k .kept .noted .inside;
-        sound = sound-set items b t marks′ marks₂ at q l (rest-even items at (s .piece ∷ s .pieces) (s .is)) (k .kept .noted .sound) new (λ u c es i st h. stops-none (copiesFrom st u es t q) (nothing u c es i st h));
-      };
-      outside = new .past (66 * length items) (let r = rest-inside items at (s .piece) (s .pieces) (s .is) in omega arith) ∙ k .kept .outside ∙ j .kept .outside;
-    };
-  }
-    where
-      nothing : (u : PatternUnit) (c : Closure) (es : List Piece) → IsRest items at (element u c ∷ es) → (st : State) → Holds b st → after st u es t q ≡ none
-      nothing u c es i st h = j .only u c es i st h ∙ ap (thenP q) (found-none q (answer st es t q) (k .said es (behind-at (element u c) es i) st h .found))
-
-      stops-none : (a : Option Division) → stopsOf a ≡ none → a ≡ none
-      stops-none none e = refl
-      stops-none (some d) e = absurd (let z : _≡_ {A = ℕ} 0 1 = cc in omega arith)
+  pub in-row : (size q : ℕ) → size ≡ marksBytes → q ≤ length t → at * 66 + q / 8 < size
+  in-row size q n l =
+      let f = g .fits in
+      let m = g .short in
+      let r = rest-inside items at (s .piece) (s .pieces) (s .is) in
+      omega arith
 
 pub again-wide : (c : CodeClosure) (w : ℕ) → again c w ≡ true → 1 ≤ w
 again-wide Once w g = absurd (false≢true g)

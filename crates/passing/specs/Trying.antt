@@ -1,6 +1,7 @@
 -- What the two functions of the matcher ask and say.
-use Prim.Native.Nat.{ℕ, _*_, _≤_}
+use Prim.Native.Nat.{ℕ, _+_, _*_, _≤_, _<_}
 use mathlib.Core.Path.{_≡_}
+use mathlib.Core.Bool.{true}
 use mathlib.Core.List.{List, [], _∷_}
 use mathlib.Core.Option.{Option, none, some}
 use lib.ListN.{length, getD, drop}
@@ -8,16 +9,16 @@ use Rattle.kinds.specs.Kind.{kindTable}
 use Rattle.macros.specs.Bounds.{mostLineBytes}
 use Rattle.macros.specs.Macro.{Closure, PatternUnit, Piece}
 use Rattle.macros.specs.Macro.Piece.{element}
-use Rattle.tables.specs.Form.{bodyBytes}
+use Rattle.tables.specs.Form.{bodyBytes, pieceItems}
 use Rattle.lines.specs.State.{State}
-use Rattle.lines.specs.Matching.{chosen}
+use Rattle.lines.specs.Matching.{fits, width, chosen}
 use Rattle.lines.proofs.MoreLaws.{stopsOf}
 use Rattle.states.specs.Access.{IsState, OfState}
 use Rattle.replacing.specs.Contract.{EndsFrom}
 use Rattle.passing.specs.Contract.{marksBytes}
-use Rattle.passing.specs.Pattern.{IsRest}
+use Rattle.passing.specs.Pattern.{IsRest, OfPiece}
 use Rattle.passing.specs.Marks.{copiesFrom, Sound}
-use Rattle.passing.specs.Pieces.{IsUnit, Wide}
+use Rattle.passing.specs.Pieces.{Stands, IsUnit, Wide}
 use Rattle.passing.specs.declared.unit.Unit.{Unit as CodeUnit}
 use Rattle.passing.specs.declared.Found.{Found}
 use Rattle.passing.specs.declared.Found.the-variants.{Matched, NoMatch}
@@ -28,6 +29,11 @@ answer st es t p = stopsOf (chosen st es p (drop p t))
 
 abbrev pub after : State → PatternUnit → List Piece → List ℕ → ℕ → Option (List ℕ)
 after st u es t q = stopsOf (copiesFrom st u es t q)
+
+-- the end place q, and then those of a
+abbrev pub thenP : ℕ → Option (List ℕ) → Option (List ℕ)
+thenP q none = none
+thenP q (some l) = some (q ∷ l)
 
 abbrev pub lastStop : ℕ → List ℕ → ℕ
 lastStop p [] = p
@@ -67,13 +73,35 @@ pub record Trying (items kinds b t : List ℕ) (at p : ℕ) (marks ends : List �
   pub is : IsRest items at pieces
   pub place : p ≤ length t
 
-pub record Repeating (items kinds b t : List ℕ) (at : ℕ) (u : CodeUnit) (w q : ℕ) (marks ends : List ℕ) : Type 0 where
+-- n copies in a row from q on, each w bytes wide
+pub record Row (items b t : List ℕ) (at w q n : ℕ) : Type 0 where
+  pub inside : q + n * w ≤ length t
+  pub copies : (u : PatternUnit) (c : Closure) (es : List Piece) → IsRest items at (element u c ∷ es) → OfState b (λ st. (width st u ≡ w) × ((i : ℕ) → i < n → fits st u (drop (q + i * w) t) ≡ true))
+
+-- copies past r have no division: what is chosen from r on are the pieces behind the element
+abbrev pub Furthest : (items b t : List ℕ) (at r : ℕ) → Type 0
+Furthest items b t at r = (u : PatternUnit) (c : Closure) (es : List Piece) → IsRest items at (element u c ∷ es) → OfState b (λ st. after st u es t r ≡ thenP r (answer st es t r))
+
+pub record Counting (items kinds b t : List ℕ) (at : ℕ) (u : CodeUnit) (w q : ℕ) (marks : List ℕ) : Type 0 where
   pub given : Given items kinds b t
-  pub noted : Noted items b t marks ends
+  pub size : length marks ≡ marksBytes
+  pub sound : Sound items b t marks
   pub unit : IsUnit items at u
   pub wide : Wide b u w
   pub some : 1 ≤ w
   pub place : q ≤ length t
+
+pub record Most (items b t : List ℕ) (at w q n : ℕ) : Type 0 where
+  pub row : Row items b t at w q n
+  pub furthest : Furthest items b t at (q + n * w)
+
+pub record Repeating (items kinds b t : List ℕ) (at next w q n : ℕ) (marks ends : List ℕ) : Type 0 where
+  pub given : Given items kinds b t
+  pub noted : Noted items b t marks ends
+  pub stands : Stands items at
+  pub behind : OfPiece items at (λ e. next ≡ at + length (pieceItems e))
+  pub some : 1 ≤ w
+  pub most : Most items b t at w q n
 
 -- only the marks of the items change
 pub record Kept (items b t marks marks′ ends′ : List ℕ) : Type 0 where

@@ -1,4 +1,4 @@
-// The matcher (01, part 3): the stack goes no deeper than the pattern's elements and the line's bytes, and each closure is tried at each place once.
+// The matcher (01, part 3): the stack goes no deeper than the pattern's elements, and each closure is tried at each place once.
 use crate::Found;
 use crate::failed::is_marked;
 use crate::failed::set_mark;
@@ -10,8 +10,35 @@ use crate::unit::element_at;
 use crate::unit::lead_at;
 use crate::unit::may_repeat;
 use crate::unit::width_of;
-ghost use Rattle.passing.specs.Trying.{Trying, Repeating, Tried, Copied};
+ghost use Rattle.passing.specs.Trying.{Trying, Counting, Repeating, Tried, Most, Copied};
 ghost use Rattle.passing.specs.Finding.{Ready, Differs, Finds};
+
+// How many copies of u, w bytes wide, stand in a row from q on. Places with a mark end the row: there is no division from there.
+fn most_copies(
+    items: &[u8],
+    kinds: &[u8; 256],
+    state: &[u8],
+    line: &[u8],
+    at: usize,
+    u: Unit,
+    w: usize,
+    q: usize,
+    marks: &[u8],
+) -> usize
+    requires { ⌜ Counting (now items) (now kinds) (now state) (now line) at u w q (now marks) ⌝ }
+    ensures { λ r. ⌜ Most (now (items .entry)) (now (state .entry)) (now (line .entry)) at w q r ⌝ }
+{
+    let mut n: usize = 0;
+    let mut r = q;
+    while copy_at(items, kinds, state, line, at, u, r) {
+        r += w;
+        if is_marked(marks, at, r) {
+            return n;
+        }
+        n += 1;
+    }
+    n
+}
 
 // The pieces whose items begin at `at`, at place p. On a match `ends` holds the place where each of them ends.
 fn elements(
@@ -34,60 +61,54 @@ fn elements(
     let u = e.unit;
     let c = e.closure;
     let w = width_of(state, u);
-    match lead_at(items, kinds, state, line, at, u, c, w, p) {
-        Lead::Nothing => Found::NoMatch,
-        Lead::After(q) => {
-            if may_repeat(c, w) {
-                closure(items, kinds, state, line, at, u, w, q, marks, ends)
-            } else {
-                let next = behind(items, at, u);
-                match elements(items, kinds, state, line, next, q, marks, ends) {
-                    Found::Matched(end) => {
-                        ends[at] = q as u16;
-                        Found::Matched(end)
-                    }
-                    Found::NoMatch => Found::NoMatch,
-                }
-            }
+    let Lead::After(q) = lead_at(items, kinds, state, line, at, u, c, w, p) else {
+        return Found::NoMatch;
+    };
+    let next = behind(items, at, u);
+    if may_repeat(c, w) {
+        if is_marked(marks, at, q) {
+            return Found::NoMatch;
         }
+        let most = most_copies(items, kinds, state, line, at, u, w, q, marks);
+        return closure(items, kinds, state, line, at, next, w, q, most, marks, ends);
     }
+    let Found::Matched(end) = elements(items, kinds, state, line, next, q, marks, ends) else {
+        return Found::NoMatch;
+    };
+    ends[at] = q as u16;
+    Found::Matched(end)
 }
 
-// The element at `at`, whose unit is u, w bytes wide, after copies that end at q: one more copy if there is a division with it, else the pieces behind it.
+// The element at `at`, with up to `most` copies from q on, each w bytes wide: the pieces behind it, with no copy given back, then one, and so on.
 fn closure(
     items: &[u8],
     kinds: &[u8; 256],
     state: &[u8],
     line: &[u8],
     at: usize,
-    u: Unit,
+    next: usize,
     w: usize,
     q: usize,
+    most: usize,
     marks: &mut [u8],
     ends: &mut [u16],
 ) -> Found
-    requires { ⌜ Repeating (now items) (now kinds) (now state) (now line) at u w q (now marks) (now ends) ⌝ }
+    requires { ⌜ Repeating (now items) (now kinds) (now state) (now line) at next w q most (now marks) (now ends) ⌝ }
     ensures { λ r. ⌜ Copied (now (items .entry)) (now (state .entry)) (now (line .entry)) at q (now (marks .entry)) (now (marks .exit)) (now (ends .exit)) r ⌝ }
 {
-    if is_marked(marks, at, q) {
-        return Found::NoMatch;
-    }
-    if copy_at(items, kinds, state, line, at, u, q) {
-        let r = q + w;
-        if let Found::Matched(end) = closure(items, kinds, state, line, at, u, w, r, marks, ends) {
+    let mut back: usize = 0;
+    loop {
+        let kept = most - back;
+        let r = q + kept * w;
+        if let Found::Matched(end) = elements(items, kinds, state, line, next, r, marks, ends) {
+            ends[at] = r as u16;
             return Found::Matched(end);
         }
-    }
-    let next = behind(items, at, u);
-    match elements(items, kinds, state, line, next, q, marks, ends) {
-        Found::Matched(end) => {
-            ends[at] = q as u16;
-            Found::Matched(end)
+        set_mark(marks, at, r);
+        if back == most {
+            return Found::NoMatch;
         }
-        Found::NoMatch => {
-            set_mark(marks, at, q);
-            Found::NoMatch
-        }
+        back += 1;
     }
 }
 
