@@ -4,3 +4,5 @@ pub mod clock;
 pub mod engine;
 pub mod files;
 pub mod form;
+pub mod lent;
+pub mod trial;
