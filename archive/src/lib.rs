@@ -5,4 +5,5 @@ pub mod engine;
 pub mod files;
 pub mod form;
 pub mod lent;
+pub mod stored;
 pub mod trial;
