@@ -3,20 +3,32 @@
 
 use m7_archive::stored::{run, runs};
 use m7_reference::answers::parse;
+use std::path::PathBuf;
 use std::process::ExitCode;
 
-const NAMES: [&str; 8] =
-    ["songs", "manual", "errors", "readings", "spelling", "refusals", "bounds", "state"];
+/// The texts of a folder by name.
+fn texts(folder: &str) -> Vec<(String, String)> {
+    let entries = std::fs::read_dir(folder).unwrap_or_else(|error| panic!("{folder}: {error}"));
+    let mut paths: Vec<PathBuf> = entries.map(|entry| entry.expect("an entry").path()).collect();
+    paths.retain(|path| path.extension().is_some_and(|ending| ending == "txt"));
+    paths.sort();
+    let name = |path: &PathBuf| path.file_stem().unwrap_or_default().to_string_lossy().to_string();
+    let text = |path: &PathBuf| std::fs::read_to_string(path).expect("a text");
+    paths.iter().map(|path| (name(path), text(path))).collect()
+}
 
 fn main() -> ExitCode {
     let folder = std::env::args().nth(1).unwrap_or("reference/answers".to_string());
-    let text = |name: &str| {
-        let path = format!("{folder}/{name}.txt");
-        std::fs::read_to_string(&path).unwrap_or_else(|error| panic!("{path}: {error}"))
-    };
-    let (mut cases, mut answers, mut failures) = (0, 0, Vec::new());
-    for name in NAMES {
-        for case in parse(&text(name)).unwrap_or_else(|error| panic!("{name}: {error}")) {
+    let (mut cases, mut answers, mut programs, mut failures) = (0, 0, 0, Vec::new());
+    for (name, text) in texts(&folder) {
+        if name == "programs" {
+            for run in runs(&text).expect("the runs can be read") {
+                programs += run.holds() as usize;
+                failures.extend((!run.holds()).then_some(run.name));
+            }
+            continue;
+        }
+        for case in parse(&text).unwrap_or_else(|error| panic!("{name}: {error}")) {
             cases += 1;
             match run(&case) {
                 Ok(held) => answers += held,
@@ -24,13 +36,10 @@ fn main() -> ExitCode {
             }
         }
     }
-    let programs = runs(&text("programs")).expect("the runs can be read");
-    failures.extend(programs.iter().filter(|run| !run.holds()).map(|run| run.name.clone()));
     for failure in &failures {
         println!("FAILS: {failure}");
     }
-    let programs = programs.len();
-    println!("{cases} stored cases with {answers} answers and {programs} runs of the program held");
+    println!("{cases} stored cases: {answers} answers and {programs} runs of the program hold");
     println!("{} failed", failures.len());
-    ExitCode::from(!failures.is_empty() as u8)
+    ExitCode::from((!failures.is_empty() || answers == 0 || programs == 0) as u8)
 }
