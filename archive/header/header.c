@@ -256,7 +256,8 @@ static uint32_t four(size_t place)
 
 static void state_layout(void)
 {
-    size_t values = 28, increments = values + 4 * 26, entries = increments + 4 * 26, i;
+    size_t values = 2 + M7_STACKS, increments = values + 4 * M7_STACKS, i;
+    size_t entries = increments + 4 * M7_STACKS;
     use("'p'<'&(b=3)';'c'<'#(y=258)';'i'<'#(z,999999999)';'e'<'&(z=20)&(z:xy:)';");
     CHECK(state.now[0] == 0 && state.now[1] == 0);
     for (i = 2; i < values; i++)
@@ -270,10 +271,11 @@ static void state_layout(void)
     CHECK(feed("w") == 0 && answer.kind == M7_WITHHELD);
     CHECK(feed("p") == 0 && state.now[2 + 1] == 3);
     CHECK(feed("c") == 0 && four(values + 4 * 24) == 258);
-    CHECK(feed("i") == 0 && four(increments + 4 * 25) == 999999999);
-    CHECK(feed("e") == 0 && state.now[2 + 25] == 20);
-    CHECK(memcmp(state.now + M7_STATE_BYTES - 50, "xy", 3) == 0);
-    CHECK(entries + (size_t)26 * 20 * 50 == M7_STATE_BYTES);
+    CHECK(feed("i") == 0 && four(increments + 4 * 25) == M7_MOST_COUNT);
+    CHECK(feed("e") == 0 && state.now[2 + 25] == M7_MOST_ENTRIES);
+    CHECK(memcmp(state.now + M7_STATE_BYTES - M7_MOST_ENTRY_BYTES, "xy", 3) == 0);
+    entries += (size_t)M7_STACKS * M7_MOST_ENTRIES * M7_MOST_ENTRY_BYTES;
+    CHECK(entries == M7_STATE_BYTES);
 }
 
 /* BOUNDS, each with its first byte too many */
@@ -336,6 +338,29 @@ static void tag_bounds(void)
     CHECK(reading() == M7_BAD_BRACE && answer.place == 1 + 2 * M7_MOST_TAGS);
 }
 
+/* A pointer, a counter and an increment that are set to their ends and past them. */
+static void number_bounds(void)
+{
+    char macros[64];
+    long past;
+    for (past = 0; past < 2; past++) {
+        uint32_t number = past ? M7_BAD_CALL : 0;
+        sprintf(macros, "'a'='&(s=%ld)';", M7_MOST_ENTRIES + past);
+        say(macros);
+        CHECK(reading() == number);
+        sprintf(macros, "'a'='#(n=%ld)';", M7_MOST_COUNT + past);
+        say(macros);
+        CHECK(reading() == number);
+        sprintf(macros, "'a'='#(n,%ld)';", M7_MOST_COUNT + past);
+        say(macros);
+        CHECK(reading() == number);
+        say("'a'='&(s:");
+        add("x", (size_t)(M7_MOST_ENTRY_BYTES + past));
+        add(":)';", 1);
+        CHECK(reading() == number);
+    }
+}
+
 /* Written files can be longer than read ones: a : is read as it is. */
 static void written_bounds(void)
 {
@@ -387,7 +412,7 @@ static void lines_refused(void)
     CHECK(feed("$FOO") == M7_BAD_CONTROL && answer.place == 0 && answer.passes == 0);
     CHECK(feed("l") == M7_BUDGET_USED_UP && answer.passes == 10000);
     none();
-    add("a", 50);
+    add("a", M7_MOST_ENTRY_BYTES);
     CHECK(feeding(9) == 0);
     add("a", 1);
     CHECK(feeding(9) == M7_TAG_TOO_LONG);
@@ -438,6 +463,7 @@ int main(void)
     line_bounds();
     file_bounds();
     tag_bounds();
+    number_bounds();
     written_bounds();
     files_refused();
     lines_refused();

@@ -60,10 +60,14 @@ fn worst() -> Vec<Job> {
 }
 
 fn lengths() -> Vec<Job> {
-    let lyrics = |size: usize| b"wo mu in so ru ".iter().copied().cycle().take(size).collect();
+    let lyrics = |size: usize| -> Vec<u8> {
+        let mut line: Vec<u8> = b"or us ni um ow ".iter().copied().cycle().take(size).collect();
+        line.reverse();
+        line
+    };
     let plain = |size: usize| Job {
         section: "Line length: 39 macros for part texts, one line of lyrics, no occurrence",
-        name: format!("{size} bytes"),
+        name: format!("bytes: {size}"),
         file: files::open_parts(),
         lines: vec![lyrics(size)],
         rounds: 200,
@@ -71,7 +75,7 @@ fn lengths() -> Vec<Job> {
     };
     let worst = |size: usize| Job {
         section: "Line length: 168 times `a*-`, then `b`, one line of `a`",
-        name: format!("{size} bytes"),
+        name: format!("bytes: {size}"),
         file: files::full_macro("a*-", "b").0,
         lines: vec![vec![b'a'; size]],
         rounds: 20,
@@ -89,7 +93,7 @@ fn macros() -> Vec<Job> {
     let table = read_file(&files::parts()).expect("the file is taken");
     let job = |count: usize| Job {
         section: "Number of macros: the newest of the 40, 340 song lines",
-        name: format!("{count} macros"),
+        name: format!("macros: {count}"),
         file: write_table(&table[40 - count..]).expect("it can be written"),
         lines: files::song_lines(340),
         rounds: 20,
@@ -101,7 +105,7 @@ fn macros() -> Vec<Job> {
 fn lines() -> Vec<Job> {
     let job = |count: usize| Job {
         section: "Number of lines: manual's section 10",
-        name: format!("{count} lines"),
+        name: format!("lines: {count}"),
         file: files::MANUAL_10.to_vec(),
         lines: files::program_lines(count),
         rounds: (20_000 / count).clamp(5, 200),

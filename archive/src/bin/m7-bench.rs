@@ -196,6 +196,9 @@ fn counted(index: usize, engine: &str, rounds: usize) -> u64 {
 fn instructions() {
     let mut section = "";
     for (index, job) in jobs::all().iter().enumerate() {
+        if job.lines.len() > COUNTED_LINES && job.perl.is_none() {
+            continue;
+        }
         if section != job.section {
             section = job.section;
             println!("\n| {section} | archive | Rust | archive : Rust |\n|---|---|---|---|");

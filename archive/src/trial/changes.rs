@@ -44,6 +44,22 @@ fn state_place(random: &mut Random) -> usize {
     }
 }
 
+/// Another byte at a place of the state, often at the end of what may stand there.
+fn state_byte(random: &mut Random, place: usize, byte: u8) -> u8 {
+    let near: &[u8] = match place {
+        0 | 1 => &[0, 1, 2, 255],
+        2..=27 => &[0, 1, 2, 19, 20, 21],
+        28..=235 if place % 4 == 3 => &[0, 58, 59, 60],
+        28..=235 => &[0, 1, 255],
+        _ => &[0, 1],
+    };
+    let other = *random.pick(near);
+    if other == byte || random.one_in(2) {
+        return other_byte(random, byte);
+    }
+    other
+}
+
 /// A size that is not `size`, at most 64 more.
 fn other_size(random: &mut Random, size: usize) -> usize {
     match random.below(5) {
@@ -65,9 +81,20 @@ impl Trial {
 
     fn change_state(&mut self, random: &mut Random) {
         let place = state_place(random);
-        self.state_bytes[place] = other_byte(random, self.state_bytes[place]);
+        self.state_bytes[place] = state_byte(random, place, self.state_bytes[place]);
         self.state.hold(&self.state_bytes);
         self.plain_state = state_of(&self.state_bytes);
+    }
+
+    /// Memories that hold neither a table nor a state.
+    pub fn spoil(&mut self, random: &mut Random) {
+        let byte = 3 + random.below(253) as u8;
+        self.table_bytes.fill(byte);
+        self.table.hold(&self.table_bytes);
+        self.plain_table = None;
+        self.state_bytes.fill(byte);
+        self.state.hold(&self.state_bytes);
+        self.plain_state = None;
     }
 
     /// Writing out and feeding with a byte of the table changed.

@@ -60,6 +60,9 @@ impl Songs {
     }
 
     fn song(&mut self, trial: &mut Trial, random: &mut Random, case: &Case) {
+        if random.one_in(16) {
+            trial.spoil(random);
+        }
         trial.read(Group::Read, &case.file);
         let short = case.file.len() < 10_000;
         if short || random.one_in(4) {
