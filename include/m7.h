@@ -71,6 +71,13 @@ extern "C" {
 #define M7_MOST_LINE_BYTES 1054
 #define M7_MOST_BUDGET 1000000
 
+/* Stacks a to z, and as many counters; entries of a stack, which its pointer
+   counts from 1; bytes of an entry; the value of a counter or increment. */
+#define M7_STACKS 26
+#define M7_MOST_ENTRIES 20
+#define M7_MOST_ENTRY_BYTES 50
+#define M7_MOST_COUNT 999999999
+
 /* ANSWERS
 
    number  0 if the call was taken, else the refusal (below)

@@ -1,4 +1,7 @@
-//! Macro files to measure with.
+//! Macro files and lines to measure with.
+
+use m7_reference::read::read_file;
+use m7_reference::write::write_table;
 
 /// A macro of `size` bytes, with an element of each sort, a skip and calls.
 fn macro_of(size: usize, letter: u8) -> Vec<u8> {
@@ -22,21 +25,22 @@ pub fn most_macros() -> Vec<u8> {
     (0..96u8).flat_map(|i| macro_of(341, b'A' + i % 26)).collect()
 }
 
-/// Twenty macros as a table writer has them, some 40 bytes each.
-pub fn typical() -> Vec<u8> {
-    let kinds: [&str; 5] = [
-        "'@{-*-?6*\\/?6*}'='o{1}';\n",
-        "'dotted {[a-g]*}{?6*}'='{1}{2}.'&(1,d);\n",
-        "'^{?4*}: '<'\\\\part \"{1}\" '#(p+)... ;\n",
-        "'more &(a)*s'<'#(n+) ok'&(a:verse:);\n",
-        "'[ \\t]*$'<''; trailing spaces\n",
-    ];
-    let mut file = Vec::new();
-    for i in 0..20 {
-        let kind = kinds[i % kinds.len()];
-        file.extend_from_slice(kind.replace("#(p+)... ;", "#(p=1);").as_bytes());
-    }
-    file
+/// Forty macros for part texts.
+pub fn parts() -> Vec<u8> {
+    include_bytes!("../bench/parts.m7").to_vec()
+}
+
+/// The same without the one that puts a bar line behind every line.
+pub fn open_parts() -> Vec<u8> {
+    let macros = read_file(&parts()).expect("the file is taken");
+    write_table(&macros[1..]).expect("it can be written")
+}
+
+/// The lines of a song, over and over.
+pub fn song_lines(count: usize) -> Vec<Vec<u8>> {
+    let text = include_bytes!("../bench/song.txt");
+    let lines = text.strip_suffix(b"\n").unwrap_or(text).split(|byte| *byte == b'\n');
+    lines.map(<[u8]>::to_vec).cycle().take(count).collect()
 }
 
 /// The table of the manual's section 10, as the stored answers have it.
@@ -58,9 +62,19 @@ pub fn program_lines(count: usize) -> Vec<Vec<u8>> {
     (0..count).map(|i| lines[i % lines.len()].to_vec()).collect()
 }
 
-/// A macro of at most 512 bytes whose pattern has a unit as often as it can.
-pub fn full_macro(unit: &str, last: &str) -> Vec<u8> {
+/// A macro of at most 512 bytes whose pattern has a unit as often as it can, and how often.
+pub fn full_macro(unit: &str, last: &str) -> (Vec<u8>, usize) {
     let fitting = (512 - 6 - last.len()) / unit.len();
     let times = if unit.starts_with('{') { fitting.min(99) } else { fitting };
-    format!("'{}{last}'<'';", unit.repeat(times)).into_bytes()
+    (format!("'{}{last}'<'';", unit.repeat(times)).into_bytes(), times)
+}
+
+/// The same macro as a table for Perl.
+pub fn perl_macro(unit: &str, last: &str, times: usize) -> String {
+    let regex = |text: &str| {
+        let text = text.replace("*-", "\0").replace('*', "+").replace('\0', "*");
+        text.replace("?1", "(?s:.)").replace('{', "(").replace('}', ")").replace('$', "\\z")
+    };
+    let pattern = regex(unit).repeat(times) + &regex(last);
+    format!("our @macros = (['<', sub {{ s/{pattern}//g }}]);\n1;\n")
 }

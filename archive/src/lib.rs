@@ -4,3 +4,8 @@ pub mod clock;
 pub mod engine;
 pub mod files;
 pub mod form;
+pub mod jobs;
+pub mod lent;
+pub mod perl;
+pub mod stored;
+pub mod trial;

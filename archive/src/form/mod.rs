@@ -1,0 +1,10 @@
+//! Tables and states as bytes, from the Rust version's values and back. What
+//! comes back is nothing where 01 says 1 or 2.
+
+mod state;
+mod table;
+mod taken;
+
+pub use state::{state_form, state_of};
+pub use table::{slot_form, table_form, SLOT_BYTES};
+pub use taken::table_of;

@@ -1,0 +1,111 @@
+//! What was counted: calls by group and answer.
+
+use crate::engine::Answer;
+
+/// What was special about a call.
+#[derive(Clone, Copy)]
+pub enum Group {
+    Read,
+    ReadBack,
+    Write,
+    WriteChanged,
+    Fresh,
+    Feed,
+    FeedNone,
+    FeedOne,
+    FeedExact,
+    FeedLess,
+    FeedLarge,
+    FeedOver,
+    FeedTable,
+    FeedState,
+    FeedBoth,
+    SizeRead,
+    SizeWrite,
+    SizeFresh,
+    SizeFeed,
+}
+
+const NAMES: [&str; 19] = [
+    "m7_read, a generated file",
+    "m7_read, a file that m7_write wrote",
+    "m7_write, a table as read or fed",
+    "m7_write, a byte of the table changed",
+    "m7_fresh",
+    "m7_feed, the lines of a list in turn",
+    "m7_feed, budget 0",
+    "m7_feed, budget 1",
+    "m7_feed, budget exactly the passes",
+    "m7_feed, budget one less than the passes",
+    "m7_feed, budget 1,000,000",
+    "m7_feed, budget over 1,000,000",
+    "m7_feed, a byte of the table changed",
+    "m7_feed, a byte of the state changed",
+    "m7_feed, several of these at once",
+    "m7_read, a memory of another size",
+    "m7_write, a memory of another size",
+    "m7_fresh, a memory of another size",
+    "m7_feed, a memory of another size",
+];
+
+/// Behind the numbers stand the kinds of a line that was taken.
+const KINDS: usize = 40;
+
+pub struct Counts {
+    calls: [[u64; 44]; NAMES.len()],
+}
+
+impl Counts {
+    pub fn new() -> Counts {
+        Counts { calls: [[0; 44]; NAMES.len()] }
+    }
+
+    pub fn add(&mut self, group: Group, answer: Answer) {
+        let place = match (answer.number, answer.kind) {
+            (0, 0) => 0,
+            (0, kind) => KINDS + kind.min(3) as usize,
+            (number, _) => number.min(39) as usize,
+        };
+        self.calls[group as usize][place] += 1;
+    }
+
+    pub fn all(&self) -> u64 {
+        self.calls.iter().flatten().sum()
+    }
+
+    /// A table in Markdown: for each group its calls, and how many had which answer.
+    pub fn print(&self) {
+        println!("| Call | Calls | Answers |\n|---|---|---|");
+        for (name, row) in NAMES.iter().zip(&self.calls) {
+            let words: Vec<String> = (0..row.len())
+                .filter(|place| row[*place] > 0)
+                .map(|place| format!("{} {}", answer_name(place), grouped(row[place])))
+                .collect();
+            println!("| {name} | {} | {} |", grouped(row.iter().sum()), words.join(", "));
+        }
+        println!("| all | {} | |", grouped(self.all()));
+    }
+}
+
+fn answer_name(place: usize) -> String {
+    match place {
+        0 => "taken".to_string(),
+        41 => "out".to_string(),
+        42 => "withheld".to_string(),
+        43 => "control".to_string(),
+        number => format!("**{number}**"),
+    }
+}
+
+/// A number with commas between its thousands.
+pub fn grouped(n: u64) -> String {
+    let digits = n.to_string();
+    let mut text = String::new();
+    for (place, digit) in digits.chars().enumerate() {
+        if place > 0 && (digits.len() - place) % 3 == 0 {
+            text.push(',');
+        }
+        text.push(digit);
+    }
+    text
+}

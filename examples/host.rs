@@ -1,0 +1,147 @@
+//! A host in Rust: reads a macro file, feeds the lines of standard input, and
+//! prints what becomes of each. It needs rustc alone:
+//!
+//!     rustc -O examples/host.rs -L target/staticlib -l static=m7
+//!     host TABLE < LINES
+
+use std::io::{self, BufRead, Read, Write};
+use std::process::ExitCode;
+
+// The sizes and the answer of include/m7.h.
+const TABLE_BYTES: usize = 98304;
+const STATE_BYTES: usize = 26236;
+const OUTPUT_BYTES: usize = 1054;
+const FILE_BYTES: usize = 32768;
+const OUT: u32 = 1;
+
+#[repr(C)]
+struct Answer {
+    number: u32,
+    place: u32,
+    passes: u32,
+    kind: u32,
+    length: u32,
+}
+
+extern "C" {
+    fn m7_read(file: *const u8, file_size: usize, table: *mut u8, table_size: usize) -> Answer;
+    fn m7_fresh(state: *mut u8, state_size: usize) -> Answer;
+    fn m7_feed(
+        table: *mut u8,
+        table_size: usize,
+        state: *mut u8,
+        state_size: usize,
+        line: *const u8,
+        line_size: usize,
+        budget: u32,
+        output: *mut u8,
+        output_size: usize,
+    ) -> Answer;
+}
+
+/// The memories that are lent. Each is a Vec of its own, so they never overlap.
+struct Engine {
+    table: Vec<u8>,
+    state: Vec<u8>,
+    output: Vec<u8>,
+}
+
+impl Engine {
+    /// The table of a macro file with a fresh state, or the refusal.
+    fn new(file: &[u8]) -> Result<Engine, Answer> {
+        let (mut table, mut state) = (vec![0; TABLE_BYTES], vec![0; STATE_BYTES]);
+        let read = unsafe { m7_read(file.as_ptr(), file.len(), table.as_mut_ptr(), table.len()) };
+        if read.number != 0 {
+            return Err(read);
+        }
+        unsafe { m7_fresh(state.as_mut_ptr(), state.len()) };
+        Ok(Engine { table, state, output: vec![0; OUTPUT_BYTES] })
+    }
+
+    fn feed(&mut self, line: &[u8], budget: u32) -> Answer {
+        let (table, state, output) = (&mut self.table, &mut self.state, &mut self.output);
+        unsafe {
+            m7_feed(
+                table.as_mut_ptr(),
+                table.len(),
+                state.as_mut_ptr(),
+                state.len(),
+                line.as_ptr(),
+                line.len(),
+                budget,
+                output.as_mut_ptr(),
+                output.len(),
+            )
+        }
+    }
+}
+
+/// What a number means, in a few words.
+fn meaning(number: u32) -> &'static str {
+    match number {
+        1 => "not a table",
+        2 => "not a state",
+        3 => "a memory of another size",
+        4 => "the budget is too large",
+        10 => "the file is too long",
+        11 => "byte 0",
+        12 => "a part is not complete",
+        13 => "an empty class or a bad range",
+        14 => "a closure with no unit",
+        15 => "a brace without its other, or the 100th tag",
+        16 => "a call or tag number that cannot be",
+        17 => "a pattern without an element",
+        18 => "a macro of more than 512 bytes",
+        19 => "the 97th macro",
+        21 => "the line is too long",
+        22 => "byte 0 or a line feed in a line",
+        23 => "a control line that is none",
+        31 => "the budget is used up",
+        32 => "the new line is too long",
+        33 => "a stored tag is too long",
+        34 => "a pointer past 20",
+        35 => "a counter past its end",
+        _ => "taken",
+    }
+}
+
+/// Reads a file whole, or one byte more than the engine takes of it.
+fn load(name: &str) -> io::Result<Vec<u8>> {
+    let mut bytes = Vec::new();
+    std::fs::File::open(name)?.take(FILE_BYTES as u64 + 1).read_to_end(&mut bytes)?;
+    Ok(bytes)
+}
+
+/// Feeds each line and prints the line that goes out, or why there is none.
+fn run(engine: &mut Engine, input: impl BufRead, mut output: impl Write) -> io::Result<()> {
+    for line in input.split(b'\n') {
+        let answer = engine.feed(&line?, 10_000);
+        if answer.number != 0 {
+            let Answer { number, passes, .. } = answer;
+            writeln!(output, "refused with {number} after {passes} passes: {}", meaning(number))?;
+        } else if answer.kind == OUT {
+            output.write_all(&engine.output[..answer.length as usize])?;
+            output.write_all(b"\n")?;
+        }
+    }
+    output.flush()
+}
+
+fn main() -> ExitCode {
+    let words: Vec<String> = std::env::args().collect();
+    let file = words.get(1).filter(|_| words.len() == 2).and_then(|name| load(name).ok());
+    let Some(file) = file else {
+        eprintln!("usage: host TABLE < LINES, with a TABLE that can be read");
+        return ExitCode::from(2);
+    };
+    match Engine::new(&file) {
+        Ok(mut engine) => match run(&mut engine, io::stdin().lock(), io::stdout().lock()) {
+            Ok(()) => ExitCode::SUCCESS,
+            Err(_) => ExitCode::FAILURE,
+        },
+        Err(Answer { number, place, .. }) => {
+            println!("refused with {number} at {place}: {}", meaning(number));
+            ExitCode::FAILURE
+        }
+    }
+}
