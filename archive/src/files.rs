@@ -64,3 +64,8 @@ pub fn full_macro(unit: &str, last: &str) -> Vec<u8> {
     let times = if unit.starts_with('{') { fitting.min(99) } else { fitting };
     format!("'{}{last}'<'';", unit.repeat(times)).into_bytes()
 }
+
+/// 99 tags, each around a closure and the next.
+pub fn nested_closures() -> Vec<u8> {
+    format!("'{}b{}'<'';", "{a*-".repeat(99), "}".repeat(99)).into_bytes()
+}
