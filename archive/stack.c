@@ -146,6 +146,7 @@ int main(int count, char **words)
     worst("?1", 252, "");
     worst("[ab]*", 84, "c");
     worst("&(a)*-", 84, "b");
+    worst("a*-^", 126, "b");
     mixed("a*-", "$", 501, "b");
     mixed("a*-&(b)", "$", 497, "b");
     mixed("a*-&(b)", "{}", 99, "b");

@@ -11,8 +11,8 @@ extern "C" {
     fn clock_gettime(clock: i32, time: *mut [i64; 2]) -> i32;
 }
 
-/// The processor time that this process has used.
-fn used() -> f64 {
+/// The processor time that this process has used, in microseconds.
+pub fn used() -> f64 {
     const PROCESS: i32 = 2;
     let mut time = [0, 0];
     assert_eq!(unsafe { clock_gettime(PROCESS, &mut time) }, 0);

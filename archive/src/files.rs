@@ -78,3 +78,8 @@ pub fn perl_macro(unit: &str, last: &str, times: usize) -> String {
     let pattern = regex(unit).repeat(times) + &regex(last);
     format!("our @macros = (['<', sub {{ s/{pattern}//g }}]);\n1;\n")
 }
+
+/// 99 tags, each around a closure and the next.
+pub fn nested_closures() -> Vec<u8> {
+    format!("'{}b{}'<'';", "{a*-".repeat(99), "}".repeat(99)).into_bytes()
+}
