@@ -1,0 +1,4 @@
+// The program on the example of the README.
+fn main() {
+    program::run();
+}

@@ -1,0 +1,39 @@
+use Prim.Native.Nat.{ℕ, _+_, _*_, _-_, _≤_, _<_, min}
+use mathlib.Core.Path.{_≡_, refl, sym, ap, _∙_}
+use native.Mathlib.Omega.{arith}
+use borrow.Author.Needs.{needs}
+use borrow.Author.Tests.{ltb-true}
+use lib.ListN.{length, take, drop, length-set, length-take, length-drop, length-append}
+use lib.Seq.{length-take-le}
+use Rattle.program.proofs.Laws.{digits-most}
+use Rattle.program.proofs.said.number_said.Statement.{statement}
+use Rattle.program.proofs.said.number_said.Tie as tie
+
+decimal-requires : tie.Need-decimal-requires
+decimal-requires c κs = search needs
+
+array-share-prefix-digits : tie.Need-array-share-prefix-digits
+array-share-prefix-digits c = search needs
+
+slice-aggregate-append : tie.Need-slice-aggregate-append
+slice-aggregate-append c = search needs
+
+append-requires : tie.Need-append-requires
+append-requires c κs = let h = digits-most (c .before .before .before .before .before .args .n) (c .before .before .decimal .result) (c .before .before .before .before .before .good .1 .1 .0 .1) (c .before .before .decimal .ensures .1 .0 .2) in let e = c .before .before .decimal .ensures .0 .1 in omega (arith, h, e, c .before .before .before .before .before .pre)
+
+same-length : tie.Need-same-length
+same-length c = search needs
+
+returns : tie.Need-returns
+returns c = record { text = take (c .before .before .before .before .before .decimal .result) (c .before .before .before .before .before .decimal .last .1 .0); decimal = record { count = c .before .before .before .before .before .decimal .result; fewest = c .before .before .before .before .before .decimal .ensures .1 .0; same = c .before .before .before .before .before .decimal .ensures .1 .1 }; bytes = c .before .before .append .ensures .1 .bytes; most = let h = digits-most (c .before .before .before .before .before .before .before .before .args .n) (c .before .before .before .before .before .decimal .result) (c .before .before .before .before .before .before .before .before .good .1 .1 .0 .1) (c .before .before .before .before .before .decimal .ensures .1 .0 .2) in let e = c .before .before .before .before .before .decimal .ensures .0 .1 in omega (arith, h, e, c .before .before .append .ensures .0 .used) }
+
+pub number-said-spec : {M : Type 1} → statement M
+number-said-spec =
+    tie.close
+    (tie.spec
+    decimal-requires
+    array-share-prefix-digits
+    slice-aggregate-append
+    append-requires
+    same-length
+    returns)

@@ -1,0 +1,55 @@
+use Prim.Native.Nat.{ℕ, _+_, _*_, _-_, _≤_, _<_, min}
+use mathlib.Core.Path.{_≡_, refl, sym, ap, _∙_}
+use native.Mathlib.Omega.{arith}
+use borrow.Author.Needs.{needs}
+use borrow.Author.Tests.{ltb-true}
+use lib.ListN.{length, take, drop, length-set, length-take, length-drop, length-append}
+use lib.Seq.{length-take-le}
+use Rattle.program.proofs.Laws.{refusal-parts}
+use Rattle.program.proofs.said.refusal_said.Statement.{statement}
+use Rattle.program.proofs.said.refusal_said.Tie as tie
+
+slice-aggregate-append : tie.Need-slice-aggregate-append
+slice-aggregate-append c = search needs
+
+append-requires : tie.Need-append-requires
+append-requires c κs = search needs
+
+number-said-requires : tie.Need-number-said-requires
+number-said-requires c κs = search needs
+
+slice-aggregate-append-2 : tie.Need-slice-aggregate-append-2
+slice-aggregate-append-2 c = search needs
+
+append-requires-2 : tie.Need-append-requires-2
+append-requires-2 c κs = search needs
+
+number-said-requires-2 : tie.Need-number-said-requires-2
+number-said-requires-2 c κs = search needs
+
+slice-aggregate-append-3 : tie.Need-slice-aggregate-append-3
+slice-aggregate-append-3 c = search needs
+
+append-requires-3 : tie.Need-append-requires-3
+append-requires-3 c κs = search needs
+
+same-length : tie.Need-same-length
+same-length c = search needs
+
+returns : tie.Need-returns
+returns c = (omega arith, refusal-parts (c .before .before .before .before .before .before .before .before .before .before .before .before .before .before .before .before .before .before .before .before .append .ensures .1) (c .before .before .before .before .before .before .before .before .before .before .before .before .before .before .before .before .number-said .ensures) (c .before .before .before .before .before .before .before .before .before .before .before .append2 .ensures .1) (c .before .before .before .before .before .before .before .number-said2 .ensures) (c .before .before .append3 .ensures .1))
+
+pub refusal-said-spec : {M : Type 1} → statement M
+refusal-said-spec =
+    tie.close
+    (tie.spec
+    slice-aggregate-append
+    append-requires
+    number-said-requires
+    slice-aggregate-append-2
+    append-requires-2
+    number-said-requires-2
+    slice-aggregate-append-3
+    append-requires-3
+    same-length
+    returns)

@@ -1,0 +1,96 @@
+// The macro file `parts.m7`.
+ghost use Prim.Native.Nat.{_+_, _≤_};
+ghost use lib.ListN.{length};
+ghost use Rattle.program.specs.Parts.{PartsRead};
+
+// What became of the file: a table, or its refusal's number, 0 for a file that cannot be opened or read.
+pub(crate) enum Parts {
+    Table,
+    Refused(u32),
+}
+
+// What was read: how many bytes, unless it failed.
+struct Got {
+    failed: bool,
+    size: usize,
+}
+
+// Reads the file as a table. One byte more than it may have is read, so that a longer one shows.
+pub(crate) fn read_parts(table: &mut [u8]) -> Parts
+    ensures { λ r. ⌜ PartsRead (now (table .entry)) r (now (table .exit)) ⌝ }
+{
+    let mut file: [u8; 32769] = [0; 32769];
+    let got = find_file(&mut file);
+    let size = got.size;
+    if got.failed {
+        return Parts::Refused(0);
+    }
+    let answer = m7::m7_read(&file[..size], table);
+    if answer.number != 0 {
+        return Parts::Refused(answer.number);
+    }
+    Parts::Table
+}
+
+// Opens the file and reads it.
+fn find_file(file: &mut [u8]) -> Got
+    ensures { λ r. ⌜ r .size ≤ length (now (file .entry)) ⌝ }
+{
+    let fd = os::open_read(b"parts.m7");
+    if fd < 0 {
+        return Got {
+            failed: true,
+            size: 0,
+        };
+    }
+    let got = read_file(fd, file);
+    libc::close(fd);
+    got
+}
+
+// Reads to the file's end, or until the memory is full.
+fn read_file(fd: i32, file: &mut [u8]) -> Got
+    ensures { λ r. ⌜ r .size ≤ length (now (file .entry)) ⌝ }
+{
+    let mut done = 0;
+    while done < file.len() {
+        let got = read_once(fd, file, done);
+        let n = got.size;
+        if got.failed {
+            return Got {
+                failed: true,
+                size: 0,
+            };
+        }
+        if n < 1 {
+            return Got {
+                failed: false,
+                size: done,
+            };
+        }
+        done += n;
+    }
+    Got {
+        failed: false,
+        size: done,
+    }
+}
+
+// One read behind the bytes held. A directory opens and cannot be read.
+fn read_once(fd: i32, file: &mut [u8], done: usize) -> Got
+    requires { ⌜ done ≤ length (now file) ⌝ }
+    ensures { λ r. ⌜ done + r .size ≤ length (now (file .entry)) ⌝ }
+{
+    let got = libc::read(fd, &mut file[done..]);
+    if got < 0 {
+        return Got {
+            failed: true,
+            size: 0,
+        };
+    }
+    let size = io::count(got, &file[done..]);
+    Got {
+        failed: false,
+        size,
+    }
+}

@@ -1,0 +1,4 @@
+// A `parts.m7` that opens and cannot be read.
+fn main() {
+    program::run();
+}

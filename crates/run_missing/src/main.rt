@@ -1,0 +1,4 @@
+// No file `parts.m7`.
+fn main() {
+    program::run();
+}

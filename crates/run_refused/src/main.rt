@@ -1,0 +1,4 @@
+// A file that is refused: its number, and nothing more.
+fn main() {
+    program::run();
+}

@@ -1,0 +1,54 @@
+use Prim.Native.Nat.{ℕ, _+_, _*_, _-_, _≤_, _<_, min}
+use mathlib.Core.Path.{_≡_, refl, sym, ap, _∙_}
+use native.Mathlib.Omega.{arith}
+use borrow.Author.Needs.{needs}
+use borrow.Author.Tests.{ltb-true}
+use lib.ListN.{length, take, drop, length-set, length-take, length-drop, length-append}
+use lib.Seq.{length-take-le}
+use Rattle.serving.proofs.words.first_number.Statement.{statement}
+use Rattle.serving.proofs.words.first_number.Tie as tie
+
+abbrev Inv-loop : tie.InvT-loop
+Inv-loop text value₀ at₀ value at = at ≤ length text
+
+abbrev μ-loop : tie.MeasureT-loop
+μ-loop text value₀ at₀ value at = length text - at
+
+loop-holds : tie.Need-loop-holds Inv-loop μ-loop
+loop-holds c = search needs
+
+shared-slice-read-b : tie.Need-shared-slice-read-b Inv-loop μ-loop
+shared-slice-read-b c = search needs
+
+add-at : tie.Need-add-at Inv-loop μ-loop
+add-at c = search needs
+
+returns : tie.Need-returns Inv-loop μ-loop
+returns c = search needs
+
+with-digit-requires : tie.Need-with-digit-requires Inv-loop μ-loop
+with-digit-requires c κs = search needs
+
+loop-less : tie.Need-loop-less Inv-loop μ-loop
+loop-less c = search needs
+
+loop-again : tie.Need-loop-again Inv-loop μ-loop
+loop-again c = search needs
+
+returns-2 : tie.Need-returns-2 Inv-loop μ-loop
+returns-2 c = search needs
+
+pub first-number-spec : {M : Type 1} → statement M
+first-number-spec =
+    tie.close
+    (tie.spec
+    Inv-loop
+    μ-loop
+    loop-holds
+    shared-slice-read-b
+    add-at
+    returns
+    with-digit-requires
+    loop-less
+    loop-again
+    returns-2)
