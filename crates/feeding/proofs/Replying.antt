@@ -10,36 +10,41 @@ use borrow.Author.Tests.{le-leb, lt-leb, lt-ltb, eq-eqb, ne-eqb}
 use lib.Dec.{ltb, eqb}
 use lib.ListN.{length, getD, take, drop, replicate, length-replicate, drop-of-length-le}
 use lib.Seq.{drop-cons, take-at, take-suc, take-all, length-take-le}
-use Rattle.kinds.specs.Kind.{kindTable}
 use Rattle.macros.specs.Bounds.{mostLineBytes, mostBudget}
+use Rattle.macros.specs.Refusals.{Refusal}
 use Rattle.macros.specs.Refusals.Refusal.{ofWork}
 use Rattle.macros.specs.Macro.{Table}
 use Rattle.macros.specs.Formed.{Bytes}
 use Rattle.lines.specs.State.{State}
-use Rattle.lines.specs.Line.{Ending, Line, newestFirst, passes, passesOf, hadOccurrence, ending, lineOf}
-use Rattle.lines.specs.Line.Ending.{done, control}
+use Rattle.lines.specs.Line.{Ending, Line, passesOf, hadOccurrence, ending, lineOf}
+use Rattle.lines.specs.Line.Ending.{done}
 use Rattle.lines.specs.Feeding.{Kind, Answer, orderOf, kindOfDone, refusal, outputOf, ofOrder, answered, answer, hasBadByte}
 use Rattle.lines.specs.Feeding.{feed as fed}
 use Rattle.lines.specs.Feeding.Kind.{out, withheld}
+use Rattle.lines.specs.Feeding.Order.{wrong}
 use Rattle.lines.proofs.KeepBytes.{bytes-append}
-use Rattle.states.specs.Form.{stateBytes}
 use Rattle.states.specs.Access.{Holds, IsState, OfState}
-use Rattle.states.proofs.Parts.{state-size}
-use Rattle.feeding.specs.Contract.{IsTable, refusalOf, laidOut, Answers, Feeds}
-use Rattle.feeding.specs.Passing.{Counted, Counts, Comes, Ends, Left, Stands, Ready}
-use Rattle.feeding.specs.Ordering.{Orders}
-use Rattle.feeding.specs.Answering.{Fits, Started, Runs, withheldBy, Finished, GoesOut, keptBy, Ruling, Rules, Takes}
+use Rattle.memories.specs.Memory.{IsTable, Counted, padded}
+use Rattle.memories.proofs.Copying.{padded-whole}
+use Rattle.controls.specs.Contract.{Orders}
+use Rattle.controls.specs.Contract.{refusalOf as controlRefusal}
+use Rattle.controls.specs.declared.Why.{Why as ControlWhy}
+use Rattle.controls.specs.declared.Why.the-variants.{BadControl, InMacro}
+use Rattle.controls.specs.declared.Order.{Order as Obeyed}
+use Rattle.controls.specs.declared.Order.the-variants.{Taken, Wrong}
+use Rattle.running.specs.Contract.{Started, Comes, Left, LineLeft, Runs}
+use Rattle.running.specs.Contract.{refusalOf as workRefusal}
+use Rattle.running.specs.declared.Why.{Why as WorkWhy}
+use Rattle.running.specs.declared.Why.the-variants.{BudgetUsedUp, AtWork}
+use Rattle.running.specs.declared.Ended.{Ended}
+use Rattle.running.specs.declared.Ended.the-variants.{Done, Control as AtControl, Refused as AtRefusal}
+use Rattle.running.proofs.Starting.{state-length}
+use Rattle.feeding.specs.Contract.{Lent, refusalOf, laidOut, Answers, Feeds}
+use Rattle.feeding.specs.Answering.{Counts, controlWhy, workWhy, Fits, withheldBy, Finished, GoesOut, keptBy, Ruling, Rules, Replying, Replies, Takes}
 use Rattle.feeding.specs.declared.Why.{Why}
 use Rattle.feeding.specs.declared.Why.the-variants.{BudgetTooLarge, LineTooLong, BadByte}
-use Rattle.feeding.specs.declared.Ended.{Ended}
-use Rattle.feeding.specs.declared.Ended.the-variants.{Done, Control as AtControl, Refused as AtRefusal}
-use Rattle.feeding.specs.declared.Order.{Order as Obeyed}
-use Rattle.feeding.specs.declared.Order.the-variants.{Taken, Wrong}
 use Rattle.feeding.specs.declared.Fed.{Fed}
 use Rattle.feeding.specs.declared.Fed.the-variants.{Out, Withheld, Control, Refused}
-use Rattle.feeding.proofs.Copying.{copied-whole, copied-front}
-use Rattle.feeding.proofs.Closing.{due-all, none-closed}
-use Rattle.feeding.proofs.Running.{after-none}
 
 -- 22
 
@@ -97,23 +102,20 @@ kind-out zero false t e = refl
 kind-out (suc n) true t e = refl
 kind-out (suc n) false t e = absurd (false≢true (sym e))
 
-pub state-length : (z : List ℕ) → IsState z → length z ≡ stateBytes
-state-length z s = ap length (sym (s .1 .form)) ∙ state-size (s .0) (s .1 .inRange) .0
+no-output : (t o o′ : List ℕ) → length o ≡ mostLineBytes → o′ ≡ padded (take 0 t) (length o) → o′ ≡ replicate mostLineBytes 0
+no-output t o o′ l e = let n : length o - 0 ≡ mostLineBytes = omega arith in e ∙ ap (λ (k : ℕ). replicate k 0) n
 
-no-output : (o o′ : List ℕ) → length o ≡ mostLineBytes → o′ ≡ take 0 o ++ replicate (length o - 0) 0 → o′ ≡ replicate mostLineBytes 0
-no-output o o′ l e = let n : length o - 0 ≡ mostLineBytes = omega arith in e ∙ ap (λ (k : ℕ). replicate k 0) n
-
-module _ {b b′ out₁ z t : List ℕ} (o : Bool) (y : Finished b out₁ z t) (e : b′ ≡ z ++ drop (length z) b) {flag : ℕ} (f : OfState z (λ st. flag ≡ st .nflag)) {h : Bool} (w : h ≡ withheldBy flag o) where
+module _ {b b′ out₁ z t : List ℕ} (o : Bool) (y : Finished b out₁ z t) (e : b′ ≡ padded z (length b)) {flag : ℕ} (f : OfState z (λ st. flag ≡ st .nflag)) {h : Bool} (w : h ≡ withheldBy flag o) where
   kept : b′ ≡ z
-  kept = copied-whole b z b′ (state-length z (y .after) ∙ sym (y .state)) e
+  kept = padded-whole z (length b) (state-length (y .after) ∙ sym (y .state)) e
 
-  pub go-withheld : h ≡ true → {o′ : List ℕ} → o′ ≡ take 0 out₁ ++ replicate (length out₁ - 0) 0 → (p : ℕ) → GoesOut b′ out₁ o′ z t o p (Withheld p)
+  pub go-withheld : h ≡ true → {o′ : List ℕ} → o′ ≡ padded (take 0 t) (length out₁) → (p : ℕ) → GoesOut b′ out₁ o′ z t o p (Withheld p)
   unfolding laidOut outputOf
   go-withheld g {o′} x p =
       let k : (st : State) → Holds z st → kindOfDone (st .nflag) o t ≡ withheld = λ st s. kind-held (st .nflag) o t (ap (λ (n : ℕ). withheldBy n o) (sym (f st s)) ∙ (sym w ∙ g)) in
-      record { state = kept; passes = refl; kind = k; size = λ st s. ap (λ (j : Kind). length (outputOf j)) (k st s); output = λ st s. no-output out₁ o′ (y .output) x ∙ sym (ap (λ (j : Kind). laidOut j out₁) (k st s)) }
+      record { state = kept; passes = refl; kind = k; size = λ st s. ap (λ (j : Kind). length (outputOf j)) (k st s); output = λ st s. no-output t out₁ o′ (y .output) x ∙ sym (ap (λ (j : Kind). laidOut j out₁) (k st s)) }
 
-  pub go-out : h ≡ false → {o′ : List ℕ} → o′ ≡ t ++ replicate (length out₁ - length t) 0 → (p : ℕ) → GoesOut b′ out₁ o′ z t o p (Out p (length t))
+  pub go-out : h ≡ false → {o′ : List ℕ} → o′ ≡ padded t (length out₁) → (p : ℕ) → GoesOut b′ out₁ o′ z t o p (Out p (length t))
   unfolding laidOut outputOf
   go-out g {o′} x p =
       let k : (st : State) → Holds z st → kindOfDone (st .nflag) o t ≡ out t = λ st s. kind-out (st .nflag) o t (ap (λ (n : ℕ). withheldBy n o) (sym (f st s)) ∙ (sym w ∙ g)) in
@@ -126,10 +128,20 @@ module _ {b b′ out₁ z t : List ℕ} (o : Bool) (y : Finished b out₁ z t) (
         output = λ st s. x ∙ (ap (λ (n : ℕ). t ++ replicate (n - length t) 0) (y .output) ∙ sym (ap (λ (j : Kind). laidOut j out₁) (k st s)));
       }
 
+-- WHY
+
+why-control : (w : ControlWhy) → refusalOf (controlWhy w) ≡ controlRefusal w
+why-control BadControl = refl
+why-control (InMacro f p) = refl
+
+why-work : (w : WorkWhy) → refusalOf (workWhy w) ≡ ofWork (workRefusal w)
+why-work BudgetUsedUp = refl
+why-work (AtWork f) = refl
+
 -- CONTROL LINES
 
 module _ {tb tb′ : List ℕ} {count : ℕ} {b z z′ t : List ℕ} {r : Obeyed} (x : Orders tb tb′ z z′ count t r) where
-  pub rule-taken : r ≡ Taken → {b′ o o′ : List ℕ} → b′ ≡ keptBy r z′ b → length o ≡ mostLineBytes → o′ ≡ take 0 o ++ replicate (length o - 0) 0 → (p : ℕ)
+  pub rule-taken : r ≡ Taken → {b′ o o′ : List ℕ} → b′ ≡ keptBy r z′ b → length o ≡ mostLineBytes → o′ ≡ padded (take 0 t) (length o) → (p : ℕ)
       → Rules tb tb′ count b b′ o o′ z t p (Control p)
   unfolding ofOrder laidOut outputOf
   rule-taken e {b′} {o} {o′} d m f p =
@@ -138,22 +150,23 @@ module _ {tb tb′ : List ℕ} {count : ℕ} {b z z′ t : List ℕ} {r : Obeyed
         answers = λ ms h c old st ho hs.
             let v = x₂ .obeys ms h c st hs in
             subst (λ (a : Answer). Answers a tb′ b′ o o′ (Control p)) (sym (ap (ofOrder ms old p) (v .2)))
-            (record { kind = refl; passes = refl; size = refl; table = v .3; state = subst (λ (j : List ℕ). Holds j (v .1)) (sym (d ∙ ap (λ (j : Obeyed). keptBy j z′ b) e)) (v .4); output = no-output o o′ m f });
+            (record { kind = refl; passes = refl; size = refl; table = v .3; state = subst (λ (j : List ℕ). Holds j (v .1)) (sym (d ∙ ap (λ (j : Obeyed). keptBy j z′ b) e)) (v .4); output = no-output t o o′ m f });
       }
 
-  pub rule-wrong : {w : Why} → r ≡ Wrong w → {b′ : List ℕ} → b′ ≡ keptBy r z′ b → (o : List ℕ) (p : ℕ) → Rules tb tb′ count b b′ o o z t p (Refused w p)
+  pub rule-wrong : {w : ControlWhy} → r ≡ Wrong w → {v : Why} → v ≡ controlWhy w → {b′ : List ℕ} → b′ ≡ keptBy r z′ b → (o : List ℕ) (p : ℕ) → Rules tb tb′ count b b′ o o z t p (Refused v p)
   unfolding ofOrder refusal laidOut outputOf
-  rule-wrong {w} e {b′} d o p =
+  rule-wrong {w} e {v} g {b′} d o p =
       let x₂ : Orders tb tb′ z z′ count t (Wrong w) = rw e at x in
+      let q : controlRefusal w ≡ refusalOf v = sym (why-control w) ∙ ap refusalOf (sym g) in
       record {
         answers = λ ms h c old st ho hs.
-            let v = x₂ .obeys ms h c st hs in
-            subst (λ (a : Answer). Answers a tb′ b′ o o (Refused w p)) (sym (ap (ofOrder ms old p) (v .0)))
+            let u = x₂ .obeys ms h c st hs in
+            subst (λ (a : Answer). Answers a tb′ b′ o o (Refused v p)) (sym (ap (ofOrder ms old p) (u .0 ∙ ap wrong q)))
             (record {
               kind = refl;
               passes = refl;
               size = refl;
-              table = subst (λ (j : List ℕ). IsTable j ms) (sym (v .1)) h;
+              table = subst (λ (j : List ℕ). IsTable j ms) (sym (u .1)) h;
               state = subst (λ (j : List ℕ). Holds j old) (sym (d ∙ ap (λ (j : Obeyed). keptBy j z′ b) e)) ho;
               output = refl;
             });
@@ -165,83 +178,88 @@ answer-as : (ms : Table) (st : State) (l : Line) {p : ℕ} {e : Ending} → leng
 unfolding answer
 answer-as ms st l q f = rw (q, f) refl
 
-module _ {tb b z z′ tx tx′ t : List ℕ} {count n budget : ℕ} {r : Ended} (zb : z ≡ b) (front : take n tx ≡ t) (cs : Counts tb count) (x : Runs tb count z z′ tx tx′ n budget r) where
-  ran : (ms : Table) → IsTable tb ms → (st : State) → Holds b st → Comes (lineOf ms st budget t) z′ tx′ r
-  ran ms h st hb = subst (λ (j : List ℕ). Comes (lineOf ms st budget j) z′ tx′ r) front (x .comes ms h (cs .each ms h) st (subst (λ (j : List ℕ). Holds j st) (sym zb) hb))
+module _ {tb b z tx : List ℕ} {count : ℕ} {r : Ended} where
+  module _ {o₁ : List ℕ} (y : Replying tb count b o₁ z tx r) where
+    finished : {k : ℕ} → LineLeft z tx k → Finished b o₁ z (take k tx)
+    finished {k} l = record { state = y .state; output = y .output; after = l .state; short = omega (arith, length-take-le k tx (omega (arith, l .size, y .text)), l .size) }
 
-  module _ {k p : ℕ} {o : Bool} (e : r ≡ Done k o p) where
-    done-left : Left z′ tx′ (Done k o p)
-    done-left = rw e at (x .left)
+    module _ {k p : ℕ} {o : Bool} (e : r ≡ Done k o p) where
+      done-left : LineLeft z tx k
+      done-left = subst (Left z tx) e (y .left)
 
-    pub done-size : k ≤ mostLineBytes
-    done-size = done-left .0
+      pub done-size : k ≤ length tx
+      done-size = omega (arith, done-left .size, y .text)
 
-    pub done-state : IsState z′
-    done-state = done-left .1
+      pub done-finished : Finished b o₁ z (take k tx)
+      done-finished = finished done-left
 
-    pub done-finished : {o₁ : List ℕ} → length b ≡ stateBytes → length o₁ ≡ mostLineBytes → length tx′ ≡ mostLineBytes → Finished b o₁ z′ (take k tx′)
-    done-finished s u v = record { state = s; output = u; after = done-state; short = omega (arith, length-take-le k tx′ (omega (arith, done-size, v)), done-size) }
+    module _ {k p : ℕ} (e : r ≡ AtControl k p) where
+      control-left : LineLeft z tx k
+      control-left = subst (Left z tx) e (y .left)
 
-    pub take-done : {b′ o₁ o′ : List ℕ} {a : Fed} → GoesOut b′ o₁ o′ z′ (take k tx′) o p a → Takes tb tb b b′ budget t o₁ o′ a
-    unfolding answered
-    take-done {b′} {o₁} {o′} {a} g =
-        record {
-          answers = λ ms h st hb.
-              let c : Comes (lineOf ms st budget t) z′ tx′ (Done k o p) = subst (Comes (lineOf ms st budget t) z′ tx′) e (ran ms h st hb) in
-              let q : answer ms st (lineOf ms st budget t) ≡ answered ms st p o (done (take k tx′) (c .state)) =
-              answer-as ms st (lineOf ms st budget t) (c .count) (c .ends) ∙ ap (λ (j : Bool). answered ms st p j (done (take k tx′) (c .state))) (c .occurs) in
-              subst (λ (j : Answer). Answers j tb b′ o₁ o′ a) (sym q)
-              (record {
-                kind = g .kind (c .state) (c .holds);
-                passes = sym (g .passes);
-                size = g .size (c .state) (c .holds);
-                table = h;
-                state = subst (λ (j : List ℕ). Holds j (c .state)) (sym (g .state)) (c .holds);
-                output = g .output (c .state) (c .holds);
-              });
-        }
+      pub control-size : k ≤ length tx
+      control-size = omega (arith, control-left .size, y .text)
 
-  module _ {k p : ℕ} (e : r ≡ AtControl k p) where
-    control-left : Left z′ tx′ (AtControl k p)
-    control-left = rw e at (x .left)
+      pub control-ruling : Ruling tb count b o₁ z (take k tx)
+      control-ruling = record { table = y .table; ends = finished control-left; bytes = control-left .bytes }
 
-    pub control-size : k ≤ mostLineBytes
-    control-size = control-left .0
-
-    pub control-bytes : Bytes (take k tx′)
-    control-bytes = control-left .1
-
-    pub control-state : IsState z′
-    control-state = control-left .2
-
-    pub control-ruling : {o₁ : List ℕ} → Counted tb count → length b ≡ stateBytes → length o₁ ≡ mostLineBytes → length tx′ ≡ mostLineBytes → Ruling tb count b o₁ z′ (take k tx′)
-    control-ruling c s u v =
-        record {
-          table = c;
-          ends = record { state = s; output = u; after = control-state; short = omega (arith, length-take-le k tx′ (omega (arith, control-size, v)), control-size) };
-          bytes = control-bytes;
-        }
-
-    pub take-ruled : {tb′ b′ o₁ o′ : List ℕ} {a : Fed} → Rules tb tb′ count b b′ o₁ o′ z′ (take k tx′) p a → Takes tb tb′ b b′ budget t o₁ o′ a
-    unfolding answered
-    take-ruled {tb′} {b′} {o₁} {o′} {a} g =
-        record {
-          answers = λ ms h st hb.
-              let c : Comes (lineOf ms st budget t) z′ tx′ (AtControl k p) = subst (Comes (lineOf ms st budget t) z′ tx′) e (ran ms h st hb) in
-              let q : answer ms st (lineOf ms st budget t) ≡ ofOrder ms st p (orderOf ms (c .state) (take k tx′)) = answer-as ms st (lineOf ms st budget t) (c .count) (c .ends) in
-              subst (λ (j : Answer). Answers j tb′ b′ o₁ o′ a) (sym q) (g .answers ms h (cs .each ms h) st (c .state) hb (c .holds));
-        }
-
-  pub take-refused : {w : Why} {p : ℕ} → r ≡ AtRefusal w p → (o : List ℕ) → Takes tb tb b b budget t o o (Refused w p)
-  unfolding answered refusal laidOut outputOf
-  take-refused {w} {p} e o =
+  pub reply-done : {k p : ℕ} {o : Bool} → r ≡ Done k o p → {b′ o₁ o′ : List ℕ} {a : Fed} → GoesOut b′ o₁ o′ z (take k tx) o p a → Replies tb tb count b b′ o₁ o′ z tx r a
+  unfolding answered
+  reply-done {k} {p} {o} e {b′} {o₁} {o′} {a} g =
       record {
-        answers = λ ms h st hb.
-            let c : Comes (lineOf ms st budget t) z′ tx′ (AtRefusal w p) = subst (Comes (lineOf ms st budget t) z′ tx′) e (ran ms h st hb) in
-            let q : answer ms st (lineOf ms st budget t) ≡ refusal ms st p (ofWork (c .0)) = answer-as ms st (lineOf ms st budget t) (c .2 .count) (c .2 .ends) in
-            subst (λ (j : Answer). Answers j tb b o o (Refused w p)) (sym (q ∙ ap (refusal ms st p) (sym (c .1))))
+        answers = λ ms h l old hb whole c₀.
+            let c : Comes whole z tx (Done k o p) = subst (Comes whole z tx) e c₀ in
+            let q : answer ms old whole ≡ answered ms old p o (done (take k tx) (c .state)) =
+            answer-as ms old whole (c .count) (c .ends) ∙ ap (λ (j : Bool). answered ms old p j (done (take k tx) (c .state))) (c .occurs) in
+            subst (λ (j : Answer). Answers j tb b′ o₁ o′ a) (sym q)
+            (record {
+              kind = g .kind (c .state) (c .holds);
+              passes = sym (g .passes);
+              size = g .size (c .state) (c .holds);
+              table = h;
+              state = subst (λ (j : List ℕ). Holds j (c .state)) (sym (g .state)) (c .holds);
+              output = g .output (c .state) (c .holds);
+            });
+      }
+
+  pub reply-ruled : {k p : ℕ} → r ≡ AtControl k p → {tb′ b′ o₁ o′ : List ℕ} {a : Fed} → Rules tb tb′ count b b′ o₁ o′ z (take k tx) p a → Replies tb tb′ count b b′ o₁ o′ z tx r a
+  unfolding answered
+  reply-ruled {k} {p} e {tb′} {b′} {o₁} {o′} {a} g =
+      record {
+        answers = λ ms h l old hb whole c₀.
+            let c : Comes whole z tx (AtControl k p) = subst (Comes whole z tx) e c₀ in
+            let q : answer ms old whole ≡ ofOrder ms old p (orderOf ms (c .state) (take k tx)) = answer-as ms old whole (c .count) (c .ends) in
+            subst (λ (j : Answer). Answers j tb′ b′ o₁ o′ a) (sym q) (g .answers ms h l old (c .state) hb (c .holds));
+      }
+
+  pub reply-refused : {w : WorkWhy} {p : ℕ} → r ≡ AtRefusal w p → {v : Why} → v ≡ workWhy w → (o : List ℕ) → Replies tb tb count b b o o z tx r (Refused v p)
+  unfolding answered refusal laidOut outputOf
+  reply-refused {w} {p} e {v} g o =
+      let i : ofWork (workRefusal w) ≡ refusalOf v = sym (why-work w) ∙ ap refusalOf (sym g) in
+      record {
+        answers = λ ms h l old hb whole c₀.
+            let c : Comes whole z tx (AtRefusal w p) = subst (Comes whole z tx) e c₀ in
+            let q : answer ms old whole ≡ refusal ms old p (ofWork (workRefusal w)) = answer-as ms old whole (c .count) (c .ends) in
+            subst (λ (j : Answer). Answers j tb b o o (Refused v p)) (sym (q ∙ ap (refusal ms old p) i))
             (record { kind = refl; passes = refl; size = refl; table = h; state = hb; output = refl });
       }
+
+-- FROM ITS START
+
+module _ {tb b o t : List ℕ} {count : ℕ} (y : Lent tb b o) (f : Fits t) (cs : Counts tb count) where
+  counted : Counted tb count
+  counted = record { macros = y .table .0; isTable = y .table .1; counted = cs .each (y .table .0) (y .table .1) }
+
+  pub started : Started tb count b t (replicate 26236 0) (replicate 1054 0)
+  started =
+      record { table = counted; state = y .state; short = f .short; bytes = f .bytes; after = length-replicate {A = ℕ} 26236 0; text = length-replicate {A = ℕ} 1054 0 }
+
+  module _ {budget : ℕ} {z tx : List ℕ} {r : Ended} (x : Runs tb count b t budget z tx r) where
+    pub replying : length tx ≡ 1054 → Replying tb count b o z tx r
+    replying l = record { table = counted; state = state-length (y .state); output = y .room; text = l; left = x .left }
+
+    pub taken : {tb′ b′ o′ : List ℕ} {a : Fed} → Replies tb tb′ count b b′ o o′ z tx r a → Takes tb tb′ b b′ budget t o o′ a
+    taken g = record { answers = λ ms h st hb. g .answers ms h (cs .each ms h) st hb (lineOf ms st budget t) (x .comes ms h (cs .each ms h) st hb) }
 
 -- FEEDING
 
@@ -270,45 +288,3 @@ module _ (tb b o : List ℕ) (budget : ℕ) (t : List ℕ) where
       feeds-taken x {tb′} {b′} {o′} {a} g ms k st hb =
           let q : fed ms st budget t ≡ answer ms st (lineOf ms st budget t) = rw (fed, le-leb budget mostBudget h, le-leb (length t) mostLineBytes l, x) refl in
           subst (λ (j : Answer). Answers j tb′ b′ o o′ a) (sym q) (g .answers ms k st hb)
-
--- FROM THE START
-
-pub ready-start : {tb kn b tx : List ℕ} {count n : ℕ} → Started tb count b tx n → kn ≡ kindTable → (budget : ℕ)
-    → Ready tb kn b tx (replicate 1054 0) (replicate 67056 0) (replicate 96 0) count budget (record { size = n; occurred = false; due = count; begun = 0 })
-ready-start y e budget =
-    record {
-      table = y .table;
-      kinds = e;
-      state = y .state;
-      bytes = y .bytes;
-      text = y .text;
-      new = length-replicate {A = ℕ} 1054 0;
-      marks = refl;
-      flags = length-replicate {A = ℕ} 96 0;
-      size = y .size;
-      due = omega arith;
-      begun = omega arith;
-    }
-
-stands-start : (ms : Table) (st : State) (budget : ℕ) (b tx : List ℕ) (n count : ℕ) → Holds b st → length ms ≡ count
-    → Stands (lineOf ms st budget (take n tx)) ms budget b tx (replicate 96 0) (record { size = n; occurred = false; due = count; begun = 0 })
-unfolding lineOf
-stands-start ms st budget b tx n count h l =
-    let e : budget - 0 ≡ budget = omega arith in
-    record { state = st; closed = []; holds = h; closes = none-closed; rest = rw (e, due-all [] ms count l) (after-none (passes ms budget [] (newestFirst [] ms) st (take n tx))) }
-
-pub runs-start : {tb b b′ tx tx′ : List ℕ} {count n budget : ℕ} {r : Ended} → Ends tb b b′ tx tx′ (replicate 96 0) count budget (record { size = n; occurred = false; due = count; begun = 0 }) r
-    → Runs tb count b b′ tx tx′ n budget r
-runs-start {tb} {b} {b′} {tx} {tx′} {count} {n} {budget} x =
-    record { comes = λ ms h l st hb. x .comes (lineOf ms st budget (take n tx)) ms h l (stands-start ms st budget b tx n count hb l); left = x .left }
-
--- a line copied behind which all is zero
-pub text-started : (s d tx : List ℕ) (n : ℕ) → tx ≡ s ++ drop (length s) d → n ≡ length s → take n tx ≡ s
-text-started s d tx n e l = copied-front d s tx n (sym l) e
-
-pub started : {tb b z : List ℕ} {count : ℕ} (s d tx : List ℕ) → Counted tb count → IsState b → z ≡ b → Fits s → tx ≡ s ++ drop (length s) d → length tx ≡ mostLineBytes → Started tb count z tx (length s)
-started s d tx c i e f g l =
-    record { table = c; state = subst IsState (sym e) i; text = l; size = f .short; bytes = subst Bytes (sym (text-started s d tx (length s) g refl)) (f .bytes) }
-
-pub counted : {tb : List ℕ} {count : ℕ} → ((ms : Table) × IsTable tb ms) → Counts tb count → Counted tb count
-counted t c = record { macros = t .0; isTable = t .1; counted = c .each (t .0) (t .1) }

@@ -3,20 +3,27 @@ use Prim.Native.Nat.{ℕ, zero, suc, _≤_}
 use mathlib.Core.Path.{_≡_}
 use mathlib.Core.Bool.{Bool, true, false}
 use mathlib.Core.List.{List}
-use lib.ListN.{length, take}
+use lib.ListN.{length}
 use Rattle.macros.specs.Bounds.{mostLineBytes}
 use Rattle.macros.specs.Macro.{Table}
 use Rattle.macros.specs.Formed.{Bytes}
 use Rattle.lines.specs.State.{State}
-use Rattle.lines.specs.Line.{lineOf}
+use Rattle.lines.specs.Line.{Line, lineOf}
 use Rattle.lines.specs.Feeding.{orderOf, outputOf, kindOfDone, ofOrder, answer, hasBadByte}
 use Rattle.states.specs.Form.{stateBytes}
 use Rattle.states.specs.Access.{Holds, IsState}
-use Rattle.feeding.specs.Contract.{IsTable, kindOf, passesOf, sizeOf, laidOut, Answers}
-use Rattle.feeding.specs.Passing.{Counted, Comes, Left}
-use Rattle.feeding.specs.declared.Order.{Order}
-use Rattle.feeding.specs.declared.Order.the-variants.{Taken, Wrong}
-use Rattle.feeding.specs.declared.Ended.{Ended}
+use Rattle.memories.specs.Memory.{IsTable, Counted}
+use Rattle.controls.specs.declared.Order.{Order}
+use Rattle.controls.specs.declared.Order.the-variants.{Taken, Wrong}
+use Rattle.controls.specs.declared.Why.{Why as ControlWhy}
+use Rattle.controls.specs.declared.Why.the-variants.{BadControl, InMacro}
+use Rattle.running.specs.Contract.{Comes, Left}
+use Rattle.running.specs.declared.Ended.{Ended}
+use Rattle.running.specs.declared.Why.{Why as WorkWhy}
+use Rattle.running.specs.declared.Why.the-variants.{BudgetUsedUp, AtWork}
+use Rattle.feeding.specs.Contract.{kindOf, passesOf, sizeOf, laidOut, Answers}
+use Rattle.feeding.specs.declared.Why.{Why}
+use Rattle.feeding.specs.declared.Why.the-variants.{BadControl as NoControl, InMacro as NoMacro, BudgetUsedUp as UsedUp, AtWork as Stopped}
 use Rattle.feeding.specs.declared.Fed.{Fed}
 
 -- a line that 21 and 22 do not refuse
@@ -29,18 +36,26 @@ pub record Tested (t : List ℕ) (r : Bool) : Type 0 where
   pub says : r ≡ hasBadByte t
   pub bytes : r ≡ false → Bytes t
 
--- a line before its passes: the first n bytes of the text
-pub record Started (tb : List ℕ) (count : ℕ) (b tx : List ℕ) (n : ℕ) : Type 0 where
-  pub table : Counted tb count
-  pub state : IsState b
-  pub text : length tx ≡ mostLineBytes
-  pub size : n ≤ mostLineBytes
-  pub bytes : Bytes (take n tx)
+-- the form of some accepted table
+abbrev pub SomeTable : List ℕ → Type 0
+SomeTable table = (ms : Table) × IsTable table ms
 
--- and after them
-pub record Runs (table : List ℕ) (count : ℕ) (b b′ text text′ : List ℕ) (n budget : ℕ) (r : Ended) : Type 0 where
-  pub comes : (ms : Table) → IsTable table ms → length ms ≡ count → (st : State) → Holds b st → Comes (lineOf ms st budget (take n text)) b′ text′ r
-  pub left : Left b′ text′ r
+-- the number of macros, of every table with this form
+pub record Counts (table : List ℕ) (count : ℕ) : Type 0 where
+  pub each : (ms : Table) → IsTable table ms → length ms ≡ count
+
+-- WHY
+
+-- the reason of a control line, and of a table at work
+abbrev pub controlWhy : ControlWhy → Why
+controlWhy BadControl = NoControl
+controlWhy (InMacro f p) = NoMacro f p
+
+abbrev pub workWhy : WorkWhy → Why
+workWhy BudgetUsedUp = UsedUp
+workWhy (AtWork f) = Stopped f
+
+-- THE END OF A LINE
 
 -- "withheld if NFLAG is 1 and it had no occurrence"
 unfoldable pub withheldBy : ℕ → Bool → Bool
@@ -76,6 +91,19 @@ pub record Ruling (tb : List ℕ) (count : ℕ) (b o z t : List ℕ) : Type 0 wh
 pub record Rules (tb tb′ : List ℕ) (count : ℕ) (b b′ o o′ z t : List ℕ) (p : ℕ) (r : Fed) : Type 0 where
   pub answers : (ms : Table) → IsTable tb ms → length ms ≡ count → (old st : State) → Holds b old → Holds z st
       → Answers (ofOrder ms old p (orderOf ms st t)) tb′ b′ o o′ r
+
+-- what is lent when the passes are over: z is the state, and tx holds the line
+pub record Replying (tb : List ℕ) (count : ℕ) (b o z tx : List ℕ) (e : Ended) : Type 0 where
+  pub table : Counted tb count
+  pub state : length b ≡ stateBytes
+  pub output : length o ≡ mostLineBytes
+  pub text : length tx ≡ mostLineBytes
+  pub left : Left z tx e
+
+-- the answer of every line that ends so
+pub record Replies (tb tb′ : List ℕ) (count : ℕ) (b b′ o o′ z tx : List ℕ) (e : Ended) (r : Fed) : Type 0 where
+  pub answers : (ms : Table) → IsTable tb ms → length ms ≡ count → (old : State) → Holds b old → (whole : Line) → Comes whole z tx e
+      → Answers (answer ms old whole) tb′ b′ o o′ r
 
 -- a line that is fed and not refused before its passes
 pub record Takes (tb tb′ b b′ : List ℕ) (budget : ℕ) (t o o′ : List ℕ) (r : Fed) : Type 0 where

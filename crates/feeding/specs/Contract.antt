@@ -10,8 +10,6 @@ use Rattle.macros.specs.Refusals.HostRefusal.{budgetTooLarge}
 use Rattle.macros.specs.Refusals.LineRefusal.{lineTooLong, badByte, badControl}
 use Rattle.macros.specs.Refusals.WorkRefusal.{budgetUsedUp}
 use Rattle.macros.specs.Macro.{Table}
-use Rattle.macros.specs.Accepted.{Accepted}
-use Rattle.tables.specs.Form.{form}
 use Rattle.lines.specs.State.{State}
 use Rattle.lines.specs.Feeding.{Kind, Answer, outputOf}
 use Rattle.lines.specs.Feeding.{feed as fed}
@@ -19,15 +17,11 @@ use Rattle.lines.specs.Feeding.Kind.{refusedWith, out, withheld, controlled}
 use Rattle.states.specs.Access.{Holds, IsState}
 use Rattle.scanning.specs.Scan.{faultOf}
 use Rattle.replacing.specs.Contract.{refusalOf as workOf}
+use Rattle.memories.specs.Memory.{IsTable}
 use Rattle.feeding.specs.declared.Why.{Why}
 use Rattle.feeding.specs.declared.Why.the-variants.{BudgetTooLarge, LineTooLong, BadByte, BadControl, InMacro, BudgetUsedUp, AtWork}
 use Rattle.feeding.specs.declared.Fed.{Fed}
 use Rattle.feeding.specs.declared.Fed.the-variants.{Out, Withheld, Control, Refused}
-
--- the bytes are the form of the accepted table ms
-pub record IsTable (table : List ℕ) (ms : Table) : Type 0 where
-  pub accepted : Accepted ms
-  pub form : form ms ≡ table
 
 -- what the caller lends: a table, a state and room for the output
 pub record Lent (t b o : List ℕ) : Type 0 where

@@ -1,4 +1,2 @@
 pub mod Contract
-pub mod Passing
-pub mod Ordering
 pub mod Answering

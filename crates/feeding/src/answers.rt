@@ -1,56 +1,43 @@
 // A line's answer, and what is kept of it (01, part 6).
-use crate::Ended;
 use crate::Fed;
-use crate::Order;
-use crate::Stand;
-use crate::control::control;
-use crate::memory::clear;
-use crate::memory::copy_over;
-use crate::memory::lay_out;
-use crate::passes::all_passes;
+use crate::Why;
 use crate::slots::count_macros;
-use kinds::kind_table;
+use controls::Order;
+use controls::Why as ControlWhy;
+use controls::control;
+use memories::lay_out;
+use running::Ended;
+use running::Why as WorkWhy;
+use running::run_line;
 use states::nflag;
 ghost use mathlib.Core.Path.{_≡_};
 ghost use lib.ListN.{length};
 ghost use Rattle.feeding.specs.Contract.{Lent};
-ghost use Rattle.feeding.specs.Answering.{Started, Runs, withheldBy, Finished, GoesOut, keptBy, Ruling, Rules, Fits, Takes};
+ghost use Rattle.feeding.specs.Answering.{controlWhy, workWhy, withheldBy, Finished, GoesOut, keptBy, Ruling, Rules, Replying, Replies, Fits, Takes};
 
-// The passes of a line from its start, in memories of their own.
-fn run_line(
-    table: &[u8],
-    count: usize,
-    state: &mut [u8],
-    text: &mut [u8],
-    size: usize,
-    budget: usize,
-) -> Ended
-    requires { ⌜ Started (now table) count (now state) (now text) size ⌝ }
-    ensures { λ r. ⌜ Runs (now (table .entry)) count (now (state .entry)) (now (state .exit)) (now (text .entry)) (now (text .exit)) size budget r ⌝ }
+// WHY
+
+// 23, or a fault in a control line's macro.
+fn why_control(w: ControlWhy) -> Why
+    ensures { λ r. ⌜ r ≡ controlWhy w ⌝ }
 {
-    let kinds = kind_table();
-    let mut new = [0u8; 1054];
-    let mut marks = [0u8; 67056];
-    let mut closed = [0u8; 96];
-    let start = Stand {
-        size: size,
-        occurred: false,
-        due: count,
-        begun: 0,
-    };
-    all_passes(
-        table,
-        count,
-        &kinds,
-        state,
-        text,
-        &mut new,
-        &mut marks,
-        &mut closed,
-        budget,
-        start,
-    )
+    match w {
+        ControlWhy::BadControl => Why::BadControl,
+        ControlWhy::InMacro(f, p) => Why::InMacro(f, p),
+    }
 }
+
+// 31 to 35.
+fn why_work(w: WorkWhy) -> Why
+    ensures { λ r. ⌜ r ≡ workWhy w ⌝ }
+{
+    match w {
+        WorkWhy::BudgetUsedUp => Why::BudgetUsedUp,
+        WorkWhy::AtWork(f) => Why::AtWork(f),
+    }
+}
+
+// THE END OF A LINE
 
 // Whether a line without a refusal is withheld: "if NFLAG is 1 and it had no occurrence".
 fn withholds(flag: u8, occurred: bool) -> bool
@@ -74,9 +61,9 @@ fn done(
     requires { ⌜ Finished (now state) (now output) (now after) (now line) ⌝ }
     ensures { λ r. ⌜ GoesOut (now (state .exit)) (now (output .entry)) (now (output .exit)) (now (after .entry)) (now (line .entry)) occurred begun r ⌝ }
 {
-    copy_over(state, after);
+    lay_out(state, after);
     if withholds(nflag(after), occurred) {
-        clear(output, 0);
+        lay_out(output, &line[..0]);
         return Fed::Withheld(begun);
     }
     lay_out(output, line);
@@ -91,7 +78,7 @@ fn keep(state: &mut [u8], after: &[u8], order: Order)
     let Order::Taken = order else {
         return;
     };
-    copy_over(state, after);
+    lay_out(state, after);
 }
 
 // A control line: the table and the state after it, and no output.
@@ -110,10 +97,36 @@ fn ruled(
     let order = control(table, count, after, line);
     keep(state, after, order);
     let Order::Wrong(w) = order else {
-        clear(output, 0);
+        lay_out(output, &line[..0]);
         return Fed::Control(begun);
     };
-    Fed::Refused(w, begun)
+    Fed::Refused(why_control(w), begun)
+}
+
+// The answer to a line whose passes are over: `after` is the state and `text` holds the line then.
+fn reply(
+    table: &mut [u8],
+    count: usize,
+    state: &mut [u8],
+    output: &mut [u8],
+    after: &mut [u8],
+    text: &[u8],
+    ended: Ended,
+) -> Fed
+    requires { ⌜ Replying (now table) count (now state) (now output) (now after) (now text) ended ⌝ }
+    ensures { λ r. ⌜ Replies (now (table .entry)) (now (table .exit)) count (now (state .entry)) (now (state .exit)) (now (output .entry)) (now (output .exit)) (now (after .entry)) (now (text .entry)) ended r ⌝ }
+{
+    match ended {
+        Ended::Done(n, occurred, begun) => {
+            return done(state, output, after, &text[..n], occurred, begun);
+        }
+        Ended::Control(n, begun) => {
+            return ruled(table, count, state, output, after, &text[..n], begun);
+        }
+        Ended::Refused(w, begun) => {
+            return Fed::Refused(why_work(w), begun);
+        }
+    }
 }
 
 // A line that 4, 21 and 22 do not refuse.
@@ -128,20 +141,8 @@ pub(crate) fn take_line(
     ensures { λ r. ⌜ Takes (now (table .entry)) (now (table .exit)) (now (state .entry)) (now (state .exit)) budget (now (line .entry)) (now (output .entry)) (now (output .exit)) r ⌝ }
 {
     let mut after = [0u8; 26236];
-    copy_over(&mut after, state);
     let mut text = [0u8; 1054];
-    copy_over(&mut text, line);
     let count = count_macros(table);
-    let ended = run_line(table, count, &mut after, &mut text, line.len(), budget);
-    match ended {
-        Ended::Done(n, occurred, begun) => {
-            return done(state, output, &after, &text[..n], occurred, begun);
-        }
-        Ended::Control(n, begun) => {
-            return ruled(table, count, state, output, &mut after, &text[..n], begun);
-        }
-        Ended::Refused(w, begun) => {
-            return Fed::Refused(w, begun);
-        }
-    }
+    let ended = run_line(table, count, state, line, budget, &mut after, &mut text);
+    reply(table, count, state, output, &mut after, &text, ended)
 }

@@ -1,8 +1,5 @@
-// Feeding a line (01, part 6): its passes, control lines, and the answer.
+// Feeding a line (01, part 6): its passes, its control line, and the answer.
 mod answers;
-mod control;
-mod memory;
-mod passes;
 mod slots;
 
 use answers::take_line;
@@ -28,33 +25,6 @@ pub enum Fed {
     Withheld(usize),
     Control(usize),
     Refused(Why, usize),
-}
-
-// Where a line stands, before a pass or at its end: its length, whether it had an occurrence, how many of the oldest macros may be due, and the passes begun.
-pub(crate) struct Stand {
-    pub(crate) size: usize,
-    pub(crate) occurred: bool,
-    pub(crate) due: usize,
-    pub(crate) begun: usize,
-}
-
-// How a line ends: done, with its length and whether it had an occurrence; a control line, with its length; or refused. Last the passes begun.
-pub(crate) enum Ended {
-    Done(usize, bool, usize),
-    Control(usize, usize),
-    Refused(Why, usize),
-}
-
-// After a pass, or instead of it.
-pub(crate) enum Next {
-    On(Stand),
-    Over(Ended),
-}
-
-// What a control line comes to.
-pub(crate) enum Order {
-    Taken,
-    Wrong(Why),
 }
 
 // 22: "holds byte 0 or line feed".

@@ -1,19 +1,19 @@
 -- What feeding a line says, taken to the result of m7_feed.
-use Prim.Native.Nat.{ℕ, _≤_}
+use Prim.Native.Nat.{ℕ, _≤_, _<_}
 use mathlib.Core.Path.{_≡_, refl, sym, ap, subst, _∙_}
 use mathlib.Core.Bool.{Bool, true, false, _&&_}
 use mathlib.Core.List.{List, []}
 use native.Mathlib.Omega.{arith}
-use borrow.Author.Tests.{eq-eqb, ne-eqb}
+use borrow.Author.Tests.{eq-eqb, ne-eqb, eqb-true}
 use lib.Dec.{eqb}
 use lib.ListN.{length}
 use Rattle.macros.specs.Bounds.{mostFileBytes, mostLineBytes}
 use Rattle.macros.specs.Refusals.{number, place, hostNumber, fileNumber, workNumber}
-use Rattle.macros.specs.Macro.{Table}
+use Rattle.macros.specs.Macro.{Table, pick}
 use Rattle.macros.specs.Formed.{Octets}
 use Rattle.tables.specs.Form.{tableBytes}
 use Rattle.tables.specs.Check.{checks}
-use Rattle.tables.proofs.Basics.{clash, and-both}
+use Rattle.tables.proofs.Basics.{clash, and-right}
 use Rattle.tables.proofs.Tables.{checkExact}
 use Rattle.lines.specs.Feeding.{Kind, numberOf, placeOf, kindNumber, feed}
 use Rattle.lines.specs.Feeding.{Answer as Answered}
@@ -27,7 +27,8 @@ use Rattle.scanning.specs.Scan.{faultOf}
 use Rattle.scanning.specs.declared.Fault.{Fault}
 use Rattle.replacing.specs.Contract.{refusalOf as workOf}
 use Rattle.replacing.specs.declared.Fault.{Fault as WorkFault}
-use Rattle.feeding.specs.Contract.{IsTable, Lent, refusalOf, kindOf, passesOf, sizeOf, laidOut, Answers}
+use Rattle.memories.specs.Memory.{IsTable}
+use Rattle.feeding.specs.Contract.{Lent, refusalOf, kindOf, passesOf, sizeOf, laidOut, Answers}
 use Rattle.feeding.specs.Contract.{Feeds as FeedsLine}
 use Rattle.feeding.specs.declared.Why.{Why}
 use Rattle.feeding.specs.declared.Why.the-variants.{InMacro, AtWork}
@@ -36,7 +37,7 @@ use Rattle.feeding.specs.declared.Fed.the-variants.{Out, Withheld, Control, Ref
 use Rattle.m7.specs.declared.Answer.{Answer}
 use Rattle.m7.specs.Contract.{reply}
 use Rattle.m7.specs.Feeding.{Call, answerOf, outputWith, sizedToFeed, Feeds}
-use Rattle.m7.specs.Answering.{lineReply, told, Small}
+use Rattle.m7.specs.Answering.{hostRefusal, lineReply, told, Small}
 use Rattle.m7.proofs.FeedBounds.{feed-place, feed-passes}
 
 -- THE ANSWER IN NUMBERS
@@ -121,82 +122,123 @@ module _ (l : List ℕ) (n : ℕ) (t b o : List ℕ) where
         fed = λ y ms f st h. clash y z;
       }
 
-  pub other-table : {a : Answer} → (length t ≡ tableBytes → ⊥) → a ≡ reply 3 0 0 → Feeds (called t b o a)
-  other-table f = let e : eqb (length t) tableBytes ≡ false = ne-eqb _ _ f in other (rw e)
+  module _ (all-sized : sizes ≡ true) (ot : Octets t) where
+    -- 1
+    no-table : {a : Answer} → checks t ≡ false → a ≡ reply 1 0 0 → Feeds (called t b o a)
+    unfolding sizedToFeed reply number hostNumber
+    no-table z e =
+        record {
+          otherSize = λ y. clash all-sized y;
+          noTable = λ y no. record { answer = e; table = refl; state = refl; output = refl };
+          noState = λ y ms f no. clash (checkExact t ot .1 (ms, f .accepted, f .bytes)) z;
+          fed = λ y ms f st s. clash (checkExact t ot .1 (ms, f .accepted, f .bytes)) z;
+        }
 
-  module _ (g : length t ≡ tableBytes) where
-    pub other-state : {a : Answer} → (length b ≡ stateBytes → ⊥) → a ≡ reply 3 0 0 → Feeds (called t b o a)
-    other-state f = let e : eqb (length b) stateBytes ≡ false = ne-eqb _ _ f in let d : eqb (length t) tableBytes ≡ true = eq-eqb _ _ g in other (rw (d, e))
+    module _ (z : checks t ≡ true) (ob : Octets b) where
+      some-table : (ms : Table) × IsTable t ms
+      some-table = let s = checkExact t ot .0 z in (s .0, record { accepted = s .1; form = s .2 })
 
-    module _ (h : length b ≡ stateBytes) where
-      pub other-output : {a : Answer} → (length o ≡ mostLineBytes → ⊥) → a ≡ reply 3 0 0 → Feeds (called t b o a)
-      other-output f =
-          let e : eqb (length o) mostLineBytes ≡ false = ne-eqb _ _ f in
-          let d : eqb (length t) tableBytes ≡ true = eq-eqb _ _ g in
-          let c : eqb (length b) stateBytes ≡ true = eq-eqb _ _ h in
-          other (rw (d, c, e))
+      -- 2
+      no-state : {a : Answer} → stateChecks b ≡ false → a ≡ reply 2 0 0 → Feeds (called t b o a)
+      unfolding sizedToFeed reply number hostNumber
+      no-state v e =
+          record {
+            otherSize = λ y. clash all-sized y;
+            noTable = λ y no. let s = some-table in absurd (no (s .0) (record { accepted = s .1 .accepted; bytes = s .1 .form }));
+            noState = λ y ms f no. record { answer = e; table = refl; state = refl; output = refl };
+            fed = λ y ms f st s. clash (state-check-exact b ob .1 (st, s .inRange, s .form)) v;
+          }
 
-      module _ (k : length o ≡ mostLineBytes) (ot : Octets t) where
-        all-sized : sizes ≡ true
-        all-sized = and-both (eq-eqb _ _ g) (and-both (eq-eqb _ _ h) (eq-eqb _ _ k))
+      module _ (v : stateChecks b ≡ true) where
+        room : length o ≡ mostLineBytes
+        room = eqb-true _ _ (and-right (eqb (length b) stateBytes) _ (and-right (eqb (length t) tableBytes) _ all-sized))
 
-        -- 1
-        pub no-table : {a : Answer} → checks t ≡ false → a ≡ reply 1 0 0 → Feeds (called t b o a)
-        unfolding sizedToFeed reply number hostNumber
-        no-table z e =
-            record {
-              otherSize = λ y. clash all-sized y;
-              noTable = λ y no. record { answer = e; table = refl; state = refl; output = refl };
-              noState = λ y ms f no. clash (checkExact t ot .1 (ms, f .accepted, f .bytes)) z;
-              fed = λ y ms f st s. clash (checkExact t ot .1 (ms, f .accepted, f .bytes)) z;
-            }
+        pub lent : Lent t b o
+        lent = record { table = some-table; state = passed-is b ob v; room = room }
 
-        module _ (z : checks t ≡ true) (ob : Octets b) where
-          some-table : (ms : Table) × IsTable t ms
-          some-table = let s = checkExact t ot .0 z in (s .0, record { accepted = s .1; form = s .2 })
+        module _ {t′ b′ o′ : List ℕ} {r : Fed} (w : FeedsLine t t′ b b′ n l o o′ r) where
+          pub is-small : Octets l → Small r
+          is-small ol =
+              let s = some-table in
+              let u = passed-is b ob v in
+              let d = w (s .0) (s .1) (u .0) (u .1) in
+              let keeps = feed-keeps (s .0) (u .0) n l (s .1 .accepted) (u .1 .inRange) ol in
+              let p : placeOf (kindOf r []) ≡ placeOf (feed (s .0) (u .0) n l .kind) = place-any r o′ ∙ ap placeOf (sym (d .kind)) in
+              record {
+                place = omega (arith, p, feed-place (s .0) (u .0) n l);
+                passes = omega (arith, d .passes, feed-passes (s .0) (u .0) n l (s .1 .accepted) (u .1 .inRange) ol);
+                size = omega (arith, d .size, keeps .fits);
+              }
 
-          -- 2
-          pub no-state : {a : Answer} → stateChecks b ≡ false → a ≡ reply 2 0 0 → Feeds (called t b o a)
-          unfolding sizedToFeed reply number hostNumber
-          no-state v e =
+          pub is-fed : {a : Answer} → a ≡ told r → Feeds (called t′ b′ o′ a)
+          unfolding sizedToFeed
+          is-fed e =
               record {
                 otherSize = λ y. clash all-sized y;
                 noTable = λ y no. let s = some-table in absurd (no (s .0) (record { accepted = s .1 .accepted; bytes = s .1 .form }));
-                noState = λ y ms f no. record { answer = e; table = refl; state = refl; output = refl };
-                fed = λ y ms f st s. clash (state-check-exact b ob .1 (st, s .inRange, s .form)) v;
+                noState = λ y ms f no. let u = passed-is b ob v in absurd (no (u .0) (u .1));
+                fed = λ y ms f st s.
+                    let d = w ms (record { accepted = f .accepted; form = f .bytes }) st s in
+                    record {
+                      answers = e ∙ told-is d;
+                      tableHolds = record { accepted = d .table .accepted; bytes = d .table .form };
+                      stateHolds = d .state;
+                      outputHolds = d .output ∙ laid (feed ms st n l .kind) o;
+                    };
               }
 
-          module _ (v : stateChecks b ≡ true) where
-            pub lent : Lent t b o
-            lent = record { table = some-table; state = passed-is b ob v; room = k }
+  -- which refusal is due
+  module _ {r : ℕ} (e : r ≡ hostRefusal t b o) where
+    pub refused-first : Octets t → Octets b → 0 < r → {a : Answer} → a ≡ reply r 0 0 → Feeds (called t b o a)
+    unfolding hostRefusal pick
+    refused-first ot ob h {a} f = by sizes refl (checks t) refl (stateChecks b) refl
+      where
+        told₂ : (k : ℕ) → r ≡ k → a ≡ reply k 0 0
+        told₂ k q = f ∙ ap (λ (x : ℕ). reply x 0 0) q
 
-            module _ {t′ b′ o′ : List ℕ} {r : Fed} (w : FeedsLine t t′ b b′ n l o o′ r) where
-              pub is-small : Octets l → Small r
-              is-small ol =
-                  let s = some-table in
-                  let u = passed-is b ob v in
-                  let d = w (s .0) (s .1) (u .0) (u .1) in
-                  let keeps = feed-keeps (s .0) (u .0) n l (s .1 .accepted) (u .1 .inRange) ol in
-                  let p : placeOf (kindOf r []) ≡ placeOf (feed (s .0) (u .0) n l .kind) = place-any r o′ ∙ ap placeOf (sym (d .kind)) in
-                  record {
-                    place = omega (arith, p, feed-place (s .0) (u .0) n l);
-                    passes = omega (arith, d .passes, feed-passes (s .0) (u .0) n l (s .1 .accepted) (u .1 .inRange) ol);
-                    size = omega (arith, d .size, keeps .fits);
-                  }
+        by : (x : Bool) → sizes ≡ x → (y : Bool) → checks t ≡ y → (z : Bool) → stateChecks b ≡ z → Feeds (called t b o a)
+        by false p y q z s = other p (told₂ 3 (e ∙ rw p refl))
+        by true p false q z s = no-table p ot q (told₂ 1 (e ∙ rw (p, q) refl))
+        by true p true q false s = no-state p ot q ob s (told₂ 2 (e ∙ rw (p, q, s) refl))
+        by true p true q true s = absurd (let w : r ≡ 0 = e ∙ rw (p, q, s) refl in omega arith)
 
-              pub is-fed : {a : Answer} → a ≡ told r → Feeds (called t′ b′ o′ a)
-              unfolding sizedToFeed
-              is-fed e =
-                  record {
-                    otherSize = λ y. clash all-sized y;
-                    noTable = λ y no. let s = some-table in absurd (no (s .0) (record { accepted = s .1 .accepted; bytes = s .1 .form }));
-                    noState = λ y ms f no. let u = passed-is b ob v in absurd (no (u .0) (u .1));
-                    fed = λ y ms f st s.
-                        let d = w ms (record { accepted = f .accepted; form = f .bytes }) st s in
-                        record {
-                          answers = e ∙ told-is d;
-                          tableHolds = record { accepted = d .table .accepted; bytes = d .table .form };
-                          stateHolds = d .state;
-                          outputHolds = d .output ∙ laid (feed ms st n l .kind) o;
-                        };
-                  }
+    pub none-first : r < 1 → (sizes ≡ true) × (checks t ≡ true) × (stateChecks b ≡ true)
+    unfolding hostRefusal pick
+    none-first h = by sizes refl (checks t) refl (stateChecks b) refl
+      where
+        by : (x : Bool) → sizes ≡ x → (y : Bool) → checks t ≡ y → (z : Bool) → stateChecks b ≡ z → (sizes ≡ true) × (checks t ≡ true) × (stateChecks b ≡ true)
+        by false p y q z s = absurd (let w : r ≡ 3 = e ∙ rw p refl in omega arith)
+        by true p false q z s = absurd (let w : r ≡ 1 = e ∙ rw (p, q) refl in omega arith)
+        by true p true q false s = absurd (let w : r ≡ 2 = e ∙ rw (p, q, s) refl in omega arith)
+        by true p true q true s = (p, q, s)
+
+-- THE REFUSALS BEFORE A LINE
+
+module _ (t b o : List ℕ) where
+  pub due-table : (length t ≡ tableBytes → ⊥) → 3 ≡ hostRefusal t b o
+  unfolding hostRefusal pick
+  due-table f = rw (ne-eqb _ _ f) refl
+
+  module _ (g : length t ≡ tableBytes) where
+    pub due-state : (length b ≡ stateBytes → ⊥) → 3 ≡ hostRefusal t b o
+    unfolding hostRefusal pick
+    due-state f = rw (eq-eqb _ _ g, ne-eqb _ _ f) refl
+
+    module _ (h : length b ≡ stateBytes) where
+      pub due-output : (length o ≡ mostLineBytes → ⊥) → 3 ≡ hostRefusal t b o
+      unfolding hostRefusal pick
+      due-output f = rw (eq-eqb _ _ g, eq-eqb _ _ h, ne-eqb _ _ f) refl
+
+      module _ (k : length o ≡ mostLineBytes) where
+        pub due-none : {y : Bool} → y ≡ checks t → y ≡ false → 1 ≡ hostRefusal t b o
+        unfolding hostRefusal pick
+        due-none e f = rw (eq-eqb _ _ g, eq-eqb _ _ h, eq-eqb _ _ k, sym e ∙ f) refl
+
+        module _ {y : Bool} (e : y ≡ checks t) (f : y ≡ true) where
+          pub due-other : {z : Bool} → z ≡ stateChecks b → z ≡ false → 2 ≡ hostRefusal t b o
+          unfolding hostRefusal pick
+          due-other i j = rw (eq-eqb _ _ g, eq-eqb _ _ h, eq-eqb _ _ k, sym e ∙ f, sym i ∙ j) refl
+
+          pub due-nothing : {z : Bool} → z ≡ stateChecks b → z ≡ true → 0 ≡ hostRefusal t b o
+          unfolding hostRefusal pick
+          due-nothing i j = rw (eq-eqb _ _ g, eq-eqb _ _ h, eq-eqb _ _ k, sym e ∙ f, sym i ∙ j) refl

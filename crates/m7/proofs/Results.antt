@@ -1,14 +1,12 @@
 -- What the calls below say, taken to the results of the contracts.
-use Prim.Native.Nat.{ℕ, _+_, _-_, _*_, _≤_, _<_}
+use Prim.Native.Nat.{ℕ, _-_, _*_, _≤_}
 use mathlib.Core.Path.{_≡_, refl, sym, ap, subst, _∙_}
 use mathlib.Core.Bool.{true, false}
-use mathlib.Core.List.{List, [], _∷_, _++_}
-use native.Mathlib.Numerals.{add-one}
+use mathlib.Core.List.{List, []}
 use native.Mathlib.Omega.{arith}
 use borrow.Author.Tests.{eq-eqb, ne-eqb}
 use lib.Dec.{eqb}
-use lib.ListN.{length, getD, take, set, replicate}
-use lib.Seq.{take-all, take-suc, take-suc-set}
+use lib.ListN.{length, replicate, length-replicate}
 use Rattle.macros.specs.Bounds.{mostFileBytes, mostMacros}
 use Rattle.macros.specs.Refusals.{number, place, hostNumber, fileNumber}
 use Rattle.macros.specs.Macro.{Table, pick}
@@ -37,6 +35,8 @@ use Rattle.writing.specs.Slots.{refusalOf, Holds}
 use Rattle.writing.specs.declared.Fault.{Fault as WritingFault}
 use Rattle.writing.specs.declared.Answer.{Answer as Writing}
 use Rattle.writing.specs.declared.Answer.the-variants.{Written as WrittenOut, Refused as NotWritten}
+use Rattle.memories.specs.Memory.{padded}
+use Rattle.memories.proofs.Copying.{padded-whole}
 use Rattle.m7.specs.declared.Answer.{Answer}
 use Rattle.m7.specs.Contract.{Result, Gives, reply, refuses, takes, ofReading, reads, ofWriting, sized, Writes, freshens}
 use Rattle.m7.proofs.Places.{onto-place, extent, out-extent}
@@ -62,22 +62,22 @@ pub read-other : (s old : List ℕ) {a : Answer} → (length old ≡ tableBytes 
 unfolding reads pick refuses number place hostNumber
 read-other s old h e = let f : eqb (length old) tableBytes ≡ false = ne-eqb _ _ h in gives (rw f) e refl
 
-pub zero-lent : Lent (replicate 98304 0) 0
-zero-lent = record { itself = []; accepted = none-accepted; bytes = none-form; counted = refl }
+pub zero-lent : {z : List ℕ} → z ≡ replicate 98304 0 → Lent z 0
+zero-lent e = record { itself = []; accepted = none-accepted; bytes = none-form ∙ sym e; counted = refl }
 
--- the copy, byte by byte
-pub copied-next : (from to : List ℕ) (i : ℕ) → i < length from → i < length to → take i to ≡ take i from → take (i + 1) (set to i (getD from i 0)) ≡ take (i + 1) from
-copied-next from to i g h e = rw add-one (take-suc-set to i (getD from i 0) h ∙ ap (λ (x : List ℕ). x ++ (getD from i 0 ∷ [])) e ∙ sym (take-suc from i 0 g))
+pub zeros-size : {z : List ℕ} → z ≡ replicate 98304 0 → length z ≡ tableBytes
+zeros-size e = ap length e ∙ length-replicate {A = ℕ} 98304 0
 
-pub copied-all : (from to : List ℕ) (i : ℕ) → length from ≤ i → length to ≤ i → take i to ≡ take i from → to ≡ from
-copied-all from to i g h e = sym (take-all i to h) ∙ e ∙ take-all i from g
+-- the copy
+pub copied : (made old : List ℕ) {b : List ℕ} → length made ≡ tableBytes → length old ≡ tableBytes → b ≡ padded made (length old) → b ≡ made
+copied made old g h e = padded-whole made (length old) (g ∙ sym h) e
 
 -- the answer r of reading a file s onto the zero table
-module _ (s made : List ℕ) (r : Reading) (given : Onto s 0 (replicate 98304 0) made r) where
+module _ (s z made : List ℕ) (r : Reading) (zeros : z ≡ replicate 98304 0) (given : Onto s 0 z made r) where
   -- a table of n macros
   module _ {n : ℕ} (e : r ≡ TableOf n) where
     onto : (ks : Table) × (readOnto [] s ≡ table ks) × (n ≡ length ks) × (form ks ≡ made)
-    onto = subst (Onto s 0 (replicate 98304 0) made) e given [] none-accepted none-form refl
+    onto = subst (Onto s 0 z made) e given [] none-accepted (none-form ∙ sym zeros) refl
 
     pub read-few : Octets s → n ≤ mostFileBytes
     read-few o = let k = read-keeps [] s (onto .0) none-accepted o (onto .1) .accepted .count in let f = onto .2 in omega arith
@@ -89,7 +89,7 @@ module _ (s made : List ℕ) (r : Reading) (given : Onto s 0 (replicate 98304 0)
   -- a refusal with its place
   module _ {f : Fault} {q : ℕ} (e : r ≡ NoTable f q) where
     not-read : readOnto [] s ≡ refusedAt (faultOf f) q
-    not-read = subst (Onto s 0 (replicate 98304 0) made) e given [] none-accepted none-form refl .0
+    not-read = subst (Onto s 0 z made) e given [] none-accepted (none-form ∙ sym zeros) refl .0
 
     pub read-place : q ≤ mostFileBytes
     read-place = onto-place [] s not-read

@@ -2,6 +2,7 @@
 mod answers;
 
 use answers::answer_of;
+use memories::lay_out;
 use reading::Reading;
 use reading::file::read_onto;
 use scanning::Fault;
@@ -9,7 +10,7 @@ use writing::Answer as Writing;
 use writing::Fault as WritingFault;
 ghost use mathlib.Core.Path.{_≡_};
 ghost use Prim.Native.Nat.{_≤_};
-ghost use lib.ListN.{length};
+ghost use lib.ListN.{length, replicate};
 ghost use Rattle.macros.specs.Bounds.{mostFileBytes};
 ghost use Rattle.macros.specs.Refusals.{fileNumber};
 ghost use Rattle.tables.specs.Form.{tableBytes};
@@ -17,6 +18,7 @@ ghost use Rattle.scanning.specs.Scan.{faultOf};
 ghost use Rattle.writing.specs.Slots.{refusalOf};
 ghost use Rattle.m7.specs.Contract.{reply, Gives, reads, Writes, freshens};
 ghost use Rattle.m7.specs.Feeding.{Feeds};
+ghost use Rattle.m7.specs.Answering.{hostRefusal};
 
 // The bytes of a table's memory, of a file's to write to, of a state's, and of a line's.
 const TABLE_BYTES: usize = 98304;
@@ -45,17 +47,8 @@ pub extern "C" fn m7_read(file: &[u8], table: &mut [u8]) -> Answer
     if table.len() != TABLE_BYTES {
         return refusal(3, 0);
     }
-    let mut made: [u8; 98304] = [0; 98304];
-    let reading = read_onto(file, &mut made, 0);
-    match reading {
-        Reading::Table(n) => {
-            copy_table(&made, table);
-            return taken(n);
-        }
-        Reading::Refused(f, p) => {
-            return refusal(file_number(f), p);
-        }
-    }
+    let mut made = [0u8; 98304];
+    read_new(file, &mut made, table)
 }
 
 // Writes out a table. The length is the file's, zeros stand behind it; a refusal leaves the memory as it was.
@@ -106,23 +99,51 @@ pub extern "C" fn m7_feed(
 ) -> Answer
     ensures { λ r. ⌜ Feeds (record { line = now (line .entry); budget = budget; table = now (table .entry); state = now (state .entry); output = now (output .entry); table′ = now (table .exit); state′ = now (state .exit); output′ = now (output .exit); answer = r }) ⌝ }
 {
-    if table.len() != TABLE_BYTES {
-        return refusal(3, 0);
-    }
-    if state.len() != STATE_BYTES {
-        return refusal(3, 0);
-    }
-    if output.len() != LINE_BYTES {
-        return refusal(3, 0);
-    }
-    if !checking::is_table(table) {
-        return refusal(1, 0);
-    }
-    if !state_check::is_state(state) {
-        return refusal(2, 0);
+    let number = host_refusal(table, state, output);
+    if 0 < number {
+        return refusal(number, 0);
     }
     let fed = feeding::feed(table, state, line, budget, output);
     answer_of(fed)
+}
+
+// Reads a macro file onto the zero table, and copies what that makes.
+fn read_new(file: &[u8], made: &mut [u8], table: &mut [u8]) -> Answer
+    requires { ⌜ (now made ≡ replicate tableBytes 0) × (length (now table) ≡ tableBytes) ⌝ }
+    ensures { λ r. ⌜ Gives (reads (now (file .entry)) (now (table .entry))) r (now (table .exit)) ⌝ }
+{
+    let reading = read_onto(file, made, 0);
+    match reading {
+        Reading::Table(n) => {
+            lay_out(table, made);
+            return taken(n);
+        }
+        Reading::Refused(f, p) => {
+            return refusal(file_number(f), p);
+        }
+    }
+}
+
+// "The host, first": 3, then 1, then 2; or 0 if none of these is due.
+fn host_refusal(table: &[u8], state: &[u8], output: &[u8]) -> u32
+    ensures { λ r. ⌜ r ≡ hostRefusal (now (table .entry)) (now (state .entry)) (now (output .entry)) ⌝ }
+{
+    if table.len() != TABLE_BYTES {
+        return 3;
+    }
+    if state.len() != STATE_BYTES {
+        return 3;
+    }
+    if output.len() != LINE_BYTES {
+        return 3;
+    }
+    if !checking::is_table(table) {
+        return 1;
+    }
+    if !state_check::is_state(state) {
+        return 2;
+    }
+    0
 }
 
 // ANSWERS
@@ -178,17 +199,5 @@ fn writing_number(f: WritingFault) -> u32
     match f {
         WritingFault::MacroTooLong => 18,
         WritingFault::FileTooLong => 10,
-    }
-}
-
-// Copies a table.
-fn copy_table(from: &[u8], to: &mut [u8])
-    requires { ⌜ (length (now from) ≡ tableBytes) × (length (now to) ≡ tableBytes) ⌝ }
-    ensures { λ _. ⌜ now (to .exit) ≡ now (from .entry) ⌝ }
-{
-    let mut i = 0;
-    while i < TABLE_BYTES {
-        to[i] = from[i];
-        i += 1;
     }
 }

@@ -1,8 +1,9 @@
 use mathlib.Core.Path.{ap, sym, _∙_}
 use denote.Ref.{now}
+use lib.ListN.{length}
+use Rattle.memories.proofs.Copying.{padded-whole}
+use Rattle.controls.specs.declared.Order.{Order}
 use Rattle.feeding.specs.Answering.{keptBy}
-use Rattle.feeding.specs.declared.Order.{Order}
-use Rattle.feeding.proofs.Copying.{copied-whole}
 use borrow.Author.Needs.{needs}
 use Rattle.feeding.proofs.answers.keep.Statement.{statement}
 use Rattle.feeding.proofs.answers.keep.Tie as tie
@@ -16,15 +17,15 @@ enum-told-2 c = search needs
 returns : tie.Need-returns
 returns c = search needs
 
-copy-over-requires : tie.Need-copy-over-requires
-copy-over-requires c κs = search needs
+lay-out-requires : tie.Need-lay-out-requires
+lay-out-requires c κs = search needs
 
 same-length : tie.Need-same-length
 same-length c = search needs
 
 returns-2 : tie.Need-returns-2
-returns-2 c = copied-whole (now (c .before .before .before .before .before .before .before .before .args .state)) (now (c .before .before .before .before .before .before .before .before .args .after)) _ (c .before .before .before .before .before .before .before .before .pre) (c .before .before .copy-over .ensures) ∙ ap (λ (x : Order). keptBy x (now (c .before .before .before .before .before .before .before .before .args .after)) (now (c .before .before .before .before .before .before .before .before .args .state))) (sym (c .before .before .before .before .enum-told .given .1))
+returns-2 c = padded-whole (now (c .before .before .before .before .before .before .before .before .args .after)) (length (now (c .before .before .before .before .before .before .before .before .args .state))) (c .before .before .before .before .before .before .before .before .pre) (c .before .before .lay-out .ensures) ∙ ap (λ (x : Order). keptBy x (now (c .before .before .before .before .before .before .before .before .args .after)) (now (c .before .before .before .before .before .before .before .before .args .state))) (sym (c .before .before .before .before .enum-told .given .1))
 
 pub keep-spec : {M : Type 1} → statement M
 keep-spec =
-    tie.close (tie.spec enum-told enum-told-2 returns copy-over-requires same-length returns-2)
+    tie.close (tie.spec enum-told enum-told-2 returns lay-out-requires same-length returns-2)

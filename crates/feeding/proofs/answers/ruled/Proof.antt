@@ -1,15 +1,16 @@
 use mathlib.Core.Path.{sym, _∙_}
 use denote.Ref.{now}
-use Rattle.feeding.proofs.Replying.{state-length, rule-taken, rule-wrong}
+use Rattle.running.proofs.Starting.{state-length}
+use Rattle.feeding.proofs.Replying.{rule-taken, rule-wrong}
 use borrow.Author.Needs.{needs}
 use Rattle.feeding.proofs.answers.ruled.Statement.{statement}
 use Rattle.feeding.proofs.answers.ruled.Tie as tie
 
 control-requires : tie.Need-control-requires
-control-requires c κs = (c .before .before .before .before .before .before .before .pre .table, c .before .before .before .before .before .before .before .pre .ends .after, c .before .before .before .before .before .before .before .pre .bytes)
+control-requires c κs = search needs
 
 keep-requires : tie.Need-keep-requires
-keep-requires c κs = c .before .before .before .before .before .before .control .kept .1 .1 .0 ∙ (state-length (now (c .before .before .before .before .before .before .before .before .before .before .before .before .before .before .args .after)) (c .before .before .before .before .before .before .before .before .before .before .before .before .before .before .pre .ends .after) ∙ sym (c .before .before .before .before .before .before .before .before .before .before .before .before .before .before .pre .ends .state))
+keep-requires c κs = c .before .before .before .before .before .before .control .kept .1 .1 .0 ∙ (state-length (c .before .before .before .before .before .before .before .before .before .before .before .before .before .before .pre .ends .after) ∙ sym (c .before .before .before .before .before .before .before .before .before .before .before .before .before .before .pre .ends .state))
 
 enum-known-order : tie.Need-enum-known-order
 enum-known-order c = search needs
@@ -17,8 +18,11 @@ enum-known-order c = search needs
 enum-told : tie.Need-enum-told
 enum-told c = search needs
 
-clear-requires : tie.Need-clear-requires
-clear-requires c κs = search needs
+slice-aggregate-lay-out : tie.Need-slice-aggregate-lay-out
+slice-aggregate-lay-out c = search needs
+
+lay-out-requires : tie.Need-lay-out-requires
+lay-out-requires c κs = search needs
 
 same-length : tie.Need-same-length
 same-length c = search needs
@@ -33,7 +37,10 @@ same-length-4 : tie.Need-same-length-4
 same-length-4 c = search needs
 
 returns : tie.Need-returns
-returns c = rule-taken (c .before .before .before .before .before .before .before .before .before .before .before .before .before .before .before .control .ensures) (c .before .before .before .before .enum-told .given .1) (c .before .before .before .before .before .before .before .before .keep .ensures) (c .before .before .before .before .before .before .before .before .before .before .before .before .before .before .before .before .before .before .before .before .before .before .before .pre .ends .output) (c .before .before .clear .ensures) (c .before .before .before .before .before .before .before .before .before .before .before .before .before .before .before .before .before .before .before .before .before .before .before .args .begun)
+returns c = rule-taken (c .before .before .before .before .before .before .before .before .before .before .before .before .before .before .before .before .control .ensures) (c .before .before .before .before .before .enum-told .given .1) (c .before .before .before .before .before .before .before .before .before .keep .ensures) (c .before .before .before .before .before .before .before .before .before .before .before .before .before .before .before .before .before .before .before .before .before .before .before .before .pre .ends .output) (c .before .before .lay-out .ensures) (c .before .before .before .before .before .before .before .before .before .before .before .before .before .before .before .before .before .before .before .before .before .before .before .before .args .begun)
+
+why-control-requires : tie.Need-why-control-requires
+why-control-requires c κs = search needs
 
 same-length-5 : tie.Need-same-length-5
 same-length-5 c = search needs
@@ -45,7 +52,7 @@ same-length-7 : tie.Need-same-length-7
 same-length-7 c = search needs
 
 returns-2 : tie.Need-returns-2
-returns-2 c = rule-wrong (c .before .before .before .before .before .before .before .before .before .before .before .before .control .ensures) (c .before .order .given .1) (c .before .before .before .before .before .keep .ensures) (now (c .before .before .before .before .before .before .before .before .before .before .before .before .before .before .before .before .before .before .before .before .args .output)) (c .before .before .before .before .before .before .before .before .before .before .before .before .before .before .before .before .before .before .before .before .args .begun)
+returns-2 c = rule-wrong (c .before .before .before .before .before .before .before .before .before .before .before .before .before .control .ensures) (c .before .before .order .given .1) (c .why-control .ensures) (c .before .before .before .before .before .before .keep .ensures) (now (c .before .before .before .before .before .before .before .before .before .before .before .before .before .before .before .before .before .before .before .before .before .args .output)) (c .before .before .before .before .before .before .before .before .before .before .before .before .before .before .before .before .before .before .before .before .before .args .begun)
 
 pub ruled-spec : {M : Type 1} → statement M
 ruled-spec =
@@ -55,12 +62,14 @@ ruled-spec =
     keep-requires
     enum-known-order
     enum-told
-    clear-requires
+    slice-aggregate-lay-out
+    lay-out-requires
     same-length
     same-length-2
     same-length-3
     same-length-4
     returns
+    why-control-requires
     same-length-5
     same-length-6
     same-length-7

@@ -3,8 +3,8 @@ use native.Mathlib.Omega.{arith}
 use denote.Ref.{now}
 use lib.ListN.{length}
 use Rattle.macros.specs.Macro.{Table}
-use Rattle.feeding.specs.Contract.{IsTable}
-use Rattle.feeding.proofs.Slotting.{table-size, used-slot, unused-slot}
+use Rattle.memories.specs.Memory.{IsTable}
+use Rattle.memories.proofs.Slotting.{table-size, used-slot, unused-slot}
 use Rattle.feeding.proofs.slots.count_macros.Statement.{statement}
 use Rattle.feeding.proofs.slots.count_macros.Tie as tie
 

@@ -1,0 +1,4 @@
+pub mod Closing
+pub mod Running
+pub mod Stepping
+pub mod Starting
