@@ -1,9 +1,6 @@
-use Prim.Native.Nat.{ℕ, _+_, _*_, _-_, _≤_, _<_, min}
-use mathlib.Core.Path.{_≡_, refl, sym, ap, _∙_}
+use mathlib.Core.Path.{sym}
 use native.Mathlib.Omega.{arith}
 use borrow.Author.Needs.{needs}
-use borrow.Author.Tests.{ltb-true}
-use lib.ListN.{length, take, drop, length-set, length-take, length-drop, length-append}
 use lib.Seq.{length-take-le}
 use Rattle.program.proofs.Laws.{line-parts}
 use Rattle.program.proofs.said.line_said.Statement.{statement}

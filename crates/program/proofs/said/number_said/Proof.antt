@@ -1,10 +1,6 @@
-use Prim.Native.Nat.{ℕ, _+_, _*_, _-_, _≤_, _<_, min}
-use mathlib.Core.Path.{_≡_, refl, sym, ap, _∙_}
 use native.Mathlib.Omega.{arith}
 use borrow.Author.Needs.{needs}
-use borrow.Author.Tests.{ltb-true}
-use lib.ListN.{length, take, drop, length-set, length-take, length-drop, length-append}
-use lib.Seq.{length-take-le}
+use lib.ListN.{take}
 use Rattle.program.proofs.Laws.{digits-most}
 use Rattle.program.proofs.said.number_said.Statement.{statement}
 use Rattle.program.proofs.said.number_said.Tie as tie
