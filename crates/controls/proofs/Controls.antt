@@ -30,7 +30,7 @@ use Rattle.reading.specs.File.{Lent, Onto}
 use Rattle.scanning.specs.declared.Fault.{Fault}
 use Rattle.reading.specs.declared.Reading.{Reading}
 use Rattle.reading.specs.declared.Reading.the-variants.{Table as TableOf, Refused as NoTable}
-use Rattle.scanning.specs.Items.{Wrote}
+use Rattle.items.specs.Items.{Wrote}
 use Rattle.memories.specs.Memory.{IsTable, Counted}
 use Rattle.controls.specs.Contract.{refusalOf, Obeys, Orders}
 use Rattle.controls.specs.Ordering.{valueOf, Puts, Sets, OneMore, AddsOne, wrongOf}

@@ -3,10 +3,10 @@ mod flags;
 
 use flags::set_flag;
 use flags::starts_with;
+use items::clear;
 use reading::Reading;
 use reading::file::read_onto;
 use scanning::Fault;
-use scanning::items::clear;
 ghost use mathlib.Core.Path.{_≡_};
 ghost use Prim.Native.Nat.{_≤_};
 ghost use lib.ListN.{length};
