@@ -25,13 +25,11 @@ use Rattle.lines.specs.Matching.{begins}
 use Rattle.lines.specs.Feeding.{Order, bytes, same, withTrace, withNflag, flagOrder, macroOrder, orderOf}
 use Rattle.lines.specs.Feeding.Order.{wrong, orders}
 use Rattle.lines.proofs.KeepBytes.{bytes-octets, bytes-drop}
-use Rattle.states.specs.Access.{Holds}
-use Rattle.reading.specs.File.{Lent, Onto}
+use Rattle.reading.specs.File.{Onto}
 use Rattle.scanning.specs.declared.Fault.{Fault}
 use Rattle.reading.specs.declared.Reading.{Reading}
 use Rattle.reading.specs.declared.Reading.the-variants.{Table as TableOf, Refused as NoTable}
 use Rattle.items.specs.Items.{Wrote}
-use Rattle.memories.specs.Memory.{IsTable, Counted}
 use Rattle.controls.specs.Contract.{refusalOf, Obeys, Orders}
 use Rattle.controls.specs.Ordering.{valueOf, Puts, Sets, OneMore, AddsOne, wrongOf}
 use Rattle.controls.specs.declared.Why.{Why}
@@ -256,9 +254,6 @@ module _ {b t : List ℕ} where
   sets-none f g = record { sets = λ ms st h. (no-word ms st t f g, refl) }
 
 -- MACROS
-
-pub to-read : (b : List ℕ) (count : ℕ) → Counted b count → Lent b count
-to-read b count c = record { itself = c .macros; accepted = c .isTable .accepted; bytes = c .isTable .form; counted = c .counted }
 
 slots-append : (xs ys : Table) → slots (xs ++ ys) ≡ slots xs ++ slots ys
 unfolding slots

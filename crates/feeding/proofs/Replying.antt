@@ -11,7 +11,6 @@ use lib.Dec.{ltb, eqb}
 use lib.ListN.{length, getD, take, drop, replicate, length-replicate, drop-of-length-le}
 use lib.Seq.{drop-cons, take-at, take-suc, take-all, length-take-le}
 use Rattle.macros.specs.Bounds.{mostLineBytes, mostBudget}
-use Rattle.macros.specs.Refusals.{Refusal}
 use Rattle.macros.specs.Refusals.Refusal.{ofWork}
 use Rattle.macros.specs.Macro.{Table}
 use Rattle.macros.specs.Formed.{Bytes}
@@ -23,7 +22,7 @@ use Rattle.lines.specs.Feeding.{feed as fed}
 use Rattle.lines.specs.Feeding.Kind.{out, withheld}
 use Rattle.lines.specs.Feeding.Order.{wrong}
 use Rattle.lines.proofs.KeepBytes.{bytes-append}
-use Rattle.states.specs.Access.{Holds, IsState, OfState}
+use Rattle.states.specs.Access.{Holds, OfState}
 use Rattle.memories.specs.Memory.{IsTable, Counted, padded}
 use Rattle.memories.proofs.Copying.{padded-whole}
 use Rattle.controls.specs.Contract.{Orders}

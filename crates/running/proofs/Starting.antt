@@ -63,9 +63,6 @@ module _ {tb : List ℕ} {count : ℕ} {b t z tx : List ℕ} (y : Started tb cou
   pub state-fits : length b ≤ length z
   state-fits = omega (arith, state-length (y .state), y .after)
 
-  pub line-fits : length t ≤ length tx
-  line-fits = omega (arith, y .short, y .text)
-
   same-state : {z₁ : List ℕ} → z₁ ≡ padded b (length z) → z₁ ≡ b
   same-state e = padded-whole b (length z) (state-length (y .state) ∙ sym (y .after)) e
 

@@ -11,7 +11,7 @@ use Rattle.macros.specs.Bounds.{mostMacros, mostLineBytes}
 use Rattle.macros.specs.Macro.{Table}
 use Rattle.macros.specs.Formed.{Bytes}
 use Rattle.tables.specs.Form.{slotBytes}
-use Rattle.lines.specs.Pass.{pass, occurred}
+use Rattle.lines.specs.Pass.{occurred}
 use Rattle.lines.specs.Line.{Line, isControl}
 use Rattle.states.specs.Access.{IsState}
 use Rattle.replacing.specs.Contract.{IsSlot}

@@ -1,8 +1,8 @@
 use native.Mathlib.Omega.{arith}
-use mathlib.Core.Path.{refl, _∙_}
+use mathlib.Core.Path.{_∙_}
 use denote.Ref.{now}
 use Rattle.memories.proofs.Slotting.{table-size}
-use Rattle.controls.proofs.Controls.{to-read, add-wrong, add-more}
+use Rattle.controls.proofs.Controls.{add-wrong, add-more}
 use borrow.Author.Needs.{needs}
 use Rattle.controls.proofs.add_macro.Statement.{statement}
 use Rattle.controls.proofs.add_macro.Tie as tie

@@ -1,6 +1,6 @@
 use mathlib.Core.Path.{sym, _∙_}
 use native.Mathlib.Omega.{arith}
-use Rattle.running.proofs.Starting.{state-fits, line-fits, begun, runs-over, runs-back}
+use Rattle.running.proofs.Starting.{state-fits, begun, runs-over, runs-back}
 use borrow.Author.Needs.{needs}
 use Rattle.running.proofs.run_line.Statement.{statement}
 use Rattle.running.proofs.run_line.Tie as tie
