@@ -1,4 +1,4 @@
-// A file that is refused: its number, and nothing more.
+// A file that is refused, by its 32,769th byte: its number, and nothing more.
 fn main() {
     program::run();
 }
