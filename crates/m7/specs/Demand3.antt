@@ -1,5 +1,5 @@
 -- DEMAND 3, FOR THE ENGINE: of every list of calls of m7_feed, through the bytes that they return.
--- Ruled out, among others, by the edits not_in_turn (each call is lent what the first was lent) and, of m7_feed itself, refused_passes_lost; what Lines rules out stands in crates/lines.
+-- It rules out, among others, the edits not_in_turn (each call is lent what the first was lent) and, of m7_feed itself, refused_passes_lost; what Lines rules out stands in crates/lines.
 use Prim.Native.Nat.{ℕ}
 use mathlib.Core.Path.{_≡_}
 use mathlib.Core.List.{List, [], _∷_}

@@ -1,5 +1,5 @@
 -- THE CONTRACT OF m7_feed: from the lent bytes at entry, the whole answer and what each memory then holds.
--- It rules out the edits fresh_smaller (a state of another size than the docs state is taken), state_number (1 for bytes that are no state),
+-- It rules out, among others, the edits fresh_smaller (a state of another size than the docs state is taken), state_number (1 for bytes that are no state),
 -- refused_passes_lost (a refused line has no passes) and withheld_as_control (a withheld line has the kind of a control line).
 use Prim.Native.Nat.{ℕ, _-_}
 use mathlib.Core.Path.{_≡_}
