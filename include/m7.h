@@ -203,7 +203,7 @@ m7_answer m7_fresh(uint8_t *state, size_t state_size);
    M7_WITHHELD  NFLAG is 1 and no macro occurred: the output is all zero
    M7_CONTROL   a line that begins with $ when a pass is due or at its end:
                 $TRACE 0, $TRACE 1, $NFLAG 0 or $NFLAG 1 set a flag of the
-                state (TRACE has no effect yet), $MACRO adds a macro to the
+                state (TRACE has no effect), $MACRO adds a macro to the
                 table as the newest; what the passes before changed in the
                 state stays; the output is all zero
 

@@ -1,5 +1,5 @@
 -- DEMAND 2, THROUGH THE MEMORIES: what m7_write has written, m7_read reads as the same table bytes.
--- It rules out, among others, the edit length_lost (m7_write answers length 0).
+-- The contracts that it joins rule out, among others, the edit length_lost (m7_write answers length 0).
 use Prim.Native.Nat.{ℕ}
 use mathlib.Core.Path.{_≡_}
 use mathlib.Core.List.{List}

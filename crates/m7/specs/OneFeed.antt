@@ -1,5 +1,5 @@
 -- THE CONTRACT OF m7_feed LEAVES NOTHING FREE.
--- It rules out, among others, the edits state_number (1 for bytes that are no state) and fresh_smaller (a state of another size than the docs state is taken).
+-- The contract that it speaks of rules out, among others, the edits state_number (1 for bytes that are no state) and fresh_smaller (a state of another size than the docs state is taken).
 use Prim.Native.Nat.{ℕ}
 use mathlib.Core.Path.{_≡_}
 use mathlib.Core.List.{List}

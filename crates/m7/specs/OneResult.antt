@@ -1,5 +1,5 @@
 -- THE CONTRACT OF m7_write LEAVES NOTHING FREE. (m7_read and m7_fresh have theirs computed, as `reads` and `freshens`.)
--- It rules out, among others, the edits table_number (3 for bytes that are no table) and length_lost (m7_write answers length 0).
+-- The contract that it speaks of rules out, among others, the edits table_number (3 for bytes that are no table) and length_lost (m7_write answers length 0).
 use Prim.Native.Nat.{ℕ}
 use mathlib.Core.List.{List}
 use Rattle.macros.specs.Formed.{Octets}

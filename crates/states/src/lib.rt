@@ -71,7 +71,7 @@ pub fn entry_at(state: &[u8], i: u8) -> usize
     236 + (1000 * place(i) + 50 * ((p - 1) as usize))
 }
 
-// Entries hold no byte 0.
+// How many bytes stand before the first 0: an entry's text holds none.
 fn text_length(entry: &[u8]) -> usize
     ensures { λ r. ⌜ r ≡ textLength (now (entry .entry)) ⌝ }
 {
