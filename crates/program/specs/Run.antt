@@ -1,0 +1,22 @@
+-- THE WHOLE RUN (01, part 8), up to what is read and written: the macro file, then the lines, or the file's refusal.
+-- It rules out, among others, the edit refusal_line (a refused file is said with line 1).
+use Prim.Native.Nat.{ℕ}
+use mathlib.Core.Path.{_≡_}
+use mathlib.Core.List.{List, []}
+use Rattle.program.specs.declared.parts.Parts.{Parts}
+use Rattle.program.specs.declared.parts.Parts.the-variants.{Table, Refused}
+use Rattle.program.specs.Parts.{PartsRead}
+use Rattle.program.specs.Said.{RefusalSaid}
+use Rattle.program.specs.Lines.{FreshLines}
+
+-- by what became of the file: all lines with its table, and nothing is left to say; "a refused file gives `! N 0` and nothing more"
+unfoldable pub Follows : Parts → (table table′ said : List ℕ) → Type 0
+Follows Table table table′ said = FreshLines table table′ × (said ≡ [])
+Follows (Refused n) table table′ said = RefusalSaid n 0 said × (table′ ≡ table)
+
+-- what follows has the table's memory as the reading of the file left it
+pub record Ran (table table′ said : List ℕ) : Type 0 where
+  pub parts : Parts
+  pub between : List ℕ
+  pub read : PartsRead table parts between
+  pub follows : Follows parts between table′ said
