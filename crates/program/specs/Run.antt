@@ -3,6 +3,7 @@
 use Prim.Native.Nat.{ℕ}
 use mathlib.Core.Path.{_≡_}
 use mathlib.Core.List.{List, []}
+use lib.ListN.{replicate}
 use Rattle.program.specs.declared.parts.Parts.{Parts}
 use Rattle.program.specs.declared.parts.Parts.the-variants.{Table, Refused}
 use Rattle.program.specs.Parts.{PartsRead}
@@ -14,9 +15,9 @@ unfoldable pub Follows : Parts → (table table′ said : List ℕ) → Type 0
 Follows Table table table′ said = FreshLines table table′ × (said ≡ [])
 Follows (Refused n) table table′ said = RefusalSaid n 0 said × (table′ ≡ table)
 
--- what follows has the table's memory as the reading of the file left it
-pub record Ran (table table′ said : List ℕ) : Type 0 where
+-- the file is read into 98,304 zeros, and what follows has the table's memory as this left it
+pub record Ran (table′ said : List ℕ) : Type 0 where
   pub parts : Parts
   pub between : List ℕ
-  pub read : PartsRead table parts between
+  pub read : PartsRead (replicate 98304 0) parts between
   pub follows : Follows parts between table′ said

@@ -13,7 +13,7 @@ use streams::output::flush;
 use streams::output::put_text;
 ghost use mathlib.Core.Path.{_≡_};
 ghost use Prim.Native.Nat.{_≤_};
-ghost use lib.ListN.{length, take};
+ghost use lib.ListN.{length, take, replicate};
 ghost use Rattle.program.specs.Said.{FedSaid};
 ghost use Rattle.program.specs.Lines.{Answered, LineDone, LinesDone, FreshLines};
 ghost use Rattle.program.specs.Run.{Ran};
@@ -39,8 +39,8 @@ pub fn run()
 
 // Reads the file and answers the lines. "A refused file gives `! N 0` and nothing more", which the caller writes.
 fn read_and_answer(table: &mut [u8], said: &mut [u8]) -> usize
-    requires { ⌜ length (now said) ≡ 1100 ⌝ }
-    ensures { λ r. ⌜ (r ≤ 1100) × Ran (now (table .entry)) (now (table .exit)) (take r (now (said .exit))) ⌝ }
+    requires { ⌜ (now table ≡ replicate 98304 0) × (length (now said) ≡ 1100) ⌝ }
+    ensures { λ r. ⌜ (r ≤ 1100) × Ran (now (table .exit)) (take r (now (said .exit))) ⌝ }
 {
     let parts = read_parts(table);
     let Parts::Refused(number) = parts else {

@@ -20,7 +20,7 @@ same-length : tie.Need-same-length
 same-length c = search needs
 
 returns : tie.Need-returns
-returns c = (omega arith, ran-lines (c .before .before .before .before .before .before .before .before .read-parts .ensures) (c .before .before .before .before .enum-told .given .1) (c .before .before .answer-lines .ensures))
+returns c = (omega arith, ran-lines (c .before .before .before .before .before .before .before .before .before .before .before .before .pre .0) (c .before .before .before .before .before .before .before .before .read-parts .ensures) (c .before .before .before .before .enum-told .given .1) (c .before .before .answer-lines .ensures))
 
 refusal-said-requires : tie.Need-refusal-said-requires
 refusal-said-requires c κs = search needs
@@ -32,7 +32,7 @@ same-length-3 : tie.Need-same-length-3
 same-length-3 c = search needs
 
 returns-2 : tie.Need-returns-2
-returns-2 c = (c .before .before .refusal-said .ensures .0, ran-refused (c .before .before .before .before .before .before .before .before .before .read-parts .ensures) (c .before .before .before .before .before .parts .given .1) (c .before .before .refusal-said .ensures .1))
+returns-2 c = (c .before .before .refusal-said .ensures .0, ran-refused (c .before .before .before .before .before .before .before .before .before .before .before .before .before .pre .0) (c .before .before .before .before .before .before .before .before .before .read-parts .ensures) (c .before .before .before .before .before .parts .given .1) (c .before .before .refusal-said .ensures .1))
 
 pub read-and-answer-spec : {M : Type 1} → statement M
 read-and-answer-spec =
