@@ -2,7 +2,7 @@
 use Prim.Native.Nat.{ℕ, zero, suc, _≤_}
 use mathlib.Core.Path.{_≡_, refl, sym, subst, _∙_}
 use mathlib.Core.Bool.{true, false, true≢false}
-use mathlib.Core.List.{List}
+use mathlib.Core.List.{List, []}
 use native.Mathlib.Omega.{arith}
 use borrow.Author.Tests.{eq-eqb}
 use lib.ListN.{length, take, replicate, length-take}
@@ -13,9 +13,13 @@ use Rattle.states.specs.Form.{stateForm}
 use Rattle.m7.specs.declared.Answer.{Answer}
 use Rattle.m7.specs.Contract.{Gives, reads, freshens, takes}
 use Rattle.macros.specs.Macro.{pick}
-use Rattle.program.specs.Parts.{FileRead, Refuses}
+use Rattle.program.specs.declared.parts.Parts.{Parts}
+use Rattle.program.specs.declared.parts.Parts.the-variants.{Table, Refused}
+use Rattle.program.specs.Parts.{FileRead, Refuses, PartsRead}
+use Rattle.program.specs.Said.{RefusalSaid}
 use Rattle.program.specs.Lines.{Standing, Answered, Silent, LineDone, Session, starting, LinesDone, FreshLines}
 use Rattle.program.specs.Lines.Session.{none, next}
+use Rattle.program.specs.Run.{Follows, Ran}
 
 module _ {table state block line out block′ line′ : List ℕ} {was reading : Reading} {used number : ℕ} (h : LineRead was block line reading block′ line′) where
   pub line-silent : reading .begun ≡ false
@@ -56,3 +60,14 @@ fresh-lines {table = table} {table′ = table′} {state′ = state′} {block�
       out′ = out′;
       lines = subst (λ (s : List ℕ). LinesDone table s (replicate 65536 0) (replicate 1055 0) (replicate 65536 0) table′ state′ block′ line′ out′) e l;
     }
+
+-- THE WHOLE RUN
+
+module _ {table between : List ℕ} {parts : Parts} (z : table ≡ replicate 98304 0) (h : PartsRead table parts between) where
+  pub ran-lines : {table′ : List ℕ} → parts ≡ Table → FreshLines between table′ → Ran table′ []
+  unfolding Follows
+  ran-lines e l = record { parts = parts; between = between; read = subst (λ (t : List ℕ). PartsRead t parts between) z h; follows = rw e (l, refl) }
+
+  pub ran-refused : {n : ℕ} {said : List ℕ} → parts ≡ Refused n → RefusalSaid n 0 said → Ran between said
+  unfolding Follows
+  ran-refused e s = record { parts = parts; between = between; read = subst (λ (t : List ℕ). PartsRead t parts between) z h; follows = rw e (s, refl) }

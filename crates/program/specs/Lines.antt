@@ -1,8 +1,9 @@
 -- THE LINES OF A RUN (01, part 8), up to the calls of read and write: each is read, fed with what the one before left, and answered, in order.
--- Ruled out, among others, by the edit first_number (lines are counted from 0).
+-- It rules out, among others, the edit first_number (lines are counted from 0).
 use Prim.Native.Nat.{ℕ, _+_, _<_}
 use mathlib.Core.Path.{_≡_}
 use mathlib.Core.Bool.{true, false}
+use mathlib.Core.Logic.{_⊎_}
 use mathlib.Core.List.{List}
 use lib.ListN.{take, replicate}
 use Rattle.streams.specs.declared.input.Reading.{Reading}
@@ -28,7 +29,7 @@ pub record Answered (line : List ℕ) (number : ℕ) (table state out : List ℕ
   pub fed : FedSaid table table′ state state′ line number said
   pub put : Gives (puts out used said) out′ used′
 
--- nothing but the reading has changed
+-- table, state and output are as they were
 pub record Silent (a b : Standing) : Type 0 where
   pub table : b .table ≡ a .table
   pub state : b .state ≡ a .state
@@ -41,22 +42,23 @@ pub record LineDone (a : Standing) (number : ℕ) (b : Standing) : Type 0 where
   pub answered : b .reading .begun ≡ true → Answered (take (b .reading .held) (b .line)) number (a .table) (a .state) (a .out) (a .used) (b .table) (b .state) (b .out) (b .used)
   pub ended : b .reading .begun ≡ false → Silent a b
 
--- lines one after the other, "line (from 1)": the next one's number, and what is held then
+-- lines one after the other, "line (from 1)", each but the first behind one that had begun: the next one's number, and what is held then
 pub data Session (a : Standing) : ℕ → Standing → Type 0 where
   none : (n : ℕ) (b : Standing) → n ≡ 1 → b ≡ a → Session a n b
-  next : (n m : ℕ) (b c : Standing) → Session a n b → LineDone b n c → m ≡ n + 1 → Session a m c
+  next : (n m : ℕ) (b c : Standing) → Session a n b → (n ≡ 1) ⊎ (b .reading .begun ≡ true) → LineDone b n c → m ≡ n + 1 → Session a m c
 
 -- before the first line
 unfoldable pub starting : (table state block line out : List ℕ) → Standing
 starting table state block line out =
     record { table = table; state = state; block = block; line = line; out = out; reading = record { at = 0; size = 0; held = 0; begun = false }; used = 0 }
 
--- all lines to the end of the input
+-- all lines to the end of the input: at least one reading, of which the last found no line
 pub record LinesDone (table state block line out table′ state′ block′ line′ out′ : List ℕ) : Type 0 where
   pub reading : Reading
   pub used : ℕ
   pub number : ℕ
   pub session : Session (starting table state block line out) number (record { table = table′; state = state′; block = block′; line = line′; out = out′; reading = reading; used = used })
+  pub some : 1 < number
   pub ended : number < 18446744073709551615 → reading .begun ≡ false
 
 -- "state fresh"; the other memories are zeros at first

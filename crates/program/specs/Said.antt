@@ -1,5 +1,5 @@
 -- WHAT THE PROGRAM SAYS TO A LINE (01, part 8), as bytes with their line feed.
--- Ruled out, among others, by the edits other_budget (1,000 passes) and withheld_said (a withheld line is written).
+-- It rules out, among others, the edits other_budget (1,000 passes) and withheld_said (a withheld line is written).
 use Prim.Native.Nat.{ℕ, _+_, _≤_}
 use mathlib.Core.Path.{_≡_}
 use mathlib.Core.List.{List, [], _∷_, _++_}

@@ -13,9 +13,10 @@ use streams::output::flush;
 use streams::output::put_text;
 ghost use mathlib.Core.Path.{_≡_};
 ghost use Prim.Native.Nat.{_≤_};
-ghost use lib.ListN.{length, take};
+ghost use lib.ListN.{length, take, replicate};
 ghost use Rattle.program.specs.Said.{FedSaid};
 ghost use Rattle.program.specs.Lines.{Answered, LineDone, LinesDone, FreshLines};
+ghost use Rattle.program.specs.Run.{Ran};
 
 // "Budget 10,000".
 const BUDGET: u32 = 10000;
@@ -31,18 +32,22 @@ pub fn run()
     ensures { λ r. ⌜ r ≡ tt ⌝ }
 {
     let mut table: [u8; 98304] = [0; 98304];
-    let parts = read_parts(&mut table);
-    match parts {
-        Parts::Table => answer_lines(&mut table),
-        Parts::Refused(number) => refuse_file(number),
-    }
+    let mut said = [0u8; 1100];
+    let n = read_and_answer(&mut table, &mut said);
+    flush(&said, n);
 }
 
-// "A refused file gives `! N 0` and nothing more".
-fn refuse_file(number: u32) {
-    let mut said = [0u8; 1100];
-    let n = refusal_said(number, 0, &mut said);
-    flush(&said, n);
+// Reads the file and answers the lines. "A refused file gives `! N 0` and nothing more", which the caller writes.
+fn read_and_answer(table: &mut [u8], said: &mut [u8]) -> usize
+    requires { ⌜ (now table ≡ replicate 98304 0) × (length (now said) ≡ 1100) ⌝ }
+    ensures { λ r. ⌜ (r ≤ 1100) × Ran (now (table .exit)) (take r (now (said .exit))) ⌝ }
+{
+    let parts = read_parts(table);
+    let Parts::Refused(number) = parts else {
+        answer_lines(table);
+        return 0;
+    };
+    refusal_said(number, 0, said)
 }
 
 // "State fresh". The line's memory has one byte more than a line may have, so that a longer one shows.

@@ -1,6 +1,7 @@
 // The macro file `parts.m7`.
+ghost use mathlib.Core.Path.{_≡_};
 ghost use Prim.Native.Nat.{_+_, _≤_};
-ghost use lib.ListN.{length};
+ghost use lib.ListN.{length, take};
 ghost use Rattle.program.specs.Parts.{PartsRead};
 
 // What became of the file: a table, or its refusal's number, 0 for a file that cannot be opened or read.
@@ -76,10 +77,11 @@ fn read_file(fd: i32, file: &mut [u8]) -> Got
     }
 }
 
-// One read behind the bytes held. A directory opens and cannot be read.
+// One read behind the bytes held, which stay as they were. A directory opens and cannot be read.
 fn read_once(fd: i32, file: &mut [u8], done: usize) -> Got
     requires { ⌜ done ≤ length (now file) ⌝ }
     ensures { λ r. ⌜ done + r .size ≤ length (now (file .entry)) ⌝ }
+    ensures { λ _. ⌜ take done (now (file .exit)) ≡ take done (now (file .entry)) ⌝ }
 {
     let got = libc::read(fd, &mut file[done..]);
     if got < 0 {

@@ -1,0 +1,50 @@
+use native.Mathlib.Omega.{arith}
+use borrow.Author.Needs.{needs}
+use Rattle.program.proofs.Lines.{ran-lines, ran-refused}
+use Rattle.program.proofs.read_and_answer.Statement.{statement}
+use Rattle.program.proofs.read_and_answer.Tie as tie
+
+read-parts-requires : tie.Need-read-parts-requires
+read-parts-requires c κs = search needs
+
+enum-known-parts : tie.Need-enum-known-parts
+enum-known-parts c = search needs
+
+enum-told : tie.Need-enum-told
+enum-told c = search needs
+
+answer-lines-requires : tie.Need-answer-lines-requires
+answer-lines-requires c κs = search needs
+
+same-length : tie.Need-same-length
+same-length c = search needs
+
+returns : tie.Need-returns
+returns c = (omega arith, ran-lines (c .before .before .before .before .before .before .before .before .before .before .before .before .pre .0) (c .before .before .before .before .before .before .before .before .read-parts .ensures) (c .before .before .before .before .enum-told .given .1) (c .before .before .answer-lines .ensures))
+
+refusal-said-requires : tie.Need-refusal-said-requires
+refusal-said-requires c κs = search needs
+
+same-length-2 : tie.Need-same-length-2
+same-length-2 c = search needs
+
+same-length-3 : tie.Need-same-length-3
+same-length-3 c = search needs
+
+returns-2 : tie.Need-returns-2
+returns-2 c = (c .before .before .refusal-said .ensures .0, ran-refused (c .before .before .before .before .before .before .before .before .before .before .before .before .before .pre .0) (c .before .before .before .before .before .before .before .before .before .read-parts .ensures) (c .before .before .before .before .before .parts .given .1) (c .before .before .refusal-said .ensures .1))
+
+pub read-and-answer-spec : {M : Type 1} → statement M
+read-and-answer-spec =
+    tie.close
+    (tie.spec
+    read-parts-requires
+    enum-known-parts
+    enum-told
+    answer-lines-requires
+    same-length
+    returns
+    refusal-said-requires
+    same-length-2
+    same-length-3
+    returns-2)
