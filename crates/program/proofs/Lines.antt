@@ -68,6 +68,6 @@ module _ {table between : List ℕ} {parts : Parts} (z : table ≡ replicate 983
   unfolding Follows
   ran-lines e l = record { parts = parts; between = between; read = subst (λ (t : List ℕ). PartsRead t parts between) z h; follows = rw e (l, refl) }
 
-  pub ran-refused : {n : ℕ} {said : List ℕ} → parts ≡ Refused n → RefusalSaid n 0 said → Ran between said
+  pub ran-refused : {n l : ℕ} {said : List ℕ} → parts ≡ Refused n → RefusalSaid n l said → l ≡ 0 → Ran between said
   unfolding Follows
-  ran-refused e s = record { parts = parts; between = between; read = subst (λ (t : List ℕ). PartsRead t parts between) z h; follows = rw e (s, refl) }
+  ran-refused e s k = record { parts = parts; between = between; read = subst (λ (t : List ℕ). PartsRead t parts between) z h; follows = rw (e, ← k) (s, refl) }

@@ -1,3 +1,4 @@
+use mathlib.Core.Path.{refl}
 use native.Mathlib.Omega.{arith}
 use borrow.Author.Needs.{needs}
 use Rattle.program.proofs.Lines.{ran-lines, ran-refused}
@@ -32,7 +33,7 @@ same-length-3 : tie.Need-same-length-3
 same-length-3 c = search needs
 
 returns-2 : tie.Need-returns-2
-returns-2 c = (c .before .before .refusal-said .ensures .0, ran-refused (c .before .before .before .before .before .before .before .before .before .before .before .before .before .pre .0) (c .before .before .before .before .before .before .before .before .before .read-parts .ensures) (c .before .before .before .before .before .parts .given .1) (c .before .before .refusal-said .ensures .1))
+returns-2 c = (c .before .before .refusal-said .ensures .0, ran-refused (c .before .before .before .before .before .before .before .before .before .before .before .before .before .pre .0) (c .before .before .before .before .before .before .before .before .before .read-parts .ensures) (c .before .before .before .before .before .parts .given .1) (c .before .before .refusal-said .ensures .1) refl)
 
 pub read-and-answer-spec : {M : Type 1} → statement M
 read-and-answer-spec =
