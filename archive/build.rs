@@ -1,4 +1,4 @@
-// Links the archive that `rt staticlib m7` writes.
+// Links the archive that `archive/build` writes.
 use std::env;
 use std::path::Path;
 
