@@ -1,6 +1,6 @@
 -- Cases of reading, writing out and spelling, computed. In a string `\\` is one `\`.
 use mathlib.Core.Path.{_≡_, refl}
-use Prim.Native.Nat.{ℕ, zero, suc}
+use Prim.Native.Nat.{ℕ}
 use mathlib.Core.List.{List, [], _∷_, _++_}
 use lib.ListN.{length, replicate}
 use Prim.Native.String.{String}
@@ -80,35 +80,9 @@ pub faults :
 unfolding everything
 faults = (refl, refl, refl, refl, refl, refl, refl, refl, refl, refl, refl, refl, refl, refl, refl, refl, refl, refl, refl, refl, refl, refl, refl, refl, refl, refl, refl, refl, refl)
 
--- n copies of some bytes
-abbrev pub times : {A : Type 0} → ℕ → List A → List A
-times zero s = []
-times (suc n) s = s ++ times n s
-
--- a macro of 8 bytes, and one of n + 7 that is written with n + 7
-abbrev pub little : List ℕ
-little = bytes "'a'='b';"
-
+-- a macro of n + 7 bytes that is written with n + 7
 abbrev pub sized : ℕ → List ℕ
 sized n = bytes "'a'='" ++ (replicate n 98 ++ bytes "';")
-
--- 10, 11, 18 and 19 at their bounds
-pub bounds :
-    (shown (readFile (times 96 little)) ≡ (0, 96)) ×
-    (shown (readFile (times 96 little ++ bytes " '")) ≡ (19, 769)) ×
-    (shown (elim (readFile (times 95 little)) [ table ms ↦ readOnto ms little | refusedAt r p ↦ refusedAt r p ]) ≡ (0, 96)) ×
-    (shown (elim (readFile (times 95 little)) [ table ms ↦ readOnto ms (little ++ little) | refusedAt r p ↦ refusedAt r p ]) ≡ (19, 8)) ×
-    (shown (readFile (replicate 32768 32)) ≡ (0, 0)) ×
-    (shown (readFile (replicate 32769 32)) ≡ (10, 32768)) ×
-    (shown (readFile (0 ∷ replicate 32768 32)) ≡ (10, 32768)) ×
-    (shown (readFile (39 ∷ 39 ∷ 0 ∷ [])) ≡ (11, 2)) ×
-    (shown (readFile (bytes "'a'='" ++ (replicate 505 98 ++ bytes "';"))) ≡ (0, 1)) ×
-    (shown (readFile (bytes "'a'='" ++ (replicate 506 98 ++ bytes "';"))) ≡ (18, 512)) ×
-    (shown (readFile (bytes "'a/" ++ (replicate 600 120 ++ bytes "/'='b';"))) ≡ (18, 512)) ×
-    (shown (readFile (bytes "'" ++ (replicate 99 123 ++ bytes "a'"))) ≡ (15, 101)) ×
-    (shown (readFile (bytes "'" ++ (replicate 100 123 ++ bytes "a'"))) ≡ (15, 100))
-unfolding everything
-bounds = (refl, refl, refl, refl, refl, refl, refl, refl, refl, refl, refl, refl, refl)
 
 -- the examples of readings 1 to 18
 pub readings :
