@@ -13,6 +13,7 @@ use Rattle.macros.specs.Read.{Part, Read, readFrom, skips, breaks, partByte}
 use Rattle.macros.specs.Read.Reader.{inside}
 use Rattle.macros.specs.Read.Step.{on}
 use Rattle.macros.specs.Read.Read.{refusedAt}
+use Rattle.scanning.specs.Bytes.{nextByte, nextInCall}
 use Rattle.scanning.specs.declared.Fault.{Fault}
 use Rattle.scanning.specs.declared.Fault.the-variants.{FileTooLong, ZeroByte, Incomplete, BadClass, NoUnit, BadBrace, BadCall, NoElement, MacroTooLong, TooManyMacros}
 use Rattle.scanning.specs.declared.Next.{Next}
@@ -63,6 +64,7 @@ Found s a p (Refused f q) = (q ≤ length s)
 
 -- the next byte behind skips: the machine comes to it in the state it had at p
 pub record Passes (s : List ℕ) (a p : ℕ) (r : Next) : Type 0 where
+  pub exact : r ≡ nextByte s a p
   pub found : Found s a p r
   pub answer : (st : Part) (ms : List Macro) → skips st ≡ true → run s a ms false p st ≡ passed s a ms st r
 
@@ -83,6 +85,7 @@ FoundCall s a p (Refused f q) = (q ≤ length s)
 
 -- the next byte behind skips and spaces: the machine comes to it in the state it had at p, one that passes over spaces
 pub record Calls (s : List ℕ) (a p : ℕ) (r : Next) : Type 0 where
+  pub exact : r ≡ nextInCall s a p
   pub found : FoundCall s a p r
   pub answer : (st : Part) (ms : List Macro) → skips st ≡ true → partByte st 32 ≡ on st → run s a ms false p st ≡ passed s a ms st r
 
