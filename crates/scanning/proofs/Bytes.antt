@@ -11,7 +11,7 @@ use lib.ListN.{length, getD, take, drop, length-take, drop-of-length-le}
 use lib.Seq.{drop-cons, drop-drop, getD-take}
 use borrow.Author.Tests.{ne-eqb, le-ltb, lt-ltb}
 use Rattle.macros.specs.Macro.{pick}
-use Rattle.scanning.specs.Bytes.{Placed, with?, outside, upTo, seen, unended, first, nextByte, spaceless, nextInCall}
+use Rattle.scanning.specs.Bytes.{Placed, with?, outside, upTo, seen, unended, byteHere, first, nextByte, spaceless, nextInCall}
 use Rattle.scanning.specs.Bytes.Placed.{byteAt}
 use Rattle.scanning.specs.Scan.{At, Here, Reached}
 use Rattle.scanning.specs.declared.Fault.{Fault}
@@ -66,6 +66,25 @@ module _ (s : List ℕ) (a p : ℕ) where
   unended-end l m h =
       let n : length s ≡ p = omega arith in
       rw n (simp (le-ltb _ _ h))
+
+  -- the byte at p itself
+  pub stays-late : p ≤ length s → p ≤ a + 513 → 512 < p - a → NoByte MacroTooLong (p - 1) ≡ byteHere s a p
+  unfolding byteHere upTo pick
+  stays-late l m h =
+      let e : length (take (a + 513) s) ≤ p = rw (length-take (a + 513) s) (omega arith) in
+      rw (le-ltb p (length (take (a + 513) s)) e) (sym (unended-late l m h))
+
+  pub stays-end : length s ≤ p → p ≤ length s → p - a ≤ 512 → NoByte Incomplete p ≡ byteHere s a p
+  unfolding byteHere upTo pick
+  stays-end l m h =
+      let e : length (take (a + 513) s) ≤ p = rw (length-take (a + 513) s) (omega arith) in
+      rw (le-ltb p (length (take (a + 513) s)) e) (sym (unended-end l m h))
+
+  pub stays-here : p < length s → p - a ≤ 512 → a ≤ p → Byte (getD s p 0) p ≡ byteHere s a p
+  unfolding byteHere upTo pick
+  stays-here l h m =
+      let e : p < length (take (a + 513) s) = rw (length-take (a + 513) s) (omega arith) in
+      rw (lt-ltb p (length (take (a + 513) s)) e) refl
 
 -- a byte that counts: behind it the others from the next place on
 outside-rest : (xs : List ℕ) (k : Bool) (p : ℕ) (s : List ℕ) {b q : ℕ} {w : List Placed} → drop p s ≡ xs → outside k p xs ≡ byteAt b q ∷ w

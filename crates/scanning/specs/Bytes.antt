@@ -1,9 +1,9 @@
--- The bytes of a macro that count, with their places, and the next of them.
+-- The bytes of a macro that count, with their places, and the next of them: what the functions about single bytes answer.
 use Prim.Native.Nat.{ℕ, suc, _+_, _-_}
 use mathlib.Core.Bool.{Bool, true, false, not, _||_}
 use mathlib.Core.List.{List, [], _∷_}
 use lib.Dec.{eqb, ltb}
-use lib.ListN.{length, take, drop}
+use lib.ListN.{length, getD, take, drop}
 use Rattle.macros.specs.Bounds.{mostMacroBytes}
 use Rattle.macros.specs.Macro.{pick}
 use Rattle.scanning.specs.declared.Fault.the-variants.{Incomplete, MacroTooLong}
@@ -28,15 +28,19 @@ outside k p (b ∷ bs) = with? (not (eqb b 47 || k)) (byteAt b p) (outside (pick
 unfoldable pub upTo : List ℕ → ℕ → List ℕ
 upTo s a = take (a + (mostMacroBytes + 1)) s
 
--- the bytes that count from place p on
+-- the bytes that count from place p on, which is in no skip
 unfoldable pub seen : List ℕ → ℕ → ℕ → List Placed
 seen s a p = outside false p (drop p (upTo s a))
 
--- no byte is left: 18 at the macro's 513th byte, 12 at the file's end
+-- where no byte is left: 18 at the macro's 513th byte, 12 at the file's end
 unfoldable pub unended : List ℕ → ℕ → Next
 unended s a = pick (ltb mostMacroBytes (length s - a)) (Refused MacroTooLong (a + mostMacroBytes)) (Refused Incomplete (length s))
 
--- the first of some bytes, or what it is that there is none
+-- the byte at place p itself, where no skip can begin
+unfoldable pub byteHere : List ℕ → ℕ → ℕ → Next
+byteHere s a p = pick (ltb p (length (upTo s a))) (Byte (getD s p 0) p) (unended s a)
+
+-- the first of some bytes; the refusal r where there is none
 unfoldable pub first : Next → List Placed → Next
 first r [] = r
 first r (byteAt b q ∷ xs) = Byte b q

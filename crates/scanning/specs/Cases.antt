@@ -1,22 +1,15 @@
 -- Cases of the next byte and of numbers, computed.
 use mathlib.Core.Path.{_≡_, refl}
-use Prim.Native.Nat.{ℕ}
 use mathlib.Core.Bool.{true, false}
-use mathlib.Core.List.{List, [], _∷_, _++_}
+use mathlib.Core.List.{_++_}
 use lib.ListN.{replicate}
-use Prim.Native.String.{String}
-use Prim.Native.String as Str
-use Prim.Native.Char.{code}
+use Rattle.macros.specs.Cases.{bytes}
 use Rattle.macros.specs.Macro.{pick, within, digit}
-use Rattle.scanning.specs.Bytes.{with?, outside, upTo, seen, unended, first, nextByte, spaceless, nextInCall}
+use Rattle.scanning.specs.Bytes.{with?, outside, upTo, seen, unended, byteHere, first, nextByte, spaceless, nextInCall}
 use Rattle.scanning.specs.Number.{most, counting, leading, behind, valueFrom, any?, numbered, numberFrom}
 use Rattle.scanning.specs.declared.Fault.the-variants.{Incomplete, MacroTooLong}
 use Rattle.scanning.specs.declared.Next.the-variants.{Byte, Refused as NoByte}
 use Rattle.scanning.specs.declared.Number.the-variants.{Got, Refused as NoNumber}
-
-abbrev bytes : String → List ℕ
-bytes Str.[] = []
-bytes (Str._∷_ c s) = code c ∷ bytes s
 
 pub next-cases :
     -- a skip; two; one that is not closed; the file's end
@@ -31,13 +24,17 @@ pub next-cases :
     (nextByte (replicate 513 97) 0 513 ≡ NoByte MacroTooLong 512) ×
     -- a skip that goes on past the 513th byte, of a macro that began at 2
     (nextByte (bytes ";;'/" ++ replicate 600 97) 2 3 ≡ NoByte MacroTooLong 514) ×
+    -- where no skip can begin
+    (byteHere (bytes "'[/a]'") 0 2 ≡ Byte 47 2) ×
+    (byteHere (bytes "'[") 0 2 ≡ NoByte Incomplete 2) ×
+    (byteHere (replicate 513 97) 0 513 ≡ NoByte MacroTooLong 512) ×
     -- in a call: spaces, and a skip between them
     (nextByte (bytes "&(  a") 0 2 ≡ Byte 32 2) ×
     (nextInCall (bytes "&(  a") 0 2 ≡ Byte 97 4) ×
     (nextInCall (bytes "&( / / a") 0 2 ≡ Byte 97 7) ×
     (nextInCall (bytes "&(  ") 0 2 ≡ NoByte Incomplete 4)
-unfolding pick with? outside upTo seen unended first nextByte spaceless nextInCall
-next-cases = (refl, refl, refl, refl, refl, refl, refl, refl, refl, refl, refl, refl, refl)
+unfolding pick with? outside upTo seen unended byteHere first nextByte spaceless nextInCall
+next-cases = (refl, refl, refl, refl, refl, refl, refl, refl, refl, refl, refl, refl, refl, refl, refl, refl)
 
 pub number-cases :
     -- spaces in a call; none elsewhere; a skip between digits; leading zeros

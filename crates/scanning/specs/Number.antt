@@ -1,4 +1,4 @@
--- Numbers of any length: what a run of digits does in every state that takes them.
+-- Numbers of any length, and what a run of digits does in every state that takes them.
 use Prim.Native.Nat.{ℕ, _+_, _-_, _*_, _≤_}
 use mathlib.Core.Path.{_≡_}
 use mathlib.Core.Bool.{Bool, true, false}
@@ -54,11 +54,12 @@ unfoldable pub valueFrom : ℕ → List ℕ → ℕ
 valueFrom v [] = v
 valueFrom v (b ∷ bs) = valueFrom (v * 10 + (b - 48)) bs
 
+-- whether there is a digit
 unfoldable pub any? : List ℕ → Bool
 any? [] = false
 any? (b ∷ bs) = true
 
--- the digits' number, whether there is one, and the first byte behind; or what it is that there is none
+-- the value of the digits, whether there is one, and the byte behind them; the refusal r where there is none
 unfoldable pub numbered : Next → List ℕ → List Placed → Number
 numbered r bs [] = numberFault r
 numbered r bs (byteAt b q ∷ xs) = Got (most (valueFrom 0 bs)) (any? bs) b q
