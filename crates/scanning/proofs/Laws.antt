@@ -18,6 +18,8 @@ use Rattle.macros.specs.Read.Step.{on, stop}
 use Rattle.macros.specs.Read.Reader.{inside}
 use Rattle.macros.specs.Read.Next.{go, refuse}
 use Rattle.macros.specs.Read.Read.{refusedAt}
+use Rattle.scanning.specs.Bytes.{seen, spaceless}
+use Rattle.scanning.proofs.Bytes.{in-call-none, in-call-here, in-call-space}
 use Rattle.scanning.specs.Scan.{run, At, Here, Reached, Passes, Calls, wrongCall}
 use Rattle.scanning.specs.declared.Fault.{Fault}
 use Rattle.scanning.specs.declared.Next.{Next as CodeNext}
@@ -142,15 +144,24 @@ otherwise-wrong st b e = simp (ne-eqb _ _ e) (stop-pick st (breaks b))
 
 -- IN A CALL
 
--- from p the machine comes to v in every state that passes over spaces
-abbrev pub Spaces : List ℕ → ℕ → ℕ → ℕ → Type 0
-Spaces s a p v = (st : Part) (ms : List Macro) → skips st ≡ true → partByte st 32 ≡ on st → run s a ms false p st ≡ run s a ms false v st
+-- from p to v there are skips and spaces alone: the machine comes to v in every state that passes over spaces
+pub record Spaces (s : List ℕ) (a p v : ℕ) : Type 0 where
+  pub same : spaceless (seen s a p) ≡ spaceless (seen s a v)
+  pub comes : (st : Part) (ms : List Macro) → skips st ≡ true → partByte st 32 ≡ on st → run s a ms false p st ≡ run s a ms false v st
+
+pub no-spaces : (s : List ℕ) (a p : ℕ) → Spaces s a p p
+no-spaces s a p = record { same = refl; comes = λ st ms i j. refl }
 
 module _ {s : List ℕ} {a p v : ℕ} (g : Spaces s a p v) (l : p ≤ v) {r : CodeNext} (z : Passes s a v r) where
   pub calls-fault : {f : Fault} {q : ℕ} → r ≡ NoByte f q → Calls s a p r
   calls-fault {f} {q} e =
       let h : Passes s a v (NoByte f q) = rw e at z in
-      rw e (record { found = h .found; answer = λ st ms i j. g st ms i j ∙ h .answer st ms i })
+      rw e
+      (record {
+        exact = in-call-none s a p v (g .same) (h .exact);
+        found = h .found;
+        answer = λ st ms i j. g .comes st ms i j ∙ h .answer st ms i;
+      })
 
   module _ {b q : ℕ} (e : r ≡ Byte b q) where
     pub in-call : Passes s a v (Byte b q)
@@ -159,9 +170,14 @@ module _ {s : List ℕ} {a p v : ℕ} (g : Spaces s a p v) (l : p ≤ v) {r : Co
     pub calls-byte : (b ≡ 32 → ⊥) → Calls s a p (Byte b q)
     calls-byte f =
         record {
+          exact = in-call-here s a p v (g .same) (in-call .exact) f;
           found = (omega (arith, in-call .found .0), in-call .found .1, f);
-          answer = λ st ms i j. g st ms i j ∙ in-call .answer st ms i;
+          answer = λ st ms i j. g .comes st ms i j ∙ in-call .answer st ms i;
         }
 
     pub calls-space : b ≡ 32 → Spaces s a p (q + 1)
-    calls-space f st ms i j = g st ms i j ∙ (in-call .answer st ms i ∙ here-on (in-call .found .1) ms st st (rw f j))
+    calls-space f =
+        record {
+          same = in-call-space s a p v (g .same) (in-call .exact) f;
+          comes = λ st ms i j. g .comes st ms i j ∙ (in-call .answer st ms i ∙ here-on (in-call .found .1) ms st st (rw f j));
+        }

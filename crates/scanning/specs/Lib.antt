@@ -1,2 +1,4 @@
+pub mod Bytes
 pub mod Scan
 pub mod Number
+pub mod Cases

@@ -13,6 +13,7 @@ use Rattle.macros.specs.Read.{Part, Read, readFrom, skips, breaks, partByte}
 use Rattle.macros.specs.Read.Reader.{inside}
 use Rattle.macros.specs.Read.Step.{on}
 use Rattle.macros.specs.Read.Read.{refusedAt}
+use Rattle.scanning.specs.Bytes.{byteHere, nextByte, nextInCall}
 use Rattle.scanning.specs.declared.Fault.{Fault}
 use Rattle.scanning.specs.declared.Fault.the-variants.{FileTooLong, ZeroByte, Incomplete, BadClass, NoUnit, BadBrace, BadCall, NoElement, MacroTooLong, TooManyMacros}
 use Rattle.scanning.specs.declared.Next.{Next}
@@ -61,8 +62,9 @@ abbrev pub Found : List ℕ → ℕ → ℕ → Next → Type 0
 Found s a p (Byte b q) = (p ≤ q) × Here s a q b
 Found s a p (Refused f q) = (q ≤ length s)
 
--- the next byte behind skips: the machine comes to it in the state it had at p
+-- the next byte behind skips, as defined; and the machine comes to it in the state it had at p
 pub record Passes (s : List ℕ) (a p : ℕ) (r : Next) : Type 0 where
+  pub exact : r ≡ nextByte s a p
   pub found : Found s a p r
   pub answer : (st : Part) (ms : List Macro) → skips st ≡ true → run s a ms false p st ≡ passed s a ms st r
 
@@ -71,8 +73,9 @@ abbrev pub FoundThere : List ℕ → ℕ → ℕ → Next → Type 0
 FoundThere s a p (Byte b q) = (q ≡ p) × At s a p b
 FoundThere s a p (Refused f q) = (q ≤ length s)
 
--- the byte at p itself, in any state; a refusal is that of every state
+-- the byte at p itself, as defined, in any state; a refusal is that of every state
 pub record Stays (s : List ℕ) (a p : ℕ) (r : Next) : Type 0 where
+  pub exact : r ≡ byteHere s a p
   pub found : FoundThere s a p r
   pub answer : (st : Part) (ms : List Macro) → run s a ms false p st ≡ passed s a ms st r
 
@@ -81,8 +84,9 @@ abbrev pub FoundCall : List ℕ → ℕ → ℕ → Next → Type 0
 FoundCall s a p (Byte b q) = (p ≤ q) × Here s a q b × (b ≡ 32 → ⊥)
 FoundCall s a p (Refused f q) = (q ≤ length s)
 
--- the next byte behind skips and spaces: the machine comes to it in the state it had at p, one that passes over spaces
+-- the next byte behind skips and spaces, as defined; and the machine comes to it in the state it had at p, one that passes over spaces
 pub record Calls (s : List ℕ) (a p : ℕ) (r : Next) : Type 0 where
+  pub exact : r ≡ nextInCall s a p
   pub found : FoundCall s a p r
   pub answer : (st : Part) (ms : List Macro) → skips st ≡ true → partByte st 32 ≡ on st → run s a ms false p st ≡ passed s a ms st r
 

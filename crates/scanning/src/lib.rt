@@ -1,5 +1,5 @@
 // What every part of the macro-file reader is made of: the next byte of a macro, and numbers.
-// What each answer says of the machine of the definitions stands in specs/.
+// Each answer is defined in specs/, from the file's bytes alone; there also stands what it says of the machine of the definitions.
 pub mod scan;
 
 // The bytes from a macro's first quote to its `;`, both counted.

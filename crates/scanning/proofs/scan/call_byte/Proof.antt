@@ -1,9 +1,8 @@
-use mathlib.Core.Path.{refl}
 use Prim.Native.Nat.{_≤_, _-_}
 use native.Mathlib.Omega.{arith}
 use lib.ListN.{length}
 use Rattle.scanning.specs.Scan.{Reached}
-use Rattle.scanning.proofs.Laws.{Spaces, calls-fault, in-call, calls-byte, calls-space, reached-behind}
+use Rattle.scanning.proofs.Laws.{Spaces, no-spaces, calls-fault, in-call, calls-byte, calls-space, reached-behind}
 use Rattle.scanning.proofs.scan.call_byte.Statement.{statement}
 use Rattle.scanning.proofs.scan.call_byte.Tie as tie
 
@@ -14,7 +13,7 @@ abbrev μ-loop : tie.MeasureT-loop
 μ-loop s a first at₀ at = length s - at
 
 loop-holds : tie.Need-loop-holds Inv-loop μ-loop
-loop-holds c = (omega arith, (omega arith, omega arith, omega arith), λ st ms i j. refl)
+loop-holds c = (omega arith, (omega arith, omega arith, omega arith), no-spaces _ _ _)
 
 next-byte-requires : tie.Need-next-byte-requires Inv-loop μ-loop
 next-byte-requires c κs = c .loop .inv .1

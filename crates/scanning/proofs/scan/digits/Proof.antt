@@ -6,14 +6,13 @@ use Prim.Native.Nat.{_≤_, _-_}
 use native.Mathlib.Omega.{arith}
 use lib.ListN.{length}
 use Rattle.scanning.specs.Scan.{Reached}
-use Rattle.scanning.specs.Number.{Digits}
 use Rattle.scanning.proofs.Laws.{reached-behind}
-use Rattle.scanning.proofs.Numbers.{digits-none, counts-fault, counts-end, byte-found, digits-space, digits-next}
+use Rattle.scanning.proofs.Numbers.{Sofar, digits-none, counts-fault, counts-end, byte-found, digits-space, digits-next}
 use Rattle.scanning.proofs.scan.digits.Statement.{statement}
 use Rattle.scanning.proofs.scan.digits.Tie as tie
 
 abbrev Inv-loop : tie.InvT-loop
-Inv-loop s a first spaces at₀ n₀ some₀ at n some = (first ≤ at) × Reached s a at × (n ≤ 1000000000) × Digits s a first spaces at n some
+Inv-loop s a first spaces at₀ n₀ some₀ at n some = (first ≤ at) × Reached s a at × (n ≤ 1000000000) × Sofar s a first spaces at n some
 
 abbrev μ-loop : tie.MeasureT-loop
 μ-loop s a first spaces at₀ n₀ some₀ at n some = length s - at
