@@ -12,7 +12,7 @@ use borrow.Author.Tests.{eq-eqb, ne-eqb, not-true, not-false}
 use Rattle.macros.specs.Macro.{among, pick}
 use Rattle.macros.specs.Write.{byte, escapeByte}
 use lib.ListN.{length, take, drop, getD, set, length-append, drop-of-length-le}
-use lib.Seq.{take-all, take-suc, take-suc-set, drop-cons}
+use lib.Seq.{take-suc, take-suc-set, drop-cons}
 use Rattle.writing.specs.Puts.{shortText, Ends, Puts, Rest}
 use Rattle.writing.specs.declared.put.Short.{Short}
 use Rattle.writing.specs.declared.put.Short.the-variants.{Nothing, One, Two, Three, Four}

@@ -8,7 +8,8 @@ use crate::put::put;
 use crate::put::put_number;
 use crate::put::wide;
 ghost use mathlib.Core.Path.{_≡_};
-ghost use Prim.Native.Nat.{_≤_, _<_};
+ghost use mathlib.Core.List.{_∷_};
+ghost use Prim.Native.Nat.{_+_, _%_, _≤_, _<_};
 ghost use lib.Dec.{ltb};
 ghost use lib.ListN.{length, getD};
 ghost use Rattle.macros.specs.Macro.{pick, among};
@@ -183,6 +184,20 @@ fn put_action(file: &mut [u8], n: usize, t: &[u8]) -> usize
     put_call(file, m, t)
 }
 
+// The bytes that a call takes that stores or sets; `size` is the length of its text if it has one.
+fn call_size(code: u8, size: u8) -> usize
+    ensures { λ r. ⌜ r ≡ pick (ltb code 72) 4 (pick (ltb code 80) (4 + size + size % 2) 6) ⌝ }
+{
+    if code < 72 {
+        return 4;
+    }
+    if code < 80 {
+        let text = size as usize;
+        return 4 + text + text % 2;
+    }
+    6
+}
+
 // The bytes that the action takes.
 fn action_size(t: &[u8]) -> usize
     requires { ⌜ Held (now t) ⌝ }
@@ -192,22 +207,15 @@ fn action_size(t: &[u8]) -> usize
     if code < 64 {
         return 2;
     }
-    if code < 72 {
-        return 4;
-    }
-    if code < 80 {
-        let size = t[3] as usize;
-        return 4 + size + size % 2;
-    }
-    6
+    call_size(code, t[3])
 }
 
-// The actions of a replacement, or the commands.
+// A quote and the actions of a replacement, or the commands.
 pub(crate) fn put_actions(file: &mut [u8], start: usize, items: &[u8]) -> usize
     requires { ⌜ (length (now file) ≤ 32768) × Whole (now items) ⌝ }
-    ensures { λ r. ⌜ Puts start (actionsText 0 (now (items .entry))) (now (file .entry)) (now (file .exit)) r ⌝ }
+    ensures { λ r. ⌜ Puts start (39 ∷ actionsText 0 (now (items .entry))) (now (file .entry)) (now (file .exit)) r ⌝ }
 {
-    let mut n = start;
+    let mut n = put(file, start, Short::One(b'\''));
     let mut at = 0;
     while at < items.len() {
         let t = &items[at..];

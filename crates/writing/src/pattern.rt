@@ -6,6 +6,7 @@ use crate::put::in_list;
 use crate::put::marked;
 use crate::put::put;
 ghost use mathlib.Core.Path.{_≡_};
+ghost use mathlib.Core.List.{_∷_};
 ghost use Prim.Native.Nat.{_%_, _≤_, _<_};
 ghost use lib.Dec.{ltb};
 ghost use lib.ListN.{length};
@@ -108,12 +109,12 @@ fn tail(held: u8, code: u8) -> Short
     closure(held)
 }
 
-// The items of a pattern.
-pub(crate) fn put_pattern(file: &mut [u8], first: usize, items: &[u8]) -> usize
+// A quote and the items of a pattern.
+pub(crate) fn put_pattern(file: &mut [u8], start: usize, items: &[u8]) -> usize
     requires { ⌜ (length (now file) ≤ 32768) × (length (now items) % 2 ≡ 0) × (length (now items) ≤ 1024) ⌝ }
-    ensures { λ r. ⌜ Puts first (patternText 0 (now (items .entry))) (now (file .entry)) (now (file .exit)) r ⌝ }
+    ensures { λ r. ⌜ Puts start (39 ∷ patternText 0 (now (items .entry))) (now (file .entry)) (now (file .exit)) r ⌝ }
 {
-    let mut n = first;
+    let mut n = put(file, start, Short::One(b'\''));
     let mut held: u8 = 0;
     let mut at = 0;
     while at < items.len() {

@@ -1,4 +1,5 @@
 // Puts bytes into the file, up to its end.
+// A number of bytes past the file's end says that they do not all fit: it is handed on, and no more is put.
 ghost use mathlib.Core.Path.{_≡_};
 ghost use mathlib.Core.List.{[], _∷_, _++_};
 ghost use Prim.Native.Nat.{_+_, _≤_, _<_};
@@ -41,7 +42,7 @@ fn bytes_of(s: Short) -> [u8; 4]
     }
 }
 
-// The number of bytes written when some are put behind the first n: past the file's end if n is.
+// The number of bytes when some are put behind the first n, past the end of the room if n is.
 fn end_of(room: usize, n: usize, size: usize) -> usize
     requires { ⌜ (room ≤ 32768) × (size ≤ 4) ⌝ }
     ensures { λ r. ⌜ Ends room n size r ⌝ }
@@ -52,7 +53,7 @@ fn end_of(room: usize, n: usize, size: usize) -> usize
     n + size
 }
 
-// Puts bytes behind the first n of the file; nothing if they would pass its end.
+// Puts bytes behind the first n of the file.
 pub(crate) fn put(file: &mut [u8], n: usize, s: Short) -> usize
     requires { ⌜ length (now file) ≤ 32768 ⌝ }
     ensures { λ r. ⌜ Puts n (shortText s) (now (file .entry)) (now (file .exit)) r ⌝ }

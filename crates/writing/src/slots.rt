@@ -38,9 +38,8 @@ fn put_left(file: &mut [u8], n: usize, slot: &[u8]) -> usize
 {
     let e = 8 + size_at(slot, 2);
     let sign = symbol(slot[0]);
-    let a = put(file, n, Short::One(b'\''));
-    let b = put_pattern(file, a, &slot[8..e]);
-    put(file, b, Short::Two(b'\'', sign))
+    let m = put_pattern(file, n, &slot[8..e]);
+    put(file, m, Short::Two(b'\'', sign))
 }
 
 // The replacement in quotes, the commands and `;`.
@@ -51,11 +50,9 @@ fn put_right(file: &mut [u8], n: usize, slot: &[u8]) -> usize
     let p = 8 + size_at(slot, 2);
     let r = p + size_at(slot, 4);
     let e = r + size_at(slot, 6);
-    let a = put(file, n, Short::One(b'\''));
-    let b = put_actions(file, a, &slot[p..r]);
-    let c = put(file, b, Short::One(b'\''));
-    let d = put_actions(file, c, &slot[r..e]);
-    put(file, d, Short::One(b';'))
+    let a = put_actions(file, n, &slot[p..r]);
+    let b = put_actions(file, a, &slot[r..e]);
+    put(file, b, Short::One(b';'))
 }
 
 // The macro of a slot, from its first quote to its `;`.
@@ -88,7 +85,7 @@ fn fault_of(start: usize) -> Fault
     Fault::FileTooLong
 }
 
-// The answer for a macro that ends at n, behind its line feed at `end`.
+// The answer for a macro that ends at n, with its line feed at `end`.
 fn answer_of(start: usize, limit: usize, n: usize, end: usize) -> Answer
     ensures { λ r. ⌜ r ≡ answerOf start limit n end ⌝ }
 {
@@ -101,7 +98,7 @@ fn answer_of(start: usize, limit: usize, n: usize, end: usize) -> Answer
     Answer::Written(end)
 }
 
-// One macro with its line feed.
+// One macro with its line feed; a macro that does not fit is refused, wherever its line feed goes.
 fn write_macro(file: &mut [u8], start: usize, slot: &[u8]) -> Answer
     requires { ⌜ (start ≤ 32768) × (length (now file) ≡ 32768) × Parts (now slot) ⌝ }
     ensures { λ r. ⌜ Adds (now (file .entry)) start (slotText (now (slot .entry))) (now (file .exit)) r ⌝ }

@@ -15,7 +15,7 @@ unfolding shortText endText pick
 returns c = simp (eq-eqb _ _ (c .if1 .taken))
 
 decimal-requires : tie.Need-decimal-requires
-decimal-requires c κs = search needs
+decimal-requires c κs = tt
 
 behind-requires : tie.Need-behind-requires
 behind-requires c κs = search needs
@@ -25,7 +25,7 @@ unfolding endText pick
 returns-2 c = simp (ne-eqb _ _ (c .before .before .before .if1 .left), eq-eqb _ _ (c .before .before .if2 .taken)) (c .behind .ensures ∙ ap (λ (l : List ℕ). l ++ (125 ∷ [])) (c .before .decimal .ensures .0))
 
 name-requires : tie.Need-name-requires
-name-requires c κs = search needs
+name-requires c κs = tt
 
 behind-requires-2 : tie.Need-behind-requires-2
 behind-requires-2 c κs = search needs

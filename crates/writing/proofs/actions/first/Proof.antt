@@ -11,7 +11,7 @@ use Rattle.writing.proofs.actions.first.Statement.{statement}
 use Rattle.writing.proofs.actions.first.Tie as tie
 
 decimal-requires : tie.Need-decimal-requires
-decimal-requires c κs = search needs
+decimal-requires c κs = tt
 
 behind-requires : tie.Need-behind-requires
 behind-requires c κs = search needs
@@ -21,7 +21,7 @@ unfolding firstText pick
 returns c = simp (lt-ltb _ _ (c .before .before .if1 .taken)) (c .behind .ensures ∙ ap (λ (l : List ℕ). l ++ (44 ∷ [])) (c .before .decimal .ensures .0))
 
 name-requires : tie.Need-name-requires
-name-requires c κs = search needs
+name-requires c κs = tt
 
 behind-requires-2 : tie.Need-behind-requires-2
 behind-requires-2 c κs = search needs
@@ -31,7 +31,7 @@ unfolding firstText pick
 returns-2 c = simp (le-ltb _ _ (c .before .before .before .if1 .left), lt-ltb _ _ (c .before .before .if2 .taken)) (c .behind2 .ensures ∙ ap (λ (l : List ℕ). l ++ (58 ∷ [])) (c .before .name .ensures .0))
 
 set-sign-requires : tie.Need-set-sign-requires
-set-sign-requires c κs = search needs
+set-sign-requires c κs = tt
 
 returns-3 : tie.Need-returns-3
 unfolding shortText firstText pick

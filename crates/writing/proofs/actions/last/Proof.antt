@@ -11,7 +11,7 @@ use Rattle.writing.proofs.actions.last.Statement.{statement}
 use Rattle.writing.proofs.actions.last.Tie as tie
 
 name-requires : tie.Need-name-requires
-name-requires c κs = search needs
+name-requires c κs = tt
 
 behind-requires : tie.Need-behind-requires
 behind-requires c κs = search needs

@@ -6,12 +6,11 @@ use Rattle.macros.specs.Macro.{pick}
 use Rattle.writing.specs.Items.{openText}
 use Rattle.writing.specs.Puts.{shortText}
 use borrow.Author.Tests.{eq-eqb, ne-eqb}
-use borrow.Author.Needs.{needs}
 use Rattle.writing.proofs.actions.opening.Statement.{statement}
 use Rattle.writing.proofs.actions.opening.Tie as tie
 
 literal-requires : tie.Need-literal-requires
-literal-requires c κs = search needs
+literal-requires c κs = tt
 
 returns : tie.Need-returns
 unfolding openText pick
@@ -22,7 +21,7 @@ unfolding shortText openText pick
 returns-2 c = simp (ne-eqb _ _ (c .before .if1 .left), eq-eqb _ _ (c .if2 .taken))
 
 call-byte-requires : tie.Need-call-byte-requires
-call-byte-requires c κs = search needs
+call-byte-requires c κs = tt
 
 returns-3 : tie.Need-returns-3
 unfolding shortText openText pick

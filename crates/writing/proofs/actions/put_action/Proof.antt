@@ -6,7 +6,6 @@ use denote.Ref.{now}
 use Rattle.macros.specs.Macro.{pick}
 use borrow.Author.Tests.{lt-ltb, le-ltb}
 use native.Mathlib.Omega.{arith}
-use borrow.Author.Needs.{needs}
 use Rattle.writing.proofs.actions.put_action.Statement.{statement}
 use Rattle.writing.proofs.actions.put_action.Tie as tie
 
@@ -17,29 +16,29 @@ shared-slice-read-b : tie.Need-shared-slice-read-b
 shared-slice-read-b c = omega (arith, some-size (now (c .before .before .before .before .args .t)))
 
 opening-requires : tie.Need-opening-requires
-opening-requires c κs = search needs
+opening-requires c κs = tt
 
 put-requires : tie.Need-put-requires
-put-requires c κs = search needs
+put-requires c κs = c .before .before .before .before .before .before .pre .0
 
 ending-requires : tie.Need-ending-requires
-ending-requires c κs = search needs
+ending-requires c κs = tt
 
 put-requires-2 : tie.Need-put-requires-2
-put-requires-2 c κs = search needs
+put-requires-2 c κs = omega (arith, c .before .before .before .before .before .before .before .before .before .before .before .before .pre .0, c .before .before .before .before .before .put .kept .0)
 
 same-length : tie.Need-same-length
-same-length c = search needs
+same-length c = omega (arith, c .before .before .before .before .before .before .before .before .put .kept .0, c .before .before .put2 .kept .0)
 
 returns : tie.Need-returns
 unfolding actionText pick
 returns c = simp (lt-ltb _ _ (c .before .before .before .before .before .if1 .taken)) (also (by-bytes (c .before .before .before .before .before .before .before .before .before .opening .ensures) (c .before .before .before .before .before .before .before .before .put .ensures)) (by-bytes (c .before .before .before .ending .ensures) (c .before .before .put2 .ensures)))
 
 put-call-requires : tie.Need-put-call-requires
-put-call-requires c κs = search needs
+put-call-requires c κs = (omega (arith, c .before .before .before .before .before .before .before .before .before .before .before .pre .0, c .before .before .before .before .put .kept .0), c .before .if1 .left, c .before .before .before .before .before .before .before .before .before .before .before .pre .1)
 
 same-length-2 : tie.Need-same-length-2
-same-length-2 c = search needs
+same-length-2 c = omega (arith, c .before .before .before .before .before .before .before .put .kept .0, c .before .before .put-call .kept .0)
 
 returns-2 : tie.Need-returns-2
 unfolding actionText pick

@@ -4,7 +4,6 @@ use Rattle.writing.proofs.Putting.{also, by-bytes}
 use Rattle.writing.specs.Items.{callText}
 use denote.Ref.{now}
 use native.Mathlib.Omega.{arith}
-use borrow.Author.Needs.{needs}
 use Rattle.writing.proofs.actions.put_call.Statement.{statement}
 use Rattle.writing.proofs.actions.put_call.Tie as tie
 
@@ -18,22 +17,22 @@ shared-slice-read-first : tie.Need-shared-slice-read-first
 shared-slice-read-first c = omega (arith, size-call (now (c .before .before .before .before .before .before .args .t)) (c .before .before .before .before .before .before .pre .1))
 
 first-requires : tie.Need-first-requires
-first-requires c κs = search needs
+first-requires c κs = tt
 
 put-requires : tie.Need-put-requires
-put-requires c κs = search needs
+put-requires c κs = c .before .before .before .before .before .before .before .pre .0
 
 put-middle-requires : tie.Need-put-middle-requires
-put-middle-requires c κs = search needs
+put-middle-requires c κs = (omega (arith, c .before .before .before .before .before .before .before .before .before .before .before .pre .0, c .before .before .before .put .kept .0), c .before .before .before .before .before .before .before .before .before .before .before .pre .1, c .before .before .before .before .before .before .before .before .before .before .before .pre .2)
 
 last-requires : tie.Need-last-requires
-last-requires c κs = search needs
+last-requires c κs = tt
 
 put-requires-2 : tie.Need-put-requires-2
-put-requires-2 c κs = search needs
+put-requires-2 c κs = omega (arith, c .before .before .before .before .before .before .before .before .before .before .before .before .before .before .before .before .pre .0, c .before .before .before .before .before .before .before .before .put .kept .0, c .before .before .before .before .put-middle .kept .0)
 
 same-length : tie.Need-same-length
-same-length c = search needs
+same-length c = omega (arith, c .before .before .before .before .before .before .before .before .before .before .before .put .kept .0, c .before .before .before .before .before .before .before .put-middle .kept .0, c .before .before .put2 .kept .0)
 
 returns : tie.Need-returns
 unfolding callText

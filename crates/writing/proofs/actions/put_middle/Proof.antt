@@ -8,7 +8,6 @@ use denote.Ref.{now}
 use Rattle.macros.specs.Macro.{pick}
 use borrow.Author.Tests.{lt-ltb, le-ltb}
 use native.Mathlib.Omega.{arith}
-use borrow.Author.Needs.{needs}
 use Rattle.writing.proofs.actions.put_middle.Statement.{statement}
 use Rattle.writing.proofs.actions.put_middle.Tie as tie
 
@@ -29,19 +28,19 @@ add-end : tie.Need-add-end
 add-end c = omega (arith, c .before .before .before .before .shared-slice-known .given 3)
 
 sub-put-text : tie.Need-sub-put-text
-sub-put-text c = search needs
+sub-put-text c = omega arith
 
 part-put-text-start : tie.Need-part-put-text-start
-part-put-text-start c = search needs
+part-put-text-start c = omega arith
 
 part-put-text-end : tie.Need-part-put-text-end
 part-put-text-end c = omega (arith, size-text (now (c .before .before .before .before .before .before .before .args .t)) (c .before .before .before .if1 .left) (c .before .before .if2 .taken))
 
 put-text-requires : tie.Need-put-text-requires
-put-text-requires c κs = search needs
+put-text-requires c κs = c .before .before .before .before .before .before .before .before .pre .0
 
 same-length : tie.Need-same-length
-same-length c = search needs
+same-length c = omega (arith, c .before .before .put-text .kept .0)
 
 returns-2 : tie.Need-returns-2
 unfolding middleText pick
@@ -51,10 +50,10 @@ number-in-requires : tie.Need-number-in-requires
 number-in-requires c κs = omega (arith, size-set (now (c .before .before .before .before .before .before .args .t)) (c .before .if2 .left))
 
 put-number-requires : tie.Need-put-number-requires
-put-number-requires c κs = search needs
+put-number-requires c κs = c .before .before .before .before .before .before .before .pre .0
 
 same-length-2 : tie.Need-same-length-2
-same-length-2 c = search needs
+same-length-2 c = omega (arith, c .before .before .put-number .kept .0)
 
 returns-3 : tie.Need-returns-3
 unfolding middleText pick

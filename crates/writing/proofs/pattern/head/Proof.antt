@@ -6,19 +6,18 @@ use Rattle.writing.specs.Items.{headText}
 use Rattle.writing.specs.Puts.{shortText}
 use Rattle.macros.specs.Macro.{pick}
 use borrow.Author.Tests.{lt-ltb, le-ltb}
-use borrow.Author.Needs.{needs}
 use Rattle.writing.proofs.pattern.head.Statement.{statement}
 use Rattle.writing.proofs.pattern.head.Tie as tie
 
 brace-requires : tie.Need-brace-requires
-brace-requires c κs = search needs
+brace-requires c κs = tt
 
 returns : tie.Need-returns
 unfolding shortText headText pick
 returns c = simp (lt-ltb _ _ (c .before .if1 .taken)) (ap (λ (x : ℕ). x ∷ []) (c .brace .ensures))
 
 unit-requires : tie.Need-unit-requires
-unit-requires c κs = search needs
+unit-requires c κs = tt
 
 returns-2 : tie.Need-returns-2
 unfolding headText pick
@@ -33,7 +32,7 @@ unfolding shortText headText pick
 returns-4 c = simp (le-ltb _ _ (c .before .before .before .if1 .left), le-ltb _ _ (c .before .before .if2 .left), le-ltb _ _ (c .before .if3 .left), lt-ltb _ _ (c .if4 .taken))
 
 member-requires : tie.Need-member-requires
-member-requires c κs = search needs
+member-requires c κs = tt
 
 returns-5 : tie.Need-returns-5
 unfolding headText pick

@@ -13,10 +13,10 @@ slice-aggregate-in-list : tie.Need-slice-aggregate-in-list
 slice-aggregate-in-list c = search needs
 
 in-list-requires : tie.Need-in-list-requires
-in-list-requires c κs = search needs
+in-list-requires c κs = tt
 
 marked-requires : tie.Need-marked-requires
-marked-requires c κs = search needs
+marked-requires c κs = tt
 
 returns : tie.Need-returns
 unfolding memberText classMarks pick

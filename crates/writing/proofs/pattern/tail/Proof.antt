@@ -3,7 +3,6 @@ use Rattle.writing.specs.Items.{tailText}
 use Rattle.writing.specs.Puts.{shortText}
 use Rattle.macros.specs.Macro.{pick}
 use borrow.Author.Tests.{lt-ltb, le-ltb}
-use borrow.Author.Needs.{needs}
 use Rattle.writing.proofs.pattern.tail.Statement.{statement}
 use Rattle.writing.proofs.pattern.tail.Tie as tie
 
@@ -12,7 +11,7 @@ unfolding shortText tailText pick
 returns c = simp (lt-ltb _ _ (c .if1 .taken))
 
 closure-requires : tie.Need-closure-requires
-closure-requires c κs = search needs
+closure-requires c κs = tt
 
 returns-2 : tie.Need-returns-2
 unfolding tailText pick
@@ -23,7 +22,7 @@ unfolding shortText tailText pick
 returns-3 c = simp (le-ltb _ _ (c .before .before .if1 .left), le-ltb _ _ (c .before .if2 .left), lt-ltb _ _ (c .if3 .taken))
 
 closure-requires-2 : tie.Need-closure-requires-2
-closure-requires-2 c κs = search needs
+closure-requires-2 c κs = tt
 
 returns-4 : tie.Need-returns-4
 unfolding tailText pick

@@ -16,17 +16,17 @@ slice-aggregate-in-list : tie.Need-slice-aggregate-in-list
 slice-aggregate-in-list c = search needs
 
 in-list-requires : tie.Need-in-list-requires
-in-list-requires c κs = search needs
+in-list-requires c κs = tt
 
 marked-requires : tie.Need-marked-requires
-marked-requires c κs = search needs
+marked-requires c κs = tt
 
 returns : tie.Need-returns
 unfolding unitText patternMarks pick
 returns c = simp (lt-ltb _ _ (c .before .before .before .if1 .taken)) (by-mark _ _ (c .marked .ensures) (c .before .in-list .ensures))
 
 decimal-requires : tie.Need-decimal-requires
-decimal-requires c κs = search needs
+decimal-requires c κs = tt
 
 ahead-requires : tie.Need-ahead-requires
 ahead-requires c κs = search needs

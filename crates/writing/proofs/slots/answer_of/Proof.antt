@@ -5,12 +5,11 @@ use Rattle.writing.specs.Slots.{answerOf}
 use mathlib.Core.Path.{ap}
 use Rattle.macros.specs.Macro.{pick}
 use borrow.Author.Tests.{lt-ltb, le-ltb}
-use borrow.Author.Needs.{needs}
 use Rattle.writing.proofs.slots.answer_of.Statement.{statement}
 use Rattle.writing.proofs.slots.answer_of.Tie as tie
 
 fault-of-requires : tie.Need-fault-of-requires
-fault-of-requires c κs = search needs
+fault-of-requires c κs = tt
 
 returns : tie.Need-returns
 unfolding answerOf pick

@@ -1,18 +1,18 @@
 -- Assumes nothing.
+use native.Mathlib.Omega.{arith}
 use Rattle.writing.proofs.Putting.{also}
 use Rattle.writing.specs.Slots.{slotText}
-use borrow.Author.Needs.{needs}
 use Rattle.writing.proofs.slots.put_macro.Statement.{statement}
 use Rattle.writing.proofs.slots.put_macro.Tie as tie
 
 put-left-requires : tie.Need-put-left-requires
-put-left-requires c κs = search needs
+put-left-requires c κs = c .before .before .before .pre
 
 put-right-requires : tie.Need-put-right-requires
-put-right-requires c κs = search needs
+put-right-requires c κs = (omega (arith, c .before .before .before .before .before .before .before .pre .0, c .before .before .before .put-left .kept .0), c .before .before .before .before .before .before .before .pre .1)
 
 same-length : tie.Need-same-length
-same-length c = search needs
+same-length c = omega (arith, c .before .before .before .before .before .before .put-left .kept .0, c .before .before .put-right .kept .0)
 
 returns : tie.Need-returns
 unfolding slotText

@@ -28,7 +28,7 @@ put-requires : tie.Need-put-requires
 put-requires c κs = search needs
 
 answer-of-requires : tie.Need-answer-of-requires
-answer-of-requires c κs = search needs
+answer-of-requires c κs = tt
 
 same-length : tie.Need-same-length
 same-length c = search needs
