@@ -25,7 +25,6 @@ use Rattle.macros.specs.Write.{digits, writeMember, writeMembers, writeUnit, cl
 use Rattle.tables.specs.Form.{closureCode, unitCode, unitOperand, memberItems, membersItems, unitRest, pieceItems, patternItems, moveCode, four, evened, callItems, callsItems, actionItems, replacementItems}
 use Rattle.writing.specs.Items.{closureText, unitText, braceByte, memberText, headText, tailText, itemText, patternText, nameText, callByte, numberIn, textIn, firstText, middleText, lastText, callText, openText, endText, actionText, actionSize, actionsText, Held, Whole}
 use Rattle.writing.specs.Items.Whole.{none, next}
-use Rattle.writing.proofs.Numbers.{digits-few}
 use Rattle.writing.proofs.Steps.{actions-cons, some-size}
 
 -- PATTERN
@@ -56,6 +55,9 @@ formed-kinds (end ∷ ps) f = (tt, formed-kinds ps f)
 formed-kinds (left ∷ ps) f = (tt, formed-kinds ps (f .1))
 formed-kinds (right ∷ ps) f = (tt, formed-kinds ps (f .1))
 
+one-digit : (n : ℕ) → n < 10 → n % 10 ≡ n
+one-digit n h = omega arith
+
 -- in either order
 turned-rest : (ps qs : List Piece) → KindsFit (reverseAux ps qs) → KindsFit qs
 turned-rest [] qs f = f
@@ -80,9 +82,9 @@ module _ (h : ℕ) (r w : List ℕ) (ih : (k : ℕ) → patternText k r ≡ w) w
   piece-text (element (literal b) once) f = rw ih
   piece-text (element (literal b) oneOrMore) f = rw ih
   piece-text (element (literal b) zeroOrMore) f = rw ih
-  piece-text (element (kind n) once) f = rw (digits-few n f, ih)
-  piece-text (element (kind n) oneOrMore) f = rw (digits-few n f, ih)
-  piece-text (element (kind n) zeroOrMore) f = rw (digits-few n f, ih)
+  piece-text (element (kind n) once) f = rw (one-digit n f, ih)
+  piece-text (element (kind n) oneOrMore) f = rw (one-digit n f, ih)
+  piece-text (element (kind n) zeroOrMore) f = rw (one-digit n f, ih)
   piece-text (element (class true ms) once) f = rw (members-text 28 ms r, ih)
   piece-text (element (class true ms) oneOrMore) f = rw (members-text 29 ms r, ih)
   piece-text (element (class true ms) zeroOrMore) f = rw (members-text 30 ms r, ih)

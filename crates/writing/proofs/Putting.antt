@@ -87,10 +87,6 @@ short-few (Two a b) = omega arith
 short-few (Three a b c) = omega arith
 short-few (Four a b c d) = omega arith
 
-pub four-long : (s : Short) {a b c d : ℕ} → s ≡ Four a b c d → length (shortText s) ≤ 3 → ⊥
-unfolding shortText
-four-long s e h = let l : length (shortText s) ≡ 4 = rw e in omega arith
-
 -- THE MARKS
 
 pub among-here : (l : List ℕ) (i b : ℕ) → i < length l → b ≡ getD l i 0 → among (drop i l) b ≡ true

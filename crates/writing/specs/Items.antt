@@ -12,11 +12,11 @@ use Rattle.macros.specs.Write.{patternMarks, classMarks, textMarks, byte, digit
 unfoldable pub closureText : ℕ → List ℕ
 closureText c = pick (eqb (c % 4) 1) (42 ∷ []) (pick (eqb (c % 4) 2) (42 ∷ 45 ∷ []) [])
 
--- a literal, `?n` or a call
+-- a literal, `?n` or a call; a kind has one digit
 unfoldable pub unitText : ℕ → ℕ → List ℕ
 unitText c b =
     pick (ltb c 12) (byte (among patternMarks b) b)
-    (pick (ltb c 16) (63 ∷ digits b)
+    (pick (ltb c 16) (63 ∷ (48 + b % 10) ∷ [])
     (pick (ltb c 20) (38 ∷ 40 ∷ b ∷ 41 ∷ []) (35 ∷ 40 ∷ b ∷ 41 ∷ [])))
 
 -- `{`, `}`, `^` or `$`

@@ -1,6 +1,5 @@
 // A replacement or the commands, from their items.
 use crate::put::Short;
-use crate::put::behind;
 use crate::put::decimal;
 use crate::put::in_list;
 use crate::put::marked;
@@ -8,7 +7,7 @@ use crate::put::put;
 use crate::put::put_number;
 use crate::put::wide;
 ghost use mathlib.Core.Path.{_≡_};
-ghost use mathlib.Core.List.{_∷_};
+ghost use mathlib.Core.List.{[], _∷_, _++_};
 ghost use Prim.Native.Nat.{_+_, _%_, _≤_, _<_};
 ghost use lib.Dec.{ltb};
 ghost use lib.ListN.{length, getD};
@@ -17,24 +16,24 @@ ghost use Rattle.macros.specs.Write.{textMarks, byte, writeText};
 ghost use Rattle.writing.specs.Puts.{shortText, Puts};
 ghost use Rattle.writing.specs.Items.{nameText, callByte, numberIn, openText, endText, firstText, middleText, lastText, callText, actionText, actionSize, actionsText, Held, Whole};
 
-// A letter with the sign that the call's code asks for.
-fn name(code: u8, letter: u8) -> Short
-    ensures { λ r. ⌜ (shortText r ≡ nameText code letter) × (length (shortText r) ≤ 3) ⌝ }
+// A letter with the sign that the call's code asks for, and a byte behind it.
+fn name(code: u8, letter: u8, close: u8) -> Short
+    ensures { λ r. ⌜ shortText r ≡ nameText code letter ++ (close ∷ []) ⌝ }
 {
     let move_code = code % 8;
     if move_code == 0 {
-        return Short::One(letter);
+        return Short::Two(letter, close);
     }
     if move_code == 1 {
-        return Short::Two(b'+', letter);
+        return Short::Three(b'+', letter, close);
     }
     if move_code == 2 {
-        return Short::Two(b'-', letter);
+        return Short::Three(b'-', letter, close);
     }
     if move_code == 3 {
-        return Short::Two(letter, b'+');
+        return Short::Three(letter, b'+', close);
     }
-    Short::Two(letter, b'-')
+    Short::Three(letter, b'-', close)
 }
 
 // A literal.
@@ -80,10 +79,10 @@ fn first(code: u8, letter: u8, tag: u8) -> Short
     ensures { λ r. ⌜ shortText r ≡ firstText code letter tag ⌝ }
 {
     if code < 72 {
-        return behind(decimal(tag), b',');
+        return decimal(tag, b',');
     }
     if code < 80 {
-        return behind(name(code, letter), b':');
+        return name(code, letter, b':');
     }
     Short::Two(letter, set_sign(code))
 }
@@ -109,7 +108,7 @@ fn last(code: u8, letter: u8) -> Short
     ensures { λ r. ⌜ shortText r ≡ lastText code letter ⌝ }
 {
     if code < 72 {
-        return behind(name(code, letter), b')');
+        return name(code, letter, b')');
     }
     if code < 80 {
         return Short::Two(b':', b')');
@@ -165,9 +164,9 @@ fn ending(code: u8, b: u8) -> Short
         return Short::Nothing;
     }
     if code == 41 {
-        return behind(decimal(b), b'}');
+        return decimal(b, b'}');
     }
-    behind(name(code, b), b')')
+    name(code, b, b')')
 }
 
 // A literal, `{n}` or a call.

@@ -1,7 +1,5 @@
 // A pattern, from its items.
 use crate::put::Short;
-use crate::put::ahead;
-use crate::put::decimal;
 use crate::put::in_list;
 use crate::put::marked;
 use crate::put::put;
@@ -27,7 +25,7 @@ fn closure(code: u8) -> Short
     Short::Nothing
 }
 
-// A literal, `?n` or a call.
+// A literal, `?n` or a call; a kind has one digit.
 fn unit(code: u8, b: u8) -> Short
     ensures { λ r. ⌜ shortText r ≡ unitText code b ⌝ }
 {
@@ -35,7 +33,7 @@ fn unit(code: u8, b: u8) -> Short
         return marked(in_list(b"$^*[?&#{}/\\';-\n\t", b), b);
     }
     if code < 16 {
-        return ahead(b'?', decimal(b));
+        return Short::Two(b'?', 48 + b % 10);
     }
     if code < 20 {
         return Short::Four(b'&', b'(', b, b')');

@@ -101,46 +101,18 @@ pub(crate) fn marked(mark: bool, b: u8) -> Short
     Short::Two(b'\\', b)
 }
 
-// A byte more.
-pub(crate) fn behind(s: Short, b: u8) -> Short
-    requires { ⌜ length (shortText s) ≤ 3 ⌝ }
-    ensures { λ r. ⌜ shortText r ≡ shortText s ++ (b ∷ []) ⌝ }
-{
-    match s {
-        Short::Nothing => Short::One(b),
-        Short::One(a) => Short::Two(a, b),
-        Short::Two(a, c) => Short::Three(a, c, b),
-        Short::Three(a, c, d) => Short::Four(a, c, d, b),
-        Short::Four(_, _, _, _) => s,
-    }
-}
-
-// A byte before.
-pub(crate) fn ahead(b: u8, s: Short) -> Short
-    requires { ⌜ length (shortText s) ≤ 3 ⌝ }
-    ensures { λ r. ⌜ shortText r ≡ b ∷ shortText s ⌝ }
-{
-    match s {
-        Short::Nothing => Short::One(b),
-        Short::One(a) => Short::Two(b, a),
-        Short::Two(a, c) => Short::Three(b, a, c),
-        Short::Three(a, c, d) => Short::Four(b, a, c, d),
-        Short::Four(_, _, _, _) => s,
-    }
-}
-
-// A byte's number without leading zeros.
-pub(crate) fn decimal(v: u8) -> Short
-    ensures { λ r. ⌜ (shortText r ≡ digits v) × (length (shortText r) ≤ 3) ⌝ }
+// A byte's number without leading zeros, and a byte behind it.
+pub(crate) fn decimal(v: u8, close: u8) -> Short
+    ensures { λ r. ⌜ shortText r ≡ digits v ++ (close ∷ []) ⌝ }
 {
     if v < 10 {
-        return Short::One(48 + v);
+        return Short::Two(48 + v, close);
     }
     let tens = v / 10;
     if tens < 10 {
-        return Short::Two(48 + tens, 48 + v % 10);
+        return Short::Three(48 + tens, 48 + v % 10, close);
     }
-    Short::Three(48 + tens / 10, 48 + tens % 10, 48 + v % 10)
+    Short::Four(48 + tens / 10, 48 + tens % 10, 48 + v % 10, close)
 }
 
 pub(crate) fn wide(x: u8) -> u64

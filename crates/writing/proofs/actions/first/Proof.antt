@@ -1,34 +1,27 @@
 -- Assumes nothing.
-use Rattle.macros.specs.Macro.{pick}
 use Prim.Native.Nat.{ℕ}
-use mathlib.Core.List.{List, [], _∷_, _++_}
-use mathlib.Core.Path.{ap, _∙_}
+use mathlib.Core.List.{[], _∷_}
+use mathlib.Core.Path.{ap}
 use Rattle.writing.specs.Items.{firstText}
 use Rattle.writing.specs.Puts.{shortText}
+use Rattle.macros.specs.Macro.{pick}
 use borrow.Author.Tests.{lt-ltb, le-ltb}
-use borrow.Author.Needs.{needs}
 use Rattle.writing.proofs.actions.first.Statement.{statement}
 use Rattle.writing.proofs.actions.first.Tie as tie
 
 decimal-requires : tie.Need-decimal-requires
 decimal-requires c κs = tt
 
-behind-requires : tie.Need-behind-requires
-behind-requires c κs = search needs
-
 returns : tie.Need-returns
 unfolding firstText pick
-returns c = simp (lt-ltb _ _ (c .before .before .if1 .taken)) (c .behind .ensures ∙ ap (λ (l : List ℕ). l ++ (44 ∷ [])) (c .before .decimal .ensures .0))
+returns c = simp (lt-ltb _ _ (c .before .if1 .taken)) (c .decimal .ensures)
 
 name-requires : tie.Need-name-requires
 name-requires c κs = tt
 
-behind-requires-2 : tie.Need-behind-requires-2
-behind-requires-2 c κs = search needs
-
 returns-2 : tie.Need-returns-2
 unfolding firstText pick
-returns-2 c = simp (le-ltb _ _ (c .before .before .before .if1 .left), lt-ltb _ _ (c .before .before .if2 .taken)) (c .behind2 .ensures ∙ ap (λ (l : List ℕ). l ++ (58 ∷ [])) (c .before .name .ensures .0))
+returns-2 c = simp (le-ltb _ _ (c .before .before .if1 .left), lt-ltb _ _ (c .before .if2 .taken)) (c .name .ensures)
 
 set-sign-requires : tie.Need-set-sign-requires
 set-sign-requires c κs = tt
@@ -40,12 +33,4 @@ returns-3 c = simp (le-ltb _ _ (c .before .before .if1 .left), le-ltb _ _ (c .be
 pub first-spec : {M : Type 1} → statement M
 first-spec =
     tie.close
-    (tie.spec
-    decimal-requires
-    behind-requires
-    returns
-    name-requires
-    behind-requires-2
-    returns-2
-    set-sign-requires
-    returns-3)
+    (tie.spec decimal-requires returns name-requires returns-2 set-sign-requires returns-3)

@@ -1,24 +1,17 @@
 -- Assumes nothing.
-use Rattle.macros.specs.Macro.{pick}
-use Prim.Native.Nat.{ℕ}
-use mathlib.Core.List.{List, [], _∷_, _++_}
-use mathlib.Core.Path.{ap, _∙_}
 use Rattle.writing.specs.Items.{lastText}
 use Rattle.writing.specs.Puts.{shortText}
+use Rattle.macros.specs.Macro.{pick}
 use borrow.Author.Tests.{lt-ltb, le-ltb}
-use borrow.Author.Needs.{needs}
 use Rattle.writing.proofs.actions.last.Statement.{statement}
 use Rattle.writing.proofs.actions.last.Tie as tie
 
 name-requires : tie.Need-name-requires
 name-requires c κs = tt
 
-behind-requires : tie.Need-behind-requires
-behind-requires c κs = search needs
-
 returns : tie.Need-returns
 unfolding lastText pick
-returns c = simp (lt-ltb _ _ (c .before .before .if1 .taken)) (c .behind .ensures ∙ ap (λ (l : List ℕ). l ++ (41 ∷ [])) (c .before .name .ensures .0))
+returns c = simp (lt-ltb _ _ (c .before .if1 .taken)) (c .name .ensures)
 
 returns-2 : tie.Need-returns-2
 unfolding shortText lastText pick
@@ -29,4 +22,4 @@ unfolding shortText lastText pick
 returns-3 c = simp (le-ltb _ _ (c .before .if1 .left), le-ltb _ _ (c .if2 .left))
 
 pub last-spec : {M : Type 1} → statement M
-last-spec = tie.close (tie.spec name-requires behind-requires returns returns-2 returns-3)
+last-spec = tie.close (tie.spec name-requires returns returns-2 returns-3)

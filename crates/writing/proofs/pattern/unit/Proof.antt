@@ -1,9 +1,6 @@
 -- Assumes nothing.
-use Rattle.writing.proofs.Putting.{by-mark}
-use Prim.Native.Nat.{ℕ}
-use mathlib.Core.List.{List, _∷_}
-use mathlib.Core.Path.{ap, _∙_}
 use Rattle.macros.specs.Write.{patternMarks}
+use Rattle.writing.proofs.Putting.{by-mark}
 use Rattle.writing.specs.Items.{unitText}
 use Rattle.writing.specs.Puts.{shortText}
 use Rattle.macros.specs.Macro.{pick}
@@ -25,15 +22,12 @@ returns : tie.Need-returns
 unfolding unitText patternMarks pick
 returns c = simp (lt-ltb _ _ (c .before .before .before .if1 .taken)) (by-mark _ _ (c .marked .ensures) (c .before .in-list .ensures))
 
-decimal-requires : tie.Need-decimal-requires
-decimal-requires c κs = tt
-
-ahead-requires : tie.Need-ahead-requires
-ahead-requires c κs = search needs
+add-t9 : tie.Need-add-t9
+add-t9 c = search needs
 
 returns-2 : tie.Need-returns-2
-unfolding unitText pick
-returns-2 c = simp (le-ltb _ _ (c .before .before .before .if1 .left), lt-ltb _ _ (c .before .before .if2 .taken)) (c .ahead .ensures ∙ ap (λ (l : List ℕ). 63 ∷ l) (c .before .decimal .ensures .0))
+unfolding shortText unitText pick
+returns-2 c = simp (le-ltb _ _ (c .before .if1 .left), lt-ltb _ _ (c .if2 .taken))
 
 returns-3 : tie.Need-returns-3
 unfolding shortText unitText pick
@@ -51,8 +45,7 @@ unit-spec =
     in-list-requires
     marked-requires
     returns
-    decimal-requires
-    ahead-requires
+    add-t9
     returns-2
     returns-3
     returns-4)
