@@ -3,7 +3,7 @@
 use Prim.Native.Nat.{ℕ, zero, suc, _+_, _-_, _*_, _/_, _%_, _≤_, _<_}
 use mathlib.Core.Path.{_≡_, refl, ap, sym, _∙_, subst}
 use mathlib.Core.Bool.{Bool, true, false}
-use mathlib.Core.List.{List, [], _∷_, _++_, append-assoc, map, reverse, reverseAux}
+use mathlib.Core.List.{List, [], _∷_, _++_, append-assoc, append-nil, map, reverse, reverseAux}
 use native.Mathlib.Omega.{arith}
 use native.Mathlib.Decide.{ℕ-discrete}
 use borrow.Author.Tests.{eq-eqb, ne-eqb}
@@ -23,9 +23,8 @@ use Rattle.macros.specs.Macro.Action.{text, tag, call}
 use Rattle.macros.specs.Formed.{FormedPieces}
 use Rattle.macros.specs.Write.{digits, writeMember, writeMembers, writeUnit, closureBytes, writePiece, writePattern, signByte, nameBytes, writeText, markOf, innerBytes, callBytes, writeAction, writeReplacement, commandsBytes}
 use Rattle.tables.specs.Form.{closureCode, unitCode, unitOperand, memberItems, membersItems, unitRest, pieceItems, patternItems, moveCode, four, evened, callItems, callsItems, actionItems, replacementItems}
-use Rattle.writing.specs.Items.{closureText, unitText, braceByte, memberText, itemText, patternText, nameText, callByte, numberIn, textIn, setText, storeText as storedText, lastName, innerText, actionText, actionSize, actionsText, Held, Whole}
+use Rattle.writing.specs.Items.{closureText, unitText, braceByte, memberText, headText, tailText, itemText, patternText, nameText, callByte, numberIn, textIn, firstText, middleText, lastText, callText, openText, endText, actionText, actionSize, actionsText, Held, Whole}
 use Rattle.writing.specs.Items.Whole.{none, next}
-use Rattle.writing.proofs.Numbers.{digits-few}
 use Rattle.writing.proofs.Steps.{actions-cons, some-size}
 
 -- PATTERN
@@ -56,6 +55,9 @@ formed-kinds (end ∷ ps) f = (tt, formed-kinds ps f)
 formed-kinds (left ∷ ps) f = (tt, formed-kinds ps (f .1))
 formed-kinds (right ∷ ps) f = (tt, formed-kinds ps (f .1))
 
+one-digit : (n : ℕ) → n < 10 → n % 10 ≡ n
+one-digit n h = omega arith
+
 -- in either order
 turned-rest : (ps qs : List Piece) → KindsFit (reverseAux ps qs) → KindsFit qs
 turned-rest [] qs f = f
@@ -69,20 +71,20 @@ pub pattern-kinds : (ps : List Piece) → FormedPieces (reverse ps) → KindsFit
 pattern-kinds ps f = turned ps [] (formed-kinds (reverse ps) f)
 
 members-text : (h : ℕ) (ms : List Member) (r : List ℕ) → patternText h (membersItems ms ++ r) ≡ (writeMembers ms ++ closureText h) ++ patternText h r
-unfolding patternText membersItems memberItems itemText memberText writeMembers writeMember pick
+unfolding patternText membersItems memberItems itemText headText tailText memberText writeMembers writeMember pick
 members-text h [] r = refl
-members-text h (single c ∷ ms) r = rw (members-text h ms r) (simp append-assoc)
+members-text h (single c ∷ ms) r = rw (members-text h ms r) (simp (append-nil, append-assoc))
 members-text h (range a z ∷ ms) r = rw (members-text h ms r)
 
 module _ (h : ℕ) (r w : List ℕ) (ih : (k : ℕ) → patternText k r ≡ w) where
   piece-text : (p : Piece) → KindFits p → patternText h (pieceItems p ++ r) ≡ writePiece p ++ w
-  unfolding patternText pieceItems unitCode closureCode unitOperand unitRest itemText unitText braceByte closureText writePiece writeUnit closureBytes markByte pick
+  unfolding patternText pieceItems unitCode closureCode unitOperand unitRest itemText headText tailText unitText braceByte closureText writePiece writeUnit closureBytes markByte pick
   piece-text (element (literal b) once) f = rw ih
   piece-text (element (literal b) oneOrMore) f = rw ih
   piece-text (element (literal b) zeroOrMore) f = rw ih
-  piece-text (element (kind n) once) f = rw (digits-few n f, ih)
-  piece-text (element (kind n) oneOrMore) f = rw (digits-few n f, ih)
-  piece-text (element (kind n) zeroOrMore) f = rw (digits-few n f, ih)
+  piece-text (element (kind n) once) f = rw (one-digit n f, ih)
+  piece-text (element (kind n) oneOrMore) f = rw (one-digit n f, ih)
+  piece-text (element (kind n) zeroOrMore) f = rw (one-digit n f, ih)
   piece-text (element (class true ms) once) f = rw (members-text 28 ms r, ih)
   piece-text (element (class true ms) oneOrMore) f = rw (members-text 29 ms r, ih)
   piece-text (element (class true ms) zeroOrMore) f = rw (members-text 30 ms r, ih)
@@ -115,7 +117,7 @@ pub number-back : (n : ℕ) → n % 256 + 256 * ((n / 256) % 256) + 65536 * ((n 
 number-back n = omega arith
 
 call-text : (c : Call) (r : List ℕ) → actionText (callItems c ++ r) ≡ callBytes writeText c
-unfolding actionText callItems moveCode four callByte innerText lastName nameText storedText textIn setText numberIn callBytes innerBytes nameBytes signByte markOf markByte pick
+unfolding actionText openText endText callItems moveCode four callByte callText firstText middleText lastText nameText textIn numberIn callBytes innerBytes nameBytes signByte markOf markByte pick
 call-text (insert stack i still) r = refl
 call-text (insert stack i (before plus)) r = refl
 call-text (insert stack i (before minus)) r = refl
@@ -126,11 +128,11 @@ call-text (insert counter i (before plus)) r = refl
 call-text (insert counter i (before minus)) r = refl
 call-text (insert counter i (after plus)) r = refl
 call-text (insert counter i (after minus)) r = refl
-call-text (storeTag n i still) r = refl
-call-text (storeTag n i (before plus)) r = refl
-call-text (storeTag n i (before minus)) r = refl
-call-text (storeTag n i (after plus)) r = refl
-call-text (storeTag n i (after minus)) r = refl
+call-text (storeTag n i still) r = simp append-assoc
+call-text (storeTag n i (before plus)) r = simp append-assoc
+call-text (storeTag n i (before minus)) r = simp append-assoc
+call-text (storeTag n i (after plus)) r = simp append-assoc
+call-text (storeTag n i (after minus)) r = simp append-assoc
 call-text (setTo stack i n) r = rw (number-back n)
 call-text (setTo counter i n) r = rw (number-back n)
 call-text (storeText i still t) r = rw (even-taken t r)
@@ -141,8 +143,8 @@ call-text (storeText i (after minus) t) r = rw (even-taken t r)
 call-text (setIncrement i n) r = rw (number-back n)
 
 action-text : (a : Action) (r : List ℕ) → actionText (actionItems a ++ r) ≡ writeAction a
-unfolding actionItems writeAction actionText pick
-action-text (text b) r = refl
+unfolding actionItems writeAction actionText openText endText pick
+action-text (text b) r = append-nil _
 action-text (tag n) r = refl
 action-text (call c) r = call-text c r
 

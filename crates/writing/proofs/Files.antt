@@ -8,17 +8,15 @@ use native.Mathlib.Omega.{arith}
 use native.Mathlib.Decide.{decLe}
 use borrow.Author.Tests.{lt-ltb, le-ltb, le-leb, lt-leb}
 use lib.Dec.{leb, ltb}
-use lib.ListN.{length, take}
-use lib.Seq.{length-take-le}
+use lib.ListN.{length, take, drop, length-append, length-drop, take-append-drop}
+use lib.Seq.{length-take-le, take-append-le}
 use Rattle.macros.specs.Bounds.{mostFileBytes, mostMacroBytes}
 use Rattle.macros.specs.Macro.{Macro, Table, pick}
 use Rattle.macros.specs.Refusals.FileRefusal.{fileTooLong, macroTooLong}
 use Rattle.macros.specs.Write.{Written, written, writeFrom}
 use Rattle.macros.specs.Write.Written.{refused, file}
 use Rattle.writing.specs.Puts.{Puts}
-use Rattle.writing.specs.Slots.{limitOf, faultOf, refusalOf, Adds}
-use Rattle.writing.specs.declared.put.Wrote.{Wrote}
-use Rattle.writing.specs.declared.put.Wrote.the-variants.{To, Full}
+use Rattle.writing.specs.Slots.{limitOf, faultOf, answerOf, refusalOf, Adds}
 use Rattle.writing.specs.declared.Fault.{Fault}
 use Rattle.writing.specs.declared.Fault.the-variants.{MacroTooLong, FileTooLong}
 use Rattle.writing.specs.declared.Answer.{Answer}
@@ -79,72 +77,120 @@ limit-room n h = by (decLe n 32256)
 before : (old : List ℕ) (n : ℕ) → n ≤ mostFileBytes → length old ≡ mostFileBytes → length (take n old) ≡ n
 before old n w size = length-take-le n old (omega arith)
 
-module _ {old text new : List ℕ} {n : ℕ} (w : n ≤ mostFileBytes) (size : length old ≡ mostFileBytes) where
-  -- the macro does not fit
-  pub adds-none : {limit : ℕ} {fault : Fault} {r : Wrote} → Puts limit n text old new r → r ≡ Full → limit ≡ limitOf n → fault ≡ faultOf n → Adds old n text new (Refused fault limit)
-  adds-none {limit} {fault} p e a b =
-      record {
-        comes = λ m ms t. by m ms (ap length t) (decLe n 32256);
-        within = tt;
-      }
-    where
-      by : (m : Macro) (ms : Table) → length (written m) ≡ length text → Dec (n ≤ 32256) → writeFrom (take n old) (m ∷ ms) ≡ refused (refusalOf fault) limit
-      by m ms q (yes l) =
-          let f = p .full e in
-          let c = limit-low n l in
-          let d = before old n w size in
-          let x : length (take n old) + mostMacroBytes ≡ limit = omega arith in
-          let y : MacroTooLong ≡ fault = sym (fault-low n l) ∙ sym b in
-          long-macro (take n old) m ms (omega arith) (omega arith)
-          ∙ ap (refused macroTooLong) x
-          ∙ ap (λ (z : Fault). refused (refusalOf z) limit) y
-      by m ms q (no g) =
-          let f = p .full e in
-          let c = limit-high n (omega arith) in
-          let d = before old n w size in
-          let x : mostFileBytes ≡ limit = omega arith in
-          let y : FileTooLong ≡ fault = sym (fault-high n (omega arith)) ∙ sym b in
-          long-file (take n old) m ms (omega arith) (omega arith)
-          ∙ ap (refused fileTooLong) x
-          ∙ ap (λ (z : Fault). refused (refusalOf z) limit) y
+-- THE ANSWER
 
-  module _ {limit k : ℕ} {r : Wrote} (p : Puts limit n text old new r) (e : r ≡ To k) (a : limit ≡ limitOf n) where
+module _ (start limit n end : ℕ) where
+  answer-over : limit < n → answerOf start limit n end ≡ Refused (faultOf start) limit
+  unfolding answerOf pick
+  answer-over h = rw (lt-ltb limit n h)
+
+  module _ (h : n ≤ limit) where
+    answer-no-feed : mostFileBytes < end → answerOf start limit n end ≡ Refused FileTooLong mostFileBytes
+    unfolding answerOf pick
+    answer-no-feed l = rw (le-ltb limit n h, lt-ltb mostFileBytes end l)
+
+    answer-fits : end ≤ mostFileBytes → answerOf start limit n end ≡ WrittenOut end
+    unfolding answerOf pick
+    answer-fits l = rw (le-ltb limit n h, le-ltb mostFileBytes end l)
+
+-- a macro that is put into the part of the file before its limit, and its line feed
+module _ (old : List ℕ) {text part last : List ℕ} {start limit n end : ℕ} (w : start ≤ mostFileBytes) (size : length old ≡ mostFileBytes) (a : limit ≡ limitOf start)
+    (p : Puts start text (take limit old) part n) (q : Puts n (10 ∷ []) (part ++ drop limit old) last end) where
+  limit-within : (start ≤ limit) × (limit ≤ mostFileBytes) × (limit ≤ start + mostMacroBytes)
+  limit-within = let x = limit-room start w in omega arith
+
+  room : length (take limit old) ≡ limit
+  room = let x = limit-within in length-take-le limit old (omega arith)
+
+  whole : length (part ++ drop limit old) ≡ mostFileBytes
+  whole =
+      let x = limit-within in
+      let b = length-append part (drop limit old) in
+      let c = length-drop limit old in
+      let d = p .same in
+      let e = room in
+      omega arith
+
+  -- the macro does not fit
+  adds-none : limit < n → Adds old start text last (Refused (faultOf start) limit)
+  adds-none h = record { comes = λ m ms t. by m ms (ap length t) (decLe start 32256); within = tt }
+    where
+      by : (m : Macro) (ms : Table) → length (written m) ≡ length text → Dec (start ≤ 32256) → writeFrom (take start old) (m ∷ ms) ≡ refused (refusalOf (faultOf start)) limit
+      by m ms e (yes l) =
+          let r = room in
+          let f = p .ends .full (omega arith) in
+          let c = limit-low start l in
+          let d = before old start w size in
+          let x : length (take start old) + mostMacroBytes ≡ limit = omega arith in
+          long-macro (take start old) m ms (omega arith) (omega arith)
+          ∙ ap (refused macroTooLong) x
+          ∙ ap (λ (z : Fault). refused (refusalOf z) limit) (sym (fault-low start l))
+      by m ms e (no g) =
+          let r = room in
+          let f = p .ends .full (omega arith) in
+          let c = limit-high start (omega arith) in
+          let d = before old start w size in
+          let x : mostFileBytes ≡ limit = omega arith in
+          long-file (take start old) m ms (omega arith) (omega arith)
+          ∙ ap (refused fileTooLong) x
+          ∙ ap (λ (z : Fault). refused (refusalOf z) limit) (sym (fault-high start (omega arith)))
+
+  module _ (h : n ≤ limit) where
+    counted : n ≡ start + length text
+    counted = let r = room in p .ends .count (omega arith)
+
     -- the macro fits, and its line feed does not
-    pub adds-no-feed : {last : List ℕ} {r2 : Wrote} → Puts mostFileBytes k (10 ∷ []) new last r2 → r2 ≡ Full → Adds old n text last (Refused FileTooLong mostFileBytes)
-    adds-no-feed q f =
+    adds-no-feed : mostFileBytes < end → Adds old start text last (Refused FileTooLong mostFileBytes)
+    adds-no-feed l =
         record {
           comes = λ m ms t.
-              let l : length (written m) ≡ length text = ap length t in
-              let s = p .stand k e in
-              let c = s .count in
-              let i = s .within in
-              let g = q .full f in
-              let d = before old n w size in
-              let x = limit-room n w in
-              no-feed (take n old) m ms (omega arith) (omega arith);
+              let e : length (written m) ≡ length text = ap length t in
+              let c = counted in
+              let v = whole in
+              let f = q .ends .full (omega arith) in
+              let d = before old start w size in
+              let x = limit-within in
+              no-feed (take start old) m ms (omega arith) (omega arith);
           within = tt;
         }
 
+    stands : take n (part ++ drop limit old) ≡ take start old ++ text
+    stands =
+        let r = room in
+        let x = limit-within in
+        let s = p .same in
+        take-append-le n part (drop limit old) (omega arith)
+        ∙ p .text (omega arith)
+        ∙ ap (λ (z : List ℕ). z ++ text) (sym (take-append-le start (take limit old) (drop limit old) (omega arith)) ∙ ap (take start) (take-append-drop limit old))
+
     -- both fit
-    pub adds-one : {last : List ℕ} {j : ℕ} {r2 : Wrote} → Puts mostFileBytes k (10 ∷ []) new last r2 → r2 ≡ To j → Adds old n text last (WrittenOut j)
-    adds-one {last} {j} q f =
+    adds-one : end ≤ mostFileBytes → Adds old start text last (WrittenOut end)
+    adds-one l =
         record {
           comes = λ m ms t.
-              let l : length (written m) ≡ length text = ap length t in
-              let s = p .stand k e in
-              let c = s .count in
-              let i = s .within in
-              let s2 = q .stand j f in
-              let c2 = s2 .count in
-              let i2 = s2 .within in
-              let d = before old n w size in
-              let x = limit-room n w in
-              let z : take n old ++ (written m ++ (10 ∷ [])) ≡ take j last =
-              ap (λ (y : List ℕ). take n old ++ (y ++ (10 ∷ []))) t
-              ∙ sym (append-assoc (take n old) text (10 ∷ []))
-              ∙ ap (λ (y : List ℕ). y ++ (10 ∷ [])) (sym (s .text))
-              ∙ sym (s2 .text)
+              let e : length (written m) ≡ length text = ap length t in
+              let c = counted in
+              let v = whole in
+              let f = q .ends .count (omega arith) in
+              let d = before old start w size in
+              let x = limit-within in
+              let z : take start old ++ (written m ++ (10 ∷ [])) ≡ take end last =
+              ap (λ (y : List ℕ). take start old ++ (y ++ (10 ∷ []))) t
+              ∙ sym (append-assoc (take start old) text (10 ∷ []))
+              ∙ ap (λ (y : List ℕ). y ++ (10 ∷ [])) (sym stands)
+              ∙ sym (q .text (omega arith))
               in
-              fitting (take n old) m ms (omega arith) (omega arith) ∙ ap (λ (y : List ℕ). writeFrom y ms) z;
-          within = q .stand j f .within;
+              fitting (take start old) m ms (omega arith) (omega arith) ∙ ap (λ (y : List ℕ). writeFrom y ms) z;
+          within = l;
         }
+
+  pub adds : {r : Answer} → r ≡ answerOf start limit n end → Adds old start text last r
+  adds {r} e = by (decLe n limit) (decLe end mostFileBytes)
+    where
+      told : (x : Answer) → answerOf start limit n end ≡ x → Adds old start text last x → Adds old start text last r
+      told x f y = subst (λ (z : Answer). Adds old start text last z) (sym (e ∙ f)) y
+
+      by : Dec (n ≤ limit) → Dec (end ≤ mostFileBytes) → Adds old start text last r
+      by (no f) g = let h : limit < n = omega arith in told _ (answer-over start limit n end h) (adds-none h)
+      by (yes h) (no f) = let l : mostFileBytes < end = omega arith in told _ (answer-no-feed start limit n end h l) (adds-no-feed h l)
+      by (yes h) (yes l) = told _ (answer-fits start limit n end h l) (adds-one h l)

@@ -31,3 +31,9 @@ pub digits-last : (n : ℕ) → 10 ≤ n → digits n ≡ digits (n / 10) ++ ((4
 unfolding digits digitsBy pick
 digits-last zero h = absurd (omega arith)
 digits-last (suc n) h = rw (le-ltb (suc n) 10 h, digits-fuel n (suc n / 10) (suc n / 10) (omega arith) (omega arith))
+
+pub digits-two : (n : ℕ) → 10 ≤ n → n / 10 < 10 → digits n ≡ (48 + n / 10) ∷ (48 + n % 10) ∷ []
+digits-two n g h = rw (digits-last n g, digits-few (n / 10) h)
+
+pub digits-three : (n : ℕ) → 10 ≤ n / 10 → n / 10 / 10 < 10 → digits n ≡ (48 + n / 10 / 10) ∷ (48 + (n / 10) % 10) ∷ (48 + n % 10) ∷ []
+digits-three n g h = rw (digits-last n (omega arith), digits-two (n / 10) g h)

@@ -4,6 +4,7 @@ use Prim.Native.Nat.{ℕ, _+_, _≤_, _<_}
 use mathlib.Core.Path.{_≡_, refl, ap, sym, _∙_, subst}
 use mathlib.Core.List.{List, [], _∷_, _++_, append-assoc, append-nil}
 use native.Mathlib.Nat.{add-assoc, add-zero}
+use native.Mathlib.Decide.{decLe}
 use native.Mathlib.Numerals.{add-one}
 use native.Mathlib.Omega.{arith}
 use mathlib.Core.Bool.{Bool, true, false, not}
@@ -11,10 +12,10 @@ use borrow.Author.Tests.{eq-eqb, ne-eqb, not-true, not-false}
 use Rattle.macros.specs.Macro.{among, pick}
 use Rattle.macros.specs.Write.{byte, escapeByte}
 use lib.ListN.{length, take, drop, getD, set, length-append, drop-of-length-le}
-use lib.Seq.{take-all, take-suc, take-suc-set, drop-cons}
-use Rattle.writing.specs.Puts.{Stand, Puts, Rest}
-use Rattle.writing.specs.declared.put.Wrote.{Wrote}
-use Rattle.writing.specs.declared.put.Wrote.the-variants.{To, Full}
+use lib.Seq.{take-suc, take-suc-set, drop-cons}
+use Rattle.writing.specs.Puts.{shortText, Ends, Puts, Rest}
+use Rattle.writing.specs.declared.put.Short.{Short}
+use Rattle.writing.specs.declared.put.Short.the-variants.{Nothing, One, Two, Three, Four}
 
 -- one byte more
 pub one-more : (old now bytes : List ℕ) (n i : ℕ) → take (n + i) now ≡ take n old ++ take i bytes → i < length bytes → n + i < length now
@@ -26,54 +27,65 @@ one-more old now bytes n i e h l =
     ∙ append-assoc (take n old) (take i bytes) (getD bytes i 0 ∷ [])
     ∙ ap (λ (z : List ℕ). take n old ++ z) (sym (take-suc bytes i 0 h) ∙ ap (λ (j : ℕ). take j bytes) (sym (add-one i)))
 
-pub puts-to : {limit n k : ℕ} {bytes old new : List ℕ} → Stand limit n bytes old new k → Puts limit n bytes old new (To k)
-puts-to {limit} {n} {k} {bytes} {old} {new} s =
-    record {
-      stand = λ j e. let q : k ≡ j = cc in subst (λ (i : ℕ). Stand limit n bytes old new i) q s;
-      full = λ e. let z : _≡_ {A = ℕ} 0 1 = cc in absurd (omega arith);
-    }
-
-pub puts-full : {limit n : ℕ} {bytes old new : List ℕ} → limit < n + length bytes → Puts limit n bytes old new Full
-puts-full l = record { stand = λ j e. let z : _≡_ {A = ℕ} 0 1 = cc in absurd (omega arith); full = λ e. l }
+-- nothing is put
+pub put-none : {n : ℕ} {now : List ℕ} → Puts n [] now now n
+put-none {n} {now} = record { ends = record { count = λ h. sym (add-zero n); full = λ h. omega arith }; text = λ h. sym (append-nil (take n now)); same = refl }
 
 -- the bytes by another name
-pub by-bytes : {limit n : ℕ} {bytes other old new : List ℕ} {r : Wrote} → bytes ≡ other → Puts limit n bytes old new r → Puts limit n other old new r
-by-bytes {limit} {n} {old = old} {new = new} {r = r} e p = subst (λ (z : List ℕ). Puts limit n z old new r) e p
+pub by-bytes : {n r : ℕ} {bytes other old new : List ℕ} → bytes ≡ other → Puts n bytes old new r → Puts n other old new r
+by-bytes {n} {r} {old = old} {new = new} e p = subst (λ (z : List ℕ). Puts n z old new r) e p
 
--- nothing is put
-pub put-none : {limit n : ℕ} {now : List ℕ} → n ≤ limit → Puts limit n [] now now (To n)
-put-none {limit} {n} {now} h = puts-to (record { count = sym (add-zero n); within = h; text = sym (append-nil (take n now)) })
+ends-also : {room n k j a b : ℕ} → Ends room n a k → Ends room k b j → Ends room n (a + b) j
+ends-also {room} {n} {k} {j} {a} {b} p q = record { count = λ h. counted h (q .count h); full = λ h. past (q .full h) (decLe k room) }
+  where
+    counted : j ≤ room → j ≡ k + b → j ≡ n + (a + b)
+    counted h e = let c = p .count (omega arith) in omega arith
 
--- what was put leaves room
-pub room : {limit n k : ℕ} {bytes old new : List ℕ} {r : Wrote} → Puts limit n bytes old new r → r ≡ To k → k ≤ limit
-room {k = k} p e = p .stand k e .within
-
-stand-also : {limit n k j : ℕ} {bytes more old mid new : List ℕ} → Stand limit n bytes old mid k → Stand limit k more mid new j → Stand limit n (bytes ++ more) old new j
-stand-also {limit} {n} {k} {j} {bytes} {more} {old} p x =
-    record {
-      count = x .count ∙ ap (λ (i : ℕ). i + length more) (p .count) ∙ add-assoc n (length bytes) (length more) ∙ ap (λ (i : ℕ). n + i) (sym (length-append bytes more));
-      within = x .within;
-      text = x .text ∙ ap (λ (z : List ℕ). z ++ more) (p .text) ∙ append-assoc (take n old) bytes more;
-    }
+    past : room < k + b → Dec (k ≤ room) → room < n + (a + b)
+    past l (yes h) = let c = p .count h in omega arith
+    past l (no f) = let c = p .full (omega arith) in omega arith
 
 -- a put behind a put
-pub also : {limit n k : ℕ} {bytes more old mid new : List ℕ} {r s : Wrote} → Puts limit n bytes old mid r → r ≡ To k → Puts limit k more mid new s
-    → Puts limit n (bytes ++ more) old new s
-also {k = k} {bytes = bytes} {more = more} p e q =
+pub also : {n k j : ℕ} {bytes more old mid new : List ℕ} → Puts n bytes old mid k → Puts k more mid new j → Puts n (bytes ++ more) old new j
+also {n} {k} {j} {bytes} {more} {old} {mid} {new} p q =
     record {
-      stand = λ j f. stand-also (p .stand k e) (q .stand j f);
-      full = λ f. let c = p .stand k e .count in let a = length-append bytes more in let l = q .full f in omega arith;
+      ends = subst (λ (z : ℕ). Ends (length old) n z j) (sym (length-append bytes more)) whole;
+      text = λ h. q .text (omega (arith, p .same)) ∙ ap (λ (z : List ℕ). z ++ more) (p .text (let c = rest .count h in omega arith)) ∙ append-assoc (take n old) bytes more;
+      same = q .same ∙ p .same;
     }
+  where
+    rest : Ends (length old) k (length more) j
+    rest = subst (λ (z : ℕ). Ends z k (length more) j) (p .same) (q .ends)
 
--- a put that is the last
-pub no-more : {limit n : ℕ} {bytes old mid new : List ℕ} {r : Wrote} (more : List ℕ) → Puts limit n bytes old mid r → r ≡ Full → Puts limit n (bytes ++ more) old new Full
-no-more {bytes = bytes} more p e = puts-full (let a = length-append bytes more in let l = p .full e in omega arith)
+    whole : Ends (length old) n (length bytes + length more) j
+    whole = ends-also (p .ends) rest
+
+pub by-size : {room n size k r : ℕ} → size ≡ k → Ends room n size r → Ends room n k r
+by-size {room} {n} {r = r} e p = subst (λ (z : ℕ). Ends room n z r) e p
+
+-- the bytes pass the file's end
+pub put-past : {n r : ℕ} {bytes now : List ℕ} → Ends (length now) n (length bytes) r → length now < r → Puts n bytes now now r
+put-past e l = record { ends = e; text = λ h. absurd (omega arith); same = refl }
 
 -- all of the bytes
-pub put-all : {limit n i : ℕ} {bytes old new : List ℕ} → take (n + i) new ≡ take n old ++ take i bytes → length bytes ≤ i → i ≤ length bytes → n + i ≤ limit → Puts limit n bytes old new (To (n + i))
-put-all {n = n} {i = i} {bytes = bytes} {old = old} e h l w =
-    let q : i ≡ length bytes = omega arith in
-    puts-to (record { count = ap (λ (j : ℕ). n + j) q; within = w; text = e ∙ ap (λ (z : List ℕ). take n old ++ z) (take-all i bytes h) })
+pub put-all : {n r : ℕ} {bytes old new : List ℕ} (i : ℕ) (room : List ℕ) → Ends (length old) n (length bytes) r → r ≤ length old → take (n + i) new ≡ take n old ++ take i room → n + i ≡ r
+    → take (length bytes) room ≡ bytes → length new ≡ length old → Puts n bytes old new r
+put-all {n} {r} {bytes} {old} {new} i room e h t q w s =
+    let c = e .count h in
+    let l : i ≡ length bytes = omega arith in
+    record {
+      ends = e;
+      text = λ g. ap (λ (j : ℕ). take j new) (sym q) ∙ t ∙ ap (λ (z : List ℕ). take n old ++ z) (ap (λ (j : ℕ). take j room) l ∙ w);
+      same = s;
+    }
+
+pub short-few : (s : Short) → length (shortText s) ≤ 4
+unfolding shortText
+short-few Nothing = omega arith
+short-few (One a) = omega arith
+short-few (Two a b) = omega arith
+short-few (Three a b c) = omega arith
+short-few (Four a b c d) = omega arith
 
 -- THE MARKS
 
@@ -89,13 +101,16 @@ pub among-end : (l : List ℕ) (i b : ℕ) → length l ≤ i → among (drop i 
 unfolding among
 among-end l i b h = rw (drop-of-length-le l {i = i} h)
 
-pub plain : (l : List ℕ) (b : ℕ) {t : Bool} → t ≡ among l b → not t ≡ true → b ∷ [] ≡ byte (among l b) b
+pub plain : (t : Bool) (b : ℕ) → not t ≡ true → b ∷ [] ≡ byte t b
 unfolding byte
-plain l b e n = ap (λ (w : Bool). byte w b) (sym (not-true _ n) ∙ e)
+plain t b n = ap (λ (w : Bool). byte w b) {y = t} (sym (not-true t n))
 
-pub marked : (l : List ℕ) (b : ℕ) {t : Bool} {x : ℕ} → t ≡ among l b → not t ≡ false → x ≡ escapeByte b → 92 ∷ x ∷ [] ≡ byte (among l b) b
+pub escaped : (t : Bool) (b : ℕ) {x : ℕ} → not t ≡ false → x ≡ escapeByte b → 92 ∷ x ∷ [] ≡ byte t b
 unfolding byte
-marked l b e n f = ap (λ (y : ℕ). 92 ∷ y ∷ []) f ∙ ap (λ (w : Bool). byte w b) (sym (not-false _ n) ∙ e)
+escaped t b n f = ap (λ (y : ℕ). 92 ∷ y ∷ []) f ∙ ap (λ (w : Bool). byte w b) {y = t} (sym (not-false t n))
+
+pub by-mark : (l : List ℕ) (b : ℕ) {t : Bool} {x : List ℕ} → x ≡ byte t b → t ≡ among l b → x ≡ byte (among l b) b
+by-mark l b e f = e ∙ ap (λ (w : Bool). byte w b) f
 
 pub feed : {b : ℕ} → b ≡ 10 → 110 ≡ escapeByte b
 unfolding escapeByte pick
@@ -111,16 +126,11 @@ itself {b} f g = rw (ne-eqb b 10 f, ne-eqb b 9 g)
 
 -- THE LOOPS
 
-pub rest-all : {limit n : ℕ} {bytes now : List ℕ} → Rest limit n bytes now n bytes now
+pub rest-all : {n : ℕ} {bytes now : List ℕ} → Rest n bytes now n bytes now
 rest-all = λ new r p. p
 
-pub rest-next : {limit m n k : ℕ} {whole old rest bytes more now next : List ℕ} {r : Wrote} → Rest limit m whole old n rest now → rest ≡ bytes ++ more → Puts limit n bytes now next r → r ≡ To k
-    → Rest limit m whole old k more next
-rest-next f w p e = λ new s q. f new s (by-bytes (sym w) (also p e q))
+pub rest-next : {m n k : ℕ} {whole old rest bytes more now next : List ℕ} → Rest m whole old n rest now → rest ≡ bytes ++ more → Puts n bytes now next k → Rest m whole old k more next
+rest-next f w p = λ new r q. f new r (by-bytes (sym w) (also p q))
 
-pub rest-full : {limit m n : ℕ} {whole old rest bytes now mid new : List ℕ} {r : Wrote} (more : List ℕ) → Rest limit m whole old n rest now → rest ≡ bytes ++ more → Puts limit n bytes now mid r → r ≡ Full
-    → Puts limit m whole old new Full
-rest-full {new = new} more f w p e = f new Full (by-bytes (sym w) (no-more more p e))
-
-pub rest-done : {limit m n : ℕ} {whole old rest now : List ℕ} → Rest limit m whole old n rest now → rest ≡ [] → n ≤ limit → Puts limit m whole old now (To n)
-rest-done {n = n} {now = now} f w h = f now (To n) (by-bytes (sym w) (put-none h))
+pub rest-done : {m n : ℕ} {whole old rest now : List ℕ} → Rest m whole old n rest now → rest ≡ [] → Puts m whole old now n
+rest-done {n = n} {now = now} f w = f now n (by-bytes (sym w) put-none)

@@ -17,7 +17,7 @@ use Rattle.macros.specs.Formed.{Formed}
 use Rattle.macros.specs.Write.{writePattern, writeReplacement, writeText, commandsBytes, symbolSign, written}
 use Rattle.tables.specs.Form.{memberItems, membersItems, unitRest, pieceItems, patternItems, callsItems, replacementItems, two, symbolCode, header, body, bodyBytes, slot, slotBytes}
 use Rattle.writing.specs.Items.{patternText, actionsText, Whole}
-use Rattle.writing.specs.Slots.{sizeAt, patternEnd, replacementEnd, commandsEnd, symbolByte, part, slotText, Parts}
+use Rattle.writing.specs.Slots.{sizeAt, patternEnd, replacementEnd, commandsEnd, symbolByte, part, leftText, rightText, slotText, Parts}
 use Rattle.writing.proofs.Decoded.{pattern-kinds, pattern-text, actions-text, actions-whole, calls-items, calls-text}
 
 -- the items of a pattern are two bytes each
@@ -126,7 +126,7 @@ module _ (m : Macro) where
   symbol-text = sign (m .symbol)
 
   pub slot-text : Formed m → slotText (slot m) ≡ written m
-  unfolding slotText written
+  unfolding slotText leftText rightText written
   slot-text f =
       rw (
         slot-pattern,
@@ -139,6 +139,7 @@ module _ (m : Macro) where
         calls-text,
         actions-text,
       )
+      (append-assoc (39 ∷ writePattern (m .pattern)) (39 ∷ symbolSign (m .symbol) ∷ []) _)
 
   pub slot-length : length (body m) ≤ bodyBytes → length (slot m) ≡ slotBytes
   unfolding slot

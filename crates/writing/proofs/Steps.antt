@@ -66,6 +66,19 @@ module _ (t : List ℕ) where
   unfolding actionSize pick
   size-short h = rw (lt-ltb (getD t 0 0) 64 h)
 
+  pub size-call : 64 ≤ getD t 0 0 → 4 ≤ actionSize t
+  unfolding actionSize pick
+  size-call h = rw (le-ltb (getD t 0 0) 64 h) (by (ltb (getD t 0 0) 72) (ltb (getD t 0 0) 80))
+    where
+      by : (q r : Bool) → 4 ≤ pick q 4 (pick r (4 + getD t 3 0 + getD t 3 0 % 2) 6)
+      by true r = omega arith
+      by false true = omega arith
+      by false false = omega arith
+
+  pub size-long : 64 ≤ getD t 0 0 → actionSize t ≡ pick (ltb (getD t 0 0) 72) 4 (pick (ltb (getD t 0 0) 80) (4 + getD t 3 0 + getD t 3 0 % 2) 6)
+  unfolding actionSize pick
+  size-long h = rw (le-ltb (getD t 0 0) 64 h)
+
   pub size-tag : 64 ≤ getD t 0 0 → getD t 0 0 < 72 → actionSize t ≡ 4
   unfolding actionSize pick
   size-tag g h = rw (le-ltb (getD t 0 0) 64 g, lt-ltb (getD t 0 0) 72 h)

@@ -12,31 +12,39 @@ use Rattle.macros.specs.Write.{patternMarks, classMarks, textMarks, byte, digit
 unfoldable pub closureText : ℕ → List ℕ
 closureText c = pick (eqb (c % 4) 1) (42 ∷ []) (pick (eqb (c % 4) 2) (42 ∷ 45 ∷ []) [])
 
--- a literal, `?n` or a call
+-- a literal, `?n` or a call; a kind has one digit
 unfoldable pub unitText : ℕ → ℕ → List ℕ
 unitText c b =
     pick (ltb c 12) (byte (among patternMarks b) b)
-    (pick (ltb c 16) (63 ∷ digits b)
+    (pick (ltb c 16) (63 ∷ (48 + b % 10) ∷ [])
     (pick (ltb c 20) (38 ∷ 40 ∷ b ∷ 41 ∷ []) (35 ∷ 40 ∷ b ∷ 41 ∷ [])))
 
 -- `{`, `}`, `^` or `$`
 unfoldable pub braceByte : ℕ → ℕ
 braceByte c = pick (eqb c 1) 123 (pick (eqb c 2) 125 (pick (eqb c 3) 94 36))
 
--- a member, one end of a range, or the class's end with the closure that its code asks for
-unfoldable pub memberText : ℕ → ℕ → ℕ → List ℕ
-memberText held c b =
+-- a member, one end of a range, or the class's end
+unfoldable pub memberText : ℕ → ℕ → List ℕ
+memberText c b =
     pick (eqb c 32) (byte (among classMarks b) b)
     (pick (eqb c 33) (b ∷ 45 ∷ [])
-    (pick (eqb c 34) (b ∷ []) (93 ∷ closureText held)))
+    (pick (eqb c 34) (b ∷ []) (93 ∷ [])))
+
+-- an item without its closure
+unfoldable pub headText : ℕ → ℕ → List ℕ
+headText c b =
+    pick (ltb c 8) (braceByte c ∷ [])
+    (pick (ltb c 24) (unitText c b)
+    (pick (ltb c 28) (91 ∷ [])
+    (pick (ltb c 32) (91 ∷ 126 ∷ []) (memberText c b))))
+
+-- the closure of an item; the class's end has the one that the class's code asks for
+unfoldable pub tailText : ℕ → ℕ → List ℕ
+tailText held c = pick (ltb c 8) [] (pick (ltb c 24) (closureText c) (pick (ltb c 35) [] (closureText held)))
 
 -- an item, behind an element with the code held
 unfoldable pub itemText : ℕ → ℕ → ℕ → List ℕ
-itemText held c b =
-    pick (ltb c 8) (braceByte c ∷ [])
-    (pick (ltb c 24) (unitText c b ++ closureText c)
-    (pick (ltb c 28) (91 ∷ [])
-    (pick (ltb c 32) (91 ∷ 126 ∷ []) (memberText held c b))))
+itemText held c b = headText c b ++ tailText held c
 
 -- the items of a pattern
 unfoldable pub patternText : ℕ → List ℕ → List ℕ
@@ -66,31 +74,35 @@ numberIn t = getD t 2 0 + 256 * getD t 3 0 + 65536 * getD t 4 0 + 16777216 * get
 unfoldable pub textIn : List ℕ → List ℕ
 textIn t = take (getD t 3 0) (drop 4 t)
 
--- `=n` or `,n`
-unfoldable pub setText : List ℕ → List ℕ
-setText t = getD t 1 0 ∷ pick (ltb (getD t 0 0) 96) 61 44 ∷ (digits (numberIn t) ++ (41 ∷ []))
+-- the tag's number and `,`; or the name and `:`; or the letter and `=` or `,`
+unfoldable pub firstText : ℕ → ℕ → ℕ → List ℕ
+firstText c i n =
+    pick (ltb c 72) (digits n ++ (44 ∷ []))
+    (pick (ltb c 80) (nameText c i ++ (58 ∷ [])) (i ∷ pick (ltb c 96) 61 44 ∷ []))
 
--- `:text:`
-unfoldable pub storeText : List ℕ → List ℕ
-storeText t = nameText (getD t 0 0) (getD t 1 0) ++ (58 ∷ (writeText (textIn t) ++ (58 ∷ 41 ∷ [])))
+-- nothing, the text or the number
+unfoldable pub middleText : List ℕ → List ℕ
+middleText t = pick (ltb (getD t 0 0) 72) [] (pick (ltb (getD t 0 0) 80) (writeText (textIn t)) (digits (numberIn t)))
 
--- a letter and the call's end
-unfoldable pub lastName : List ℕ → List ℕ
-lastName t = nameText (getD t 0 0) (getD t 1 0) ++ (41 ∷ [])
+-- the name and `)`, `:)` or `)`
+unfoldable pub lastText : ℕ → ℕ → List ℕ
+lastText c i = pick (ltb c 72) (nameText c i ++ (41 ∷ [])) (pick (ltb c 80) (58 ∷ 41 ∷ []) (41 ∷ []))
 
--- what stands behind `&(` or `#(`
-unfoldable pub innerText : List ℕ → List ℕ
-innerText t =
-    pick (ltb (getD t 0 0) 64) (lastName t)
-    (pick (ltb (getD t 0 0) 72) (digits (getD t 3 0) ++ (44 ∷ lastName t))
-    (pick (ltb (getD t 0 0) 80) (storeText t) (setText t)))
+-- what stands behind the `(` of a call that stores or sets
+unfoldable pub callText : List ℕ → List ℕ
+callText t = firstText (getD t 0 0) (getD t 1 0) (getD t 3 0) ++ (middleText t ++ lastText (getD t 0 0) (getD t 1 0))
+
+-- a literal byte, `{`, `&(` or `#(`
+unfoldable pub openText : ℕ → ℕ → List ℕ
+openText c b = pick (eqb c 40) (byte (among textMarks b) b) (pick (eqb c 41) (123 ∷ []) (callByte c ∷ 40 ∷ []))
+
+-- what follows in an action of two bytes: nothing, `n}`, or the name and `)`
+unfoldable pub endText : ℕ → ℕ → List ℕ
+endText c b = pick (eqb c 40) [] (pick (eqb c 41) (digits b ++ (125 ∷ [])) (nameText c b ++ (41 ∷ [])))
 
 -- a literal byte, `{n}` or a call
 unfoldable pub actionText : List ℕ → List ℕ
-actionText t =
-    pick (eqb (getD t 0 0) 40) (byte (among textMarks (getD t 1 0)) (getD t 1 0))
-    (pick (eqb (getD t 0 0) 41) (123 ∷ (digits (getD t 1 0) ++ (125 ∷ [])))
-    (callByte (getD t 0 0) ∷ 40 ∷ innerText t))
+actionText t = openText (getD t 0 0) (getD t 1 0) ++ pick (ltb (getD t 0 0) 64) (endText (getD t 0 0) (getD t 1 0)) (callText t)
 
 -- the bytes that the action takes
 unfoldable pub actionSize : List ℕ → ℕ

@@ -2,7 +2,7 @@
 use Prim.Native.Nat.{ℕ, suc, _+_, _-_, _*_, _%_, _≤_, _<_}
 use mathlib.Core.Path.{_≡_}
 use mathlib.Core.List.{List, [], _∷_, _++_}
-use lib.Dec.{leb, eqb}
+use lib.Dec.{leb, ltb, eqb}
 use lib.ListN.{length, getD, take, drop, replicate}
 use Rattle.macros.specs.Bounds.{mostFileBytes, mostMacroBytes}
 use Rattle.macros.specs.Macro.{Macro, Table, pick}
@@ -39,12 +39,19 @@ symbolByte c = pick (eqb c 1) 60 61
 unfoldable pub part : ℕ → ℕ → List ℕ → List ℕ
 part a e s = take (e - a) (drop a s)
 
+-- the pattern in quotes, and the symbol
+unfoldable pub leftText : List ℕ → List ℕ
+leftText s = 39 ∷ (patternText 0 (part 8 (patternEnd s) s) ++ (39 ∷ symbolByte (getD s 0 0) ∷ []))
+
+-- the replacement in quotes, the commands and `;`
+unfoldable pub rightText : List ℕ → List ℕ
+rightText s =
+    39 ∷ (actionsText 0 (part (patternEnd s) (replacementEnd s) s)
+    ++ (39 ∷ (actionsText 0 (part (replacementEnd s) (commandsEnd s) s) ++ (59 ∷ []))))
+
 -- the macro of a slot, from its first quote to its `;`
 unfoldable pub slotText : List ℕ → List ℕ
-slotText s =
-    39 ∷ (patternText 0 (part 8 (patternEnd s) s)
-    ++ (39 ∷ symbolByte (getD s 0 0) ∷ 39 ∷ (actionsText 0 (part (patternEnd s) (replacementEnd s) s)
-    ++ (39 ∷ (actionsText 0 (part (replacementEnd s) (commandsEnd s) s) ++ (59 ∷ []))))))
+slotText s = leftText s ++ rightText s
 
 -- the parts of a slot are whole
 pub record Parts (s : List ℕ) : Type 0 where
@@ -65,6 +72,10 @@ limitOf n = pick (leb n 32256) (n + mostMacroBytes) mostFileBytes
 
 unfoldable pub faultOf : ℕ → Fault
 faultOf n = pick (leb n 32256) MacroTooLong FileTooLong
+
+-- the answer for a macro that begins at start, with its limit, and ends at n, or behind its line feed at end
+unfoldable pub answerOf : ℕ → ℕ → ℕ → ℕ → Answer
+answerOf start limit n end = pick (ltb limit n) (Refused (faultOf start) limit) (pick (ltb mostFileBytes end) (Refused FileTooLong mostFileBytes) (WrittenOut end))
 
 -- what comes of the macros behind a macro with this answer
 abbrev pub onward : List ℕ → Table → Answer → Written

@@ -1,55 +1,60 @@
 // A replacement or the commands, from their items.
-use crate::put::Wrote;
+use crate::put::Short;
+use crate::put::decimal;
+use crate::put::in_list;
+use crate::put::marked;
 use crate::put::put;
-use crate::put::put_marked;
 use crate::put::put_number;
 use crate::put::wide;
 ghost use mathlib.Core.Path.{_≡_};
 ghost use mathlib.Core.List.{[], _∷_, _++_};
-ghost use Prim.Native.Nat.{_+_, _≤_, _<_};
+ghost use Prim.Native.Nat.{_+_, _%_, _≤_, _<_};
 ghost use lib.Dec.{ltb};
 ghost use lib.ListN.{length, getD};
-ghost use Rattle.macros.specs.Macro.{pick};
-ghost use Rattle.macros.specs.Write.{digits, writeText};
-ghost use Rattle.writing.specs.Puts.{Room, Puts};
-ghost use Rattle.writing.specs.Items.{nameText, callByte, numberIn, lastName, storeText, setText, innerText, actionText, actionSize, actionsText, Held, Whole};
+ghost use Rattle.macros.specs.Macro.{pick, among};
+ghost use Rattle.macros.specs.Write.{textMarks, byte, writeText};
+ghost use Rattle.writing.specs.Puts.{shortText, Puts};
+ghost use Rattle.writing.specs.Items.{nameText, callByte, numberIn, openText, endText, firstText, middleText, lastText, callText, actionText, actionSize, actionsText, Held, Whole};
 
-// A letter with the sign that the call's code asks for.
-fn put_name(file: &mut [u8], limit: usize, n: usize, code: u8, letter: u8) -> Wrote
-    requires { ⌜ Room (now file) limit n ⌝ }
-    ensures { λ r. ⌜ Puts limit n (nameText code letter) (now (file .entry)) (now (file .exit)) r ⌝ }
+// A letter with the sign that the call's code asks for, and a byte behind it.
+fn name(code: u8, letter: u8, close: u8) -> Short
+    ensures { λ r. ⌜ shortText r ≡ nameText code letter ++ (close ∷ []) ⌝ }
 {
     let move_code = code % 8;
     if move_code == 0 {
-        return put(file, limit, n, &[letter]);
+        return Short::Two(letter, close);
     }
     if move_code == 1 {
-        return put(file, limit, n, &[b'+', letter]);
+        return Short::Three(b'+', letter, close);
     }
     if move_code == 2 {
-        return put(file, limit, n, &[b'-', letter]);
+        return Short::Three(b'-', letter, close);
     }
     if move_code == 3 {
-        return put(file, limit, n, &[letter, b'+']);
+        return Short::Three(letter, b'+', close);
     }
-    put(file, limit, n, &[letter, b'-'])
+    Short::Three(letter, b'-', close)
 }
 
-// A call's text, or one literal.
-fn put_text(file: &mut [u8], limit: usize, first: usize, text: &[u8]) -> Wrote
-    requires { ⌜ Room (now file) limit first ⌝ }
-    ensures { λ r. ⌜ Puts limit first (writeText (now (text .entry))) (now (file .entry)) (now (file .exit)) r ⌝ }
+// A literal.
+fn literal(b: u8) -> Short
+    ensures { λ r. ⌜ shortText r ≡ byte (among textMarks b) b ⌝ }
+{
+    marked(in_list(b"{&#/\\';:\n\t", b), b)
+}
+
+// A call's text.
+fn put_text(file: &mut [u8], first: usize, text: &[u8]) -> usize
+    requires { ⌜ length (now file) ≤ 32768 ⌝ }
+    ensures { λ r. ⌜ Puts first (writeText (now (text .entry))) (now (file .entry)) (now (file .exit)) r ⌝ }
 {
     let mut n = first;
     let mut i = 0;
     while i < text.len() {
-        let Wrote::To(m) = put_marked(file, limit, n, b"{&#/\\';:\n\t", text[i]) else {
-            return Wrote::Full;
-        };
-        n = m;
+        n = put(file, n, literal(text[i]));
         i += 1;
     }
-    Wrote::To(n)
+    n
 }
 
 // The number in four bytes.
@@ -58,32 +63,6 @@ fn number_in(t: &[u8]) -> u64
     ensures { λ r. ⌜ r ≡ numberIn (now (t .entry)) ⌝ }
 {
     wide(t[2]) + 256 * wide(t[3]) + 65536 * wide(t[4]) + 16777216 * wide(t[5])
-}
-
-// A letter and the call's end.
-fn put_last_name(file: &mut [u8], limit: usize, n: usize, t: &[u8]) -> Wrote
-    requires { ⌜ Room (now file) limit n × (2 ≤ length (now t)) ⌝ }
-    ensures { λ r. ⌜ Puts limit n (lastName (now (t .entry))) (now (file .entry)) (now (file .exit)) r ⌝ }
-{
-    let Wrote::To(m) = put_name(file, limit, n, t[0], t[1]) else {
-        return Wrote::Full;
-    };
-    put(file, limit, m, b")")
-}
-
-// `=n` or `,n`.
-fn put_set(file: &mut [u8], limit: usize, n: usize, t: &[u8]) -> Wrote
-    requires { ⌜ Room (now file) limit n × (6 ≤ length (now t)) ⌝ }
-    ensures { λ r. ⌜ Puts limit n (setText (now (t .entry))) (now (file .entry)) (now (file .exit)) r ⌝ }
-{
-    let sign = set_sign(t[0]);
-    let Wrote::To(m) = put(file, limit, n, &[t[1], sign]) else {
-        return Wrote::Full;
-    };
-    let Wrote::To(k) = put_number(file, limit, m, number_in(t)) else {
-        return Wrote::Full;
-    };
-    put(file, limit, k, b")")
 }
 
 fn set_sign(code: u8) -> u8
@@ -95,46 +74,58 @@ fn set_sign(code: u8) -> u8
     b','
 }
 
-// `:text:`.
-fn put_store(file: &mut [u8], limit: usize, n: usize, t: &[u8]) -> Wrote
-    requires { ⌜ Room (now file) limit n × (4 ≤ length (now t)) × (4 + getD (now t) 3 0 ≤ length (now t)) ⌝ }
-    ensures { λ r. ⌜ Puts limit n (storeText (now (t .entry))) (now (file .entry)) (now (file .exit)) r ⌝ }
+// The tag's number and `,`; or the name and `:`; or the letter and `=` or `,`.
+fn first(code: u8, letter: u8, tag: u8) -> Short
+    ensures { λ r. ⌜ shortText r ≡ firstText code letter tag ⌝ }
 {
-    let Wrote::To(m) = put_name(file, limit, n, t[0], t[1]) else {
-        return Wrote::Full;
-    };
-    let Wrote::To(k) = put(file, limit, m, b":") else {
-        return Wrote::Full;
-    };
-    let end = 4 + t[3] as usize;
-    let Wrote::To(e) = put_text(file, limit, k, &t[4..end]) else {
-        return Wrote::Full;
-    };
-    put(file, limit, e, b":)")
-}
-
-// What stands behind `&(` or `#(`.
-fn put_inner(file: &mut [u8], limit: usize, n: usize, t: &[u8]) -> Wrote
-    requires { ⌜ Room (now file) limit n × Held (now t) ⌝ }
-    ensures { λ r. ⌜ Puts limit n (innerText (now (t .entry))) (now (file .entry)) (now (file .exit)) r ⌝ }
-{
-    let code = t[0];
-    if code < 64 {
-        return put_last_name(file, limit, n, t);
-    }
     if code < 72 {
-        let Wrote::To(m) = put_number(file, limit, n, wide(t[3])) else {
-            return Wrote::Full;
-        };
-        let Wrote::To(k) = put(file, limit, m, b",") else {
-            return Wrote::Full;
-        };
-        return put_last_name(file, limit, k, t);
+        return decimal(tag, b',');
     }
     if code < 80 {
-        return put_store(file, limit, n, t);
+        return name(code, letter, b':');
     }
-    put_set(file, limit, n, t)
+    Short::Two(letter, set_sign(code))
+}
+
+// What stands between the first and the last: nothing, the text or the number.
+fn put_middle(file: &mut [u8], n: usize, t: &[u8]) -> usize
+    requires { ⌜ (length (now file) ≤ 32768) × (64 ≤ getD (now t) 0 0) × Held (now t) ⌝ }
+    ensures { λ r. ⌜ Puts n (middleText (now (t .entry))) (now (file .entry)) (now (file .exit)) r ⌝ }
+{
+    let code = t[0];
+    if code < 72 {
+        return n;
+    }
+    if code < 80 {
+        let end = 4 + t[3] as usize;
+        return put_text(file, n, &t[4..end]);
+    }
+    put_number(file, n, number_in(t))
+}
+
+// The name and `)`, `:)` or `)`.
+fn last(code: u8, letter: u8) -> Short
+    ensures { λ r. ⌜ shortText r ≡ lastText code letter ⌝ }
+{
+    if code < 72 {
+        return name(code, letter, b')');
+    }
+    if code < 80 {
+        return Short::Two(b':', b')');
+    }
+    Short::One(b')')
+}
+
+// What stands behind the `(` of a call that stores or sets.
+fn put_call(file: &mut [u8], n: usize, t: &[u8]) -> usize
+    requires { ⌜ (length (now file) ≤ 32768) × (64 ≤ getD (now t) 0 0) × Held (now t) ⌝ }
+    ensures { λ r. ⌜ Puts n (callText (now (t .entry))) (now (file .entry)) (now (file .exit)) r ⌝ }
+{
+    let code = t[0];
+    let letter = t[1];
+    let a = put(file, n, first(code, letter, t[3]));
+    let b = put_middle(file, a, t);
+    put(file, b, last(code, letter))
 }
 
 fn call_byte(code: u8) -> u8
@@ -152,37 +143,58 @@ fn call_byte(code: u8) -> u8
     b'#'
 }
 
-// A literal, `{n}` or a call.
-fn put_action(file: &mut [u8], limit: usize, n: usize, t: &[u8]) -> Wrote
-    requires { ⌜ Room (now file) limit n × Held (now t) ⌝ }
-    ensures { λ r. ⌜ Puts limit n (actionText (now (t .entry))) (now (file .entry)) (now (file .exit)) r ⌝ }
+// A literal, `{`, `&(` or `#(`.
+fn opening(code: u8, b: u8) -> Short
+    ensures { λ r. ⌜ shortText r ≡ openText code b ⌝ }
 {
-    let code = t[0];
     if code == 40 {
-        return put_marked(file, limit, n, b"{&#/\\';:\n\t", t[1]);
+        return literal(b);
     }
     if code == 41 {
-        return put_tag(file, limit, n, t[1]);
+        return Short::One(b'{');
     }
-    let mark = call_byte(code);
-    let Wrote::To(m) = put(file, limit, n, &[mark, b'(']) else {
-        return Wrote::Full;
-    };
-    put_inner(file, limit, m, t)
+    Short::Two(call_byte(code), b'(')
 }
 
-// `{n}`.
-fn put_tag(file: &mut [u8], limit: usize, n: usize, tag: u8) -> Wrote
-    requires { ⌜ Room (now file) limit n ⌝ }
-    ensures { λ r. ⌜ Puts limit n (123 ∷ (digits tag ++ (125 ∷ []))) (now (file .entry)) (now (file .exit)) r ⌝ }
+// What follows in an action of two bytes: nothing, `n}`, or the name and `)`.
+fn ending(code: u8, b: u8) -> Short
+    ensures { λ r. ⌜ shortText r ≡ endText code b ⌝ }
 {
-    let Wrote::To(m) = put(file, limit, n, b"{") else {
-        return Wrote::Full;
-    };
-    let Wrote::To(k) = put_number(file, limit, m, wide(tag)) else {
-        return Wrote::Full;
-    };
-    put(file, limit, k, b"}")
+    if code == 40 {
+        return Short::Nothing;
+    }
+    if code == 41 {
+        return decimal(b, b'}');
+    }
+    name(code, b, b')')
+}
+
+// A literal, `{n}` or a call.
+fn put_action(file: &mut [u8], n: usize, t: &[u8]) -> usize
+    requires { ⌜ (length (now file) ≤ 32768) × Held (now t) ⌝ }
+    ensures { λ r. ⌜ Puts n (actionText (now (t .entry))) (now (file .entry)) (now (file .exit)) r ⌝ }
+{
+    let code = t[0];
+    let b = t[1];
+    let m = put(file, n, opening(code, b));
+    if code < 64 {
+        return put(file, m, ending(code, b));
+    }
+    put_call(file, m, t)
+}
+
+// The bytes that a call takes that stores or sets; `size` is the length of its text if it has one.
+fn call_size(code: u8, size: u8) -> usize
+    ensures { λ r. ⌜ r ≡ pick (ltb code 72) 4 (pick (ltb code 80) (4 + size + size % 2) 6) ⌝ }
+{
+    if code < 72 {
+        return 4;
+    }
+    if code < 80 {
+        let text = size as usize;
+        return 4 + text + text % 2;
+    }
+    6
 }
 
 // The bytes that the action takes.
@@ -194,30 +206,20 @@ fn action_size(t: &[u8]) -> usize
     if code < 64 {
         return 2;
     }
-    if code < 72 {
-        return 4;
-    }
-    if code < 80 {
-        let size = t[3] as usize;
-        return 4 + size + size % 2;
-    }
-    6
+    call_size(code, t[3])
 }
 
-// The actions of a replacement, or the commands.
-pub(crate) fn put_actions(file: &mut [u8], limit: usize, first: usize, items: &[u8]) -> Wrote
-    requires { ⌜ Room (now file) limit first × Whole (now items) ⌝ }
-    ensures { λ r. ⌜ Puts limit first (actionsText 0 (now (items .entry))) (now (file .entry)) (now (file .exit)) r ⌝ }
+// A quote and the actions of a replacement, or the commands.
+pub(crate) fn put_actions(file: &mut [u8], start: usize, items: &[u8]) -> usize
+    requires { ⌜ (length (now file) ≤ 32768) × Whole (now items) ⌝ }
+    ensures { λ r. ⌜ Puts start (39 ∷ actionsText 0 (now (items .entry))) (now (file .entry)) (now (file .exit)) r ⌝ }
 {
-    let mut n = first;
+    let mut n = put(file, start, Short::One(b'\''));
     let mut at = 0;
     while at < items.len() {
         let t = &items[at..];
-        let Wrote::To(m) = put_action(file, limit, n, t) else {
-            return Wrote::Full;
-        };
-        n = m;
+        n = put_action(file, n, t);
         at += action_size(t);
     }
-    Wrote::To(n)
+    n
 }

@@ -1,69 +1,60 @@
 // A pattern, from its items.
-use crate::put::Wrote;
+use crate::put::Short;
+use crate::put::in_list;
+use crate::put::marked;
 use crate::put::put;
-use crate::put::put_marked;
-use crate::put::put_number;
-use crate::put::wide;
 ghost use mathlib.Core.Path.{_≡_};
+ghost use mathlib.Core.List.{_∷_};
 ghost use Prim.Native.Nat.{_%_, _≤_, _<_};
 ghost use lib.Dec.{ltb};
 ghost use lib.ListN.{length};
 ghost use Rattle.macros.specs.Macro.{pick};
-ghost use Rattle.writing.specs.Puts.{Room, Puts};
-ghost use Rattle.writing.specs.Items.{closureText, unitText, braceByte, memberText, itemText, patternText};
+ghost use Rattle.writing.specs.Puts.{shortText, Puts};
+ghost use Rattle.writing.specs.Items.{closureText, unitText, braceByte, memberText, headText, tailText, patternText};
 
 // `*` or `*-`, by an element's code.
-fn put_closure(file: &mut [u8], limit: usize, n: usize, code: u8) -> Wrote
-    requires { ⌜ Room (now file) limit n ⌝ }
-    ensures { λ r. ⌜ Puts limit n (closureText code) (now (file .entry)) (now (file .exit)) r ⌝ }
+fn closure(code: u8) -> Short
+    ensures { λ r. ⌜ shortText r ≡ closureText code ⌝ }
 {
     if code % 4 == 1 {
-        return put(file, limit, n, b"*");
+        return Short::One(b'*');
     }
     if code % 4 == 2 {
-        return put(file, limit, n, b"*-");
+        return Short::Two(b'*', b'-');
     }
-    Wrote::To(n)
+    Short::Nothing
 }
 
-// A literal, `?n` or a call.
-fn put_unit(file: &mut [u8], limit: usize, n: usize, code: u8, b: u8) -> Wrote
-    requires { ⌜ Room (now file) limit n ⌝ }
-    ensures { λ r. ⌜ Puts limit n (unitText code b) (now (file .entry)) (now (file .exit)) r ⌝ }
+// A literal, `?n` or a call; a kind has one digit.
+fn unit(code: u8, b: u8) -> Short
+    ensures { λ r. ⌜ shortText r ≡ unitText code b ⌝ }
 {
     if code < 12 {
-        return put_marked(file, limit, n, b"$^*[?&#{}/\\';-\n\t", b);
+        return marked(in_list(b"$^*[?&#{}/\\';-\n\t", b), b);
     }
     if code < 16 {
-        let Wrote::To(m) = put(file, limit, n, b"?") else {
-            return Wrote::Full;
-        };
-        return put_number(file, limit, m, wide(b));
+        return Short::Two(b'?', 48 + b % 10);
     }
     if code < 20 {
-        return put(file, limit, n, &[b'&', b'(', b, b')']);
+        return Short::Four(b'&', b'(', b, b')');
     }
-    put(file, limit, n, &[b'#', b'(', b, b')'])
+    Short::Four(b'#', b'(', b, b')')
 }
 
-// A member, one end of a range, or the class's end with the closure that `held` asks for.
-fn put_member(file: &mut [u8], limit: usize, n: usize, held: u8, code: u8, b: u8) -> Wrote
-    requires { ⌜ Room (now file) limit n ⌝ }
-    ensures { λ r. ⌜ Puts limit n (memberText held code b) (now (file .entry)) (now (file .exit)) r ⌝ }
+// A member, one end of a range, or the class's end.
+fn member(code: u8, b: u8) -> Short
+    ensures { λ r. ⌜ shortText r ≡ memberText code b ⌝ }
 {
     if code == 32 {
-        return put_marked(file, limit, n, b"]-~\\';\n\t", b);
+        return marked(in_list(b"]-~\\';\n\t", b), b);
     }
     if code == 33 {
-        return put(file, limit, n, &[b, b'-']);
+        return Short::Two(b, b'-');
     }
     if code == 34 {
-        return put(file, limit, n, &[b]);
+        return Short::One(b);
     }
-    let Wrote::To(m) = put(file, limit, n, b"]") else {
-        return Wrote::Full;
-    };
-    put_closure(file, limit, m, held)
+    Short::One(b']')
 }
 
 fn brace(code: u8) -> u8
@@ -81,47 +72,57 @@ fn brace(code: u8) -> u8
     b'$'
 }
 
-// One item, behind an element with the code `held`.
-fn put_item(file: &mut [u8], limit: usize, n: usize, held: u8, code: u8, b: u8) -> Wrote
-    requires { ⌜ Room (now file) limit n ⌝ }
-    ensures { λ r. ⌜ Puts limit n (itemText held code b) (now (file .entry)) (now (file .exit)) r ⌝ }
+// An item without its closure.
+fn head(code: u8, b: u8) -> Short
+    ensures { λ r. ⌜ shortText r ≡ headText code b ⌝ }
 {
     if code < 8 {
-        return put(file, limit, n, &[brace(code)]);
+        return Short::One(brace(code));
     }
     if code < 24 {
-        let Wrote::To(m) = put_unit(file, limit, n, code, b) else {
-            return Wrote::Full;
-        };
-        return put_closure(file, limit, m, code);
+        return unit(code, b);
     }
     if code < 28 {
-        return put(file, limit, n, b"[");
+        return Short::One(b'[');
     }
     if code < 32 {
-        return put(file, limit, n, b"[~");
+        return Short::Two(b'[', b'~');
     }
-    put_member(file, limit, n, held, code, b)
+    member(code, b)
 }
 
-// The items of a pattern.
-pub(crate) fn put_pattern(file: &mut [u8], limit: usize, first: usize, items: &[u8]) -> Wrote
-    requires { ⌜ Room (now file) limit first × (length (now items) % 2 ≡ 0) × (length (now items) ≤ 1024) ⌝ }
-    ensures { λ r. ⌜ Puts limit first (patternText 0 (now (items .entry))) (now (file .entry)) (now (file .exit)) r ⌝ }
+// The closure of an item: a class has it at its end, and `held` is the class's code.
+fn tail(held: u8, code: u8) -> Short
+    ensures { λ r. ⌜ shortText r ≡ tailText held code ⌝ }
 {
-    let mut n = first;
+    if code < 8 {
+        return Short::Nothing;
+    }
+    if code < 24 {
+        return closure(code);
+    }
+    if code < 35 {
+        return Short::Nothing;
+    }
+    closure(held)
+}
+
+// A quote and the items of a pattern.
+pub(crate) fn put_pattern(file: &mut [u8], start: usize, items: &[u8]) -> usize
+    requires { ⌜ (length (now file) ≤ 32768) × (length (now items) % 2 ≡ 0) × (length (now items) ≤ 1024) ⌝ }
+    ensures { λ r. ⌜ Puts start (39 ∷ patternText 0 (now (items .entry))) (now (file .entry)) (now (file .exit)) r ⌝ }
+{
+    let mut n = put(file, start, Short::One(b'\''));
     let mut held: u8 = 0;
     let mut at = 0;
     while at < items.len() {
         let code = items[at];
-        let Wrote::To(m) = put_item(file, limit, n, held, code, items[at + 1]) else {
-            return Wrote::Full;
-        };
+        let m = put(file, n, head(code, items[at + 1]));
+        n = put(file, m, tail(held, code));
         held = element_code(held, code);
-        n = m;
         at += 2;
     }
-    Wrote::To(n)
+    n
 }
 
 // The code of the last element: members are behind their class.

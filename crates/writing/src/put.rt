@@ -1,30 +1,74 @@
-// Puts bytes into the file, up to a limit.
+// Puts bytes into the file, up to its end.
+// A number of bytes past the file's end says that they do not all fit: it is handed on, and no more is put.
 ghost use mathlib.Core.Path.{_≡_};
-ghost use Prim.Native.Nat.{_+_, _<_};
+ghost use mathlib.Core.List.{[], _∷_, _++_};
+ghost use Prim.Native.Nat.{_+_, _≤_, _<_};
+ghost use lib.ListN.{length, take};
 ghost use Rattle.macros.specs.Macro.{among};
 ghost use Rattle.macros.specs.Write.{byte, digits};
-ghost use Rattle.writing.specs.Puts.{Room, Puts};
+ghost use Rattle.writing.specs.Puts.{shortText, Ends, Puts};
 
-// How many bytes are written, or that the next one would stand at the limit.
-pub enum Wrote {
-    To(usize),
-    Full,
+// Up to four bytes.
+pub enum Short {
+    Nothing,
+    One(u8),
+    Two(u8, u8),
+    Three(u8, u8, u8),
+    Four(u8, u8, u8, u8),
+}
+
+fn size_of(s: Short) -> usize
+    ensures { λ r. ⌜ r ≡ length (shortText s) ⌝ }
+{
+    match s {
+        Short::Nothing => 0,
+        Short::One(_) => 1,
+        Short::Two(_, _) => 2,
+        Short::Three(_, _, _) => 3,
+        Short::Four(_, _, _, _) => 4,
+    }
+}
+
+// The bytes, and zeros.
+fn bytes_of(s: Short) -> [u8; 4]
+    ensures { λ r. ⌜ take (length (shortText s)) r ≡ shortText s ⌝ }
+{
+    match s {
+        Short::Nothing => [0, 0, 0, 0],
+        Short::One(a) => [a, 0, 0, 0],
+        Short::Two(a, b) => [a, b, 0, 0],
+        Short::Three(a, b, c) => [a, b, c, 0],
+        Short::Four(a, b, c, d) => [a, b, c, d],
+    }
+}
+
+// The number of bytes when some are put behind the first n, past the end of the room if n is.
+fn end_of(room: usize, n: usize, size: usize) -> usize
+    requires { ⌜ (room ≤ 32768) × (size ≤ 4) ⌝ }
+    ensures { λ r. ⌜ Ends room n size r ⌝ }
+{
+    if room < n {
+        return n;
+    }
+    n + size
 }
 
 // Puts bytes behind the first n of the file.
-pub(crate) fn put(file: &mut [u8], limit: usize, n: usize, bytes: &[u8]) -> Wrote
-    requires { ⌜ Room (now file) limit n ⌝ }
-    ensures { λ r. ⌜ Puts limit n (now (bytes .entry)) (now (file .entry)) (now (file .exit)) r ⌝ }
+pub(crate) fn put(file: &mut [u8], n: usize, s: Short) -> usize
+    requires { ⌜ length (now file) ≤ 32768 ⌝ }
+    ensures { λ r. ⌜ Puts n (shortText s) (now (file .entry)) (now (file .exit)) r ⌝ }
 {
-    if limit - n < bytes.len() {
-        return Wrote::Full;
+    let end = end_of(file.len(), n, size_of(s));
+    if file.len() < end {
+        return end;
     }
+    let bytes = bytes_of(s);
     let mut i = 0;
-    while i < bytes.len() {
+    while n + i < end {
         file[n + i] = bytes[i];
         i += 1;
     }
-    Wrote::To(n + i)
+    end
 }
 
 // Whether a byte stands in a list.
@@ -41,21 +85,34 @@ pub(crate) fn in_list(list: &[u8], b: u8) -> bool
     false
 }
 
-// Puts a byte, with a `\` if it is one of the marks.
-pub(crate) fn put_marked(file: &mut [u8], limit: usize, n: usize, marks: &[u8], b: u8) -> Wrote
-    requires { ⌜ Room (now file) limit n ⌝ }
-    ensures { λ r. ⌜ Puts limit n (byte (among (now (marks .entry)) b) b) (now (file .entry)) (now (file .exit)) r ⌝ }
+// A byte, with a `\` if it is one of the marks.
+pub(crate) fn marked(mark: bool, b: u8) -> Short
+    ensures { λ r. ⌜ shortText r ≡ byte mark b ⌝ }
 {
-    if !in_list(marks, b) {
-        return put(file, limit, n, &[b]);
+    if !mark {
+        return Short::One(b);
     }
     if b == b'\n' {
-        return put(file, limit, n, b"\\n");
+        return Short::Two(b'\\', b'n');
     }
     if b == b'\t' {
-        return put(file, limit, n, b"\\t");
+        return Short::Two(b'\\', b't');
     }
-    put(file, limit, n, &[b'\\', b])
+    Short::Two(b'\\', b)
+}
+
+// A byte's number without leading zeros, and a byte behind it.
+pub(crate) fn decimal(v: u8, close: u8) -> Short
+    ensures { λ r. ⌜ shortText r ≡ digits v ++ (close ∷ []) ⌝ }
+{
+    if v < 10 {
+        return Short::Two(48 + v, close);
+    }
+    let tens = v / 10;
+    if tens < 10 {
+        return Short::Three(48 + tens, 48 + v % 10, close);
+    }
+    Short::Four(48 + tens / 10, 48 + tens % 10, 48 + v % 10, close)
 }
 
 pub(crate) fn wide(x: u8) -> u64
@@ -72,15 +129,13 @@ fn figure(v: u64) -> u8
 }
 
 // Puts a number without leading zeros: the digits before the last first, a call for each.
-pub(crate) fn put_number(file: &mut [u8], limit: usize, n: usize, v: u64) -> Wrote
-    requires { ⌜ Room (now file) limit n ⌝ }
-    ensures { λ r. ⌜ Puts limit n (digits v) (now (file .entry)) (now (file .exit)) r ⌝ }
+pub(crate) fn put_number(file: &mut [u8], n: usize, v: u64) -> usize
+    requires { ⌜ length (now file) ≤ 32768 ⌝ }
+    ensures { λ r. ⌜ Puts n (digits v) (now (file .entry)) (now (file .exit)) r ⌝ }
 {
     if v < 10 {
-        return put(file, limit, n, &[figure(v)]);
+        return put(file, n, Short::One(figure(v)));
     }
-    let Wrote::To(m) = put_number(file, limit, n, v / 10) else {
-        return Wrote::Full;
-    };
-    put(file, limit, m, &[figure(v % 10)])
+    let m = put_number(file, n, v / 10);
+    put(file, m, Short::One(figure(v % 10)))
 }

@@ -3,13 +3,13 @@ use crate::Answer;
 use crate::Fault;
 use crate::actions::put_actions;
 use crate::pattern::put_pattern;
-use crate::put::Wrote;
+use crate::put::Short;
 use crate::put::put;
 ghost use mathlib.Core.Path.{_≡_};
 ghost use Prim.Native.Nat.{_+_, _*_, _≤_, _<_};
 ghost use lib.ListN.{length};
-ghost use Rattle.writing.specs.Puts.{Room, Puts};
-ghost use Rattle.writing.specs.Slots.{sizeAt, symbolByte, slotText, limitOf, faultOf, Parts, Adds, Lists};
+ghost use Rattle.writing.specs.Puts.{Puts};
+ghost use Rattle.writing.specs.Slots.{sizeAt, symbolByte, leftText, rightText, slotText, limitOf, faultOf, answerOf, Parts, Adds, Lists};
 ghost use Rattle.writing.specs.Contract.{SomeTable};
 
 fn symbol(code: u8) -> u8
@@ -31,34 +31,37 @@ fn size_at(slot: &[u8], i: usize) -> usize
     low + 256 * high
 }
 
-// The macro of a slot, from its first quote to its `;`.
-fn put_macro(file: &mut [u8], limit: usize, n: usize, slot: &[u8]) -> Wrote
-    requires { ⌜ Room (now file) limit n × Parts (now slot) ⌝ }
-    ensures { λ r. ⌜ Puts limit n (slotText (now (slot .entry))) (now (file .entry)) (now (file .exit)) r ⌝ }
+// The pattern in quotes, and the symbol.
+fn put_left(file: &mut [u8], n: usize, slot: &[u8]) -> usize
+    requires { ⌜ (length (now file) ≤ 32768) × Parts (now slot) ⌝ }
+    ensures { λ r. ⌜ Puts n (leftText (now (slot .entry))) (now (file .entry)) (now (file .exit)) r ⌝ }
+{
+    let e = 8 + size_at(slot, 2);
+    let sign = symbol(slot[0]);
+    let m = put_pattern(file, n, &slot[8..e]);
+    put(file, m, Short::Two(b'\'', sign))
+}
+
+// The replacement in quotes, the commands and `;`.
+fn put_right(file: &mut [u8], n: usize, slot: &[u8]) -> usize
+    requires { ⌜ (length (now file) ≤ 32768) × Parts (now slot) ⌝ }
+    ensures { λ r. ⌜ Puts n (rightText (now (slot .entry))) (now (file .entry)) (now (file .exit)) r ⌝ }
 {
     let p = 8 + size_at(slot, 2);
     let r = p + size_at(slot, 4);
     let e = r + size_at(slot, 6);
-    let sign = symbol(slot[0]);
-    let Wrote::To(a) = put(file, limit, n, b"'") else {
-        return Wrote::Full;
-    };
-    let Wrote::To(b) = put_pattern(file, limit, a, &slot[8..p]) else {
-        return Wrote::Full;
-    };
-    let Wrote::To(c) = put(file, limit, b, &[b'\'', sign, b'\'']) else {
-        return Wrote::Full;
-    };
-    let Wrote::To(d) = put_actions(file, limit, c, &slot[p..r]) else {
-        return Wrote::Full;
-    };
-    let Wrote::To(f) = put(file, limit, d, b"'") else {
-        return Wrote::Full;
-    };
-    let Wrote::To(g) = put_actions(file, limit, f, &slot[r..e]) else {
-        return Wrote::Full;
-    };
-    put(file, limit, g, b";")
+    let a = put_actions(file, n, &slot[p..r]);
+    let b = put_actions(file, a, &slot[r..e]);
+    put(file, b, Short::One(b';'))
+}
+
+// The macro of a slot, from its first quote to its `;`.
+fn put_macro(file: &mut [u8], n: usize, slot: &[u8]) -> usize
+    requires { ⌜ (length (now file) ≤ 32768) × Parts (now slot) ⌝ }
+    ensures { λ r. ⌜ Puts n (slotText (now (slot .entry))) (now (file .entry)) (now (file .exit)) r ⌝ }
+{
+    let m = put_left(file, n, slot);
+    put_right(file, m, slot)
 }
 
 // The limit of a macro that begins at `start`: its 513th byte or the file's 32,769th.
@@ -82,19 +85,28 @@ fn fault_of(start: usize) -> Fault
     Fault::FileTooLong
 }
 
-// One macro with its line feed.
+// The answer for a macro that ends at n, with its line feed at `end`.
+fn answer_of(start: usize, limit: usize, n: usize, end: usize) -> Answer
+    ensures { λ r. ⌜ r ≡ answerOf start limit n end ⌝ }
+{
+    if limit < n {
+        return Answer::Refused(fault_of(start), limit);
+    }
+    if 32768 < end {
+        return Answer::Refused(Fault::FileTooLong, 32768);
+    }
+    Answer::Written(end)
+}
+
+// One macro with its line feed; a macro that does not fit is refused, wherever its line feed goes.
 fn write_macro(file: &mut [u8], start: usize, slot: &[u8]) -> Answer
     requires { ⌜ (start ≤ 32768) × (length (now file) ≡ 32768) × Parts (now slot) ⌝ }
     ensures { λ r. ⌜ Adds (now (file .entry)) start (slotText (now (slot .entry))) (now (file .exit)) r ⌝ }
 {
     let limit = limit_of(start);
-    let Wrote::To(n) = put_macro(file, limit, start, slot) else {
-        return Answer::Refused(fault_of(start), limit);
-    };
-    let Wrote::To(end) = put(file, 32768, n, b"\n") else {
-        return Answer::Refused(Fault::FileTooLong, 32768);
-    };
-    Answer::Written(end)
+    let n = put_macro(&mut file[..limit], start, slot);
+    let end = put(file, n, Short::One(b'\n'));
+    answer_of(start, limit, n, end)
 }
 
 // The macros up to the first unused slot, oldest first.

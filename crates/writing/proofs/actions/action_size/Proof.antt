@@ -1,37 +1,25 @@
 -- Assumes nothing.
-use mathlib.Core.Path.{sym}
-use native.Mathlib.Omega.{arith}
+use Rattle.writing.proofs.Steps.{some-size, size-short, size-long, size-call}
+use mathlib.Core.Path.{sym, _∙_}
 use denote.Ref.{now}
-use Rattle.writing.proofs.Steps.{some-size, size-short, size-tag, size-text, size-set}
+use native.Mathlib.Omega.{arith}
 use Rattle.writing.proofs.actions.action_size.Statement.{statement}
 use Rattle.writing.proofs.actions.action_size.Tie as tie
 
 shared-slice-read-code : tie.Need-shared-slice-read-code
-shared-slice-read-code c = omega (arith, some-size (now (c .before .args .t)))
+shared-slice-read-code c = omega (arith, some-size (now (c .before .before .args .t)))
 
 returns : tie.Need-returns
-returns c = sym (size-short (now (c .before .before .args .t)) (c .if1 .taken))
+returns c = sym (size-short (now (c .before .before .before .args .t)) (c .if1 .taken))
+
+shared-slice-read-call-size : tie.Need-shared-slice-read-call-size
+shared-slice-read-call-size c = omega (arith, size-call (now (c .before .before .before .before .args .t)) (c .before .if1 .left))
+
+call-size-requires : tie.Need-call-size-requires
+call-size-requires c κs = tt
 
 returns-2 : tie.Need-returns-2
-returns-2 c = sym (size-tag (now (c .before .before .before .args .t)) (c .before .if1 .left) (c .if2 .taken))
-
-shared-slice-read-size : tie.Need-shared-slice-read-size
-shared-slice-read-size c = omega (arith, size-text (now (c .before .before .before .before .before .args .t)) (c .before .before .if2 .left) (c .before .if3 .taken))
-
-cast-size : tie.Need-cast-size
-cast-size c = omega (arith, c .shared-slice-known2 .given 3)
-
-add-result : tie.Need-add-result
-add-result c = omega (arith, c .shared-slice-known2 .given 3)
-
-add-result-2 : tie.Need-add-result-2
-add-result-2 c = omega (arith, c .shared-slice-known2 .given 3)
-
-returns-3 : tie.Need-returns-3
-returns-3 c = sym (size-text (now (c .before .before .before .before .before .args .t)) (c .before .before .if2 .left) (c .before .if3 .taken))
-
-returns-4 : tie.Need-returns-4
-returns-4 c = sym (size-set (now (c .before .before .before .before .args .t)) (c .if3 .left))
+returns-2 c = c .call-size .ensures ∙ sym (size-long (now (c .before .before .before .before .before .args .t)) (c .before .before .if1 .left))
 
 pub action-size-spec : {M : Type 1} → statement M
 action-size-spec =
@@ -39,10 +27,6 @@ action-size-spec =
     (tie.spec
     shared-slice-read-code
     returns
-    returns-2
-    shared-slice-read-size
-    cast-size
-    add-result
-    add-result-2
-    returns-3
-    returns-4)
+    shared-slice-read-call-size
+    call-size-requires
+    returns-2)

@@ -1,127 +1,61 @@
 -- Assumes nothing.
-use Prim.Native.Nat.{ℕ}
-use mathlib.Core.Path.{ap}
-use mathlib.Core.List.{[], _∷_}
-use native.Mathlib.Omega.{arith}
-use borrow.Author.Tests.{eq-eqb, ne-eqb}
+use Rattle.writing.proofs.Steps.{some-size}
+use Rattle.writing.proofs.Putting.{also, by-bytes}
+use Rattle.writing.specs.Items.{actionText}
 use denote.Ref.{now}
 use Rattle.macros.specs.Macro.{pick}
-use Rattle.macros.specs.Write.{textMarks}
-use Rattle.writing.specs.Items.{innerText, actionText}
-use Rattle.writing.proofs.Putting.{room, also, no-more, by-bytes}
-use Rattle.writing.proofs.Steps.{some-size}
-use borrow.Author.Needs.{needs}
+use borrow.Author.Tests.{lt-ltb, le-ltb}
+use native.Mathlib.Omega.{arith}
 use Rattle.writing.proofs.actions.put_action.Statement.{statement}
 use Rattle.writing.proofs.actions.put_action.Tie as tie
 
 shared-slice-read-code : tie.Need-shared-slice-read-code
 shared-slice-read-code c = omega (arith, some-size (now (c .before .before .before .args .t)))
 
-slice-aggregate-put-marked : tie.Need-slice-aggregate-put-marked
-slice-aggregate-put-marked c = search needs
+shared-slice-read-b : tie.Need-shared-slice-read-b
+shared-slice-read-b c = omega (arith, some-size (now (c .before .before .before .before .args .t)))
 
-shared-slice-read-put-marked : tie.Need-shared-slice-read-put-marked
-shared-slice-read-put-marked c = omega (arith, some-size (now (c .before .before .before .before .before .before .before .args .t)))
-
-put-marked-requires : tie.Need-put-marked-requires
-put-marked-requires c κs = search
-
-same-length : tie.Need-same-length
-same-length c = omega (arith, c .before .before .put-marked .kept .0)
-
-returns : tie.Need-returns
-unfolding actionText textMarks pick
-returns c = simp (eq-eqb _ _ (c .before .before .before .before .before .before .if1 .taken)) (c .before .before .put-marked .ensures)
-
-shared-slice-read-put-tag : tie.Need-shared-slice-read-put-tag
-shared-slice-read-put-tag c = omega (arith, some-size (now (c .before .before .before .before .before .before .before .args .t)))
-
-put-tag-requires : tie.Need-put-tag-requires
-put-tag-requires c κs = search needs
-
-same-length-2 : tie.Need-same-length-2
-same-length-2 c = omega (arith, c .before .before .put-tag .kept .0)
-
-returns-2 : tie.Need-returns-2
-unfolding actionText textMarks pick
-returns-2 c =
-    let b5 = c .before .before .before .before .before in
-    let b6 = b5 .before in
-    simp (ne-eqb _ _ (b6 .if1 .left), eq-eqb _ _ (b5 .if2 .taken)) (c .before .before .put-tag .ensures)
-
-call-byte-requires : tie.Need-call-byte-requires
-call-byte-requires c κs = tt
-
-slice-aggregate-put : tie.Need-slice-aggregate-put
-slice-aggregate-put c = omega arith
+opening-requires : tie.Need-opening-requires
+opening-requires c κs = tt
 
 put-requires : tie.Need-put-requires
-put-requires c κs = search needs
+put-requires c κs = c .before .before .before .before .before .before .pre .0
 
-enum-known-m : tie.Need-enum-known-m
-enum-known-m c = search
+ending-requires : tie.Need-ending-requires
+ending-requires c κs = tt
 
-enum-told : tie.Need-enum-told
-enum-told c = search
+put-requires-2 : tie.Need-put-requires-2
+put-requires-2 c κs = omega (arith, c .before .before .before .before .before .before .before .before .before .before .before .before .pre .0, c .before .before .before .before .before .put .kept .0)
 
-same-length-3 : tie.Need-same-length-3
-same-length-3 c =
-    let b4 = c .before .before .before .before in
-    omega (arith, b4 .put .kept .0)
+same-length : tie.Need-same-length
+same-length c = omega (arith, c .before .before .before .before .before .before .before .before .put .kept .0, c .before .before .put2 .kept .0)
 
-returns-3 : tie.Need-returns-3
-unfolding actionText textMarks pick
-returns-3 c =
-    let b4 = c .before .before .before .before in
-    let b7 = b4 .before .before .before in
-    let b8 = b7 .before in
-    let b9 = b8 .before in
-    let b13 = b9 .before .before .before .before in
-    simp (ne-eqb _ _ (b9 .if1 .left), ne-eqb _ _ (b8 .if2 .left)) (no-more (innerText (now (b13 .args .t))) (by-bytes (ap (λ (x : ℕ). x ∷ 40 ∷ []) (b7 .call-byte .ensures)) (b4 .put .ensures)) (c .enum-told .given .1))
+returns : tie.Need-returns
+unfolding actionText pick
+returns c = simp (lt-ltb _ _ (c .before .before .before .before .before .if1 .taken)) (also (by-bytes (c .before .before .before .before .before .before .before .before .before .opening .ensures) (c .before .before .before .before .before .before .before .before .put .ensures)) (by-bytes (c .before .before .before .ending .ensures) (c .before .before .put2 .ensures)))
 
-put-inner-requires : tie.Need-put-inner-requires
-put-inner-requires c κs =
-    let b6 = c .before .before .before .before .before .before in
-    let b15 = b6 .before .before .before .before .before .before .before .before .before in
-    (record { within = room (b6 .put .ensures) (c .before .before .m .given .1); short = omega (arith, b6 .put .kept .0, b15 .pre) }, omega arith)
+put-call-requires : tie.Need-put-call-requires
+put-call-requires c κs = (omega (arith, c .before .before .before .before .before .before .before .before .before .before .before .pre .0, c .before .before .before .before .put .kept .0), c .before .if1 .left, c .before .before .before .before .before .before .before .before .before .before .before .pre .1)
 
-same-length-4 : tie.Need-same-length-4
-same-length-4 c =
-    let b5 = c .before .before .before .before .before in
-    let b9 = b5 .before .before .before .before in
-    omega (arith, b9 .put .kept .0, c .before .before .put-inner .kept .0)
+same-length-2 : tie.Need-same-length-2
+same-length-2 c = omega (arith, c .before .before .before .before .before .before .before .put .kept .0, c .before .before .put-call .kept .0)
 
-returns-4 : tie.Need-returns-4
-unfolding actionText textMarks pick
-returns-4 c =
-    let b5 = c .before .before .before .before .before in
-    let b9 = b5 .before .before .before .before in
-    let b12 = b9 .before .before .before in
-    let b13 = b12 .before in
-    let b14 = b13 .before in
-    simp (ne-eqb _ _ (b14 .if1 .left), ne-eqb _ _ (b13 .if2 .left)) (also (by-bytes (ap (λ (x : ℕ). x ∷ 40 ∷ []) (b12 .call-byte .ensures)) (b9 .put .ensures)) (b5 .m .given .1) (c .before .before .put-inner .ensures))
+returns-2 : tie.Need-returns-2
+unfolding actionText pick
+returns-2 c = simp (le-ltb _ _ (c .before .before .before .before .if1 .left)) (also (by-bytes (c .before .before .before .before .before .before .before .before .opening .ensures) (c .before .before .before .before .before .before .before .put .ensures)) (c .before .before .put-call .ensures))
 
 pub put-action-spec : {M : Type 1} → statement M
 put-action-spec =
     tie.close
     (tie.spec
     shared-slice-read-code
-    slice-aggregate-put-marked
-    shared-slice-read-put-marked
-    put-marked-requires
+    shared-slice-read-b
+    opening-requires
+    put-requires
+    ending-requires
+    put-requires-2
     same-length
     returns
-    shared-slice-read-put-tag
-    put-tag-requires
+    put-call-requires
     same-length-2
-    returns-2
-    call-byte-requires
-    slice-aggregate-put
-    put-requires
-    enum-known-m
-    enum-told
-    same-length-3
-    returns-3
-    put-inner-requires
-    same-length-4
-    returns-4)
+    returns-2)

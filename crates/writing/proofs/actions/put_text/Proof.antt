@@ -1,46 +1,33 @@
 -- Assumes nothing.
-use Prim.Native.Nat.{_+_, _-_, _≤_}
-use mathlib.Core.Path.{_≡_, refl}
-use native.Mathlib.Omega.{arith}
-use denote.Ref.{now}
-use lib.ListN.{length, drop}
-use Rattle.macros.specs.Write.{writeText, textMarks}
-use Rattle.writing.specs.Puts.{Rest}
-use Rattle.writing.proofs.Putting.{room, rest-all, rest-next, rest-full, rest-done}
 use Rattle.writing.proofs.Steps.{text-step, text-end}
+use Rattle.writing.proofs.Putting.{by-bytes, rest-all, rest-next, rest-done}
+use Rattle.writing.specs.Puts.{Rest}
+use Rattle.macros.specs.Write.{writeText}
+use lib.ListN.{length, drop}
+use denote.Ref.{now}
+use native.Mathlib.Omega.{arith}
+use mathlib.Core.Path.{_≡_, refl}
+use Prim.Native.Nat.{_-_, _≤_}
 use Rattle.writing.proofs.actions.put_text.Statement.{statement}
 use Rattle.writing.proofs.actions.put_text.Tie as tie
 
 abbrev Inv-loop : tie.InvT-loop
-Inv-loop file₀ limit first text n₀ i₀ t8 file n i = (i ≤ length text) × (n ≤ limit) × (length file ≡ length file₀) × Rest limit first (writeText text) file₀ n (writeText (drop i text)) file
+Inv-loop file₀ first text n₀ i₀ file n i = (i ≤ length text) × (length file ≡ length file₀) × Rest first (writeText text) file₀ n (writeText (drop i text)) file
 
 abbrev μ-loop : tie.MeasureT-loop
-μ-loop file₀ limit first text n₀ i₀ t8 file n i = length text - i
+μ-loop file₀ first text n₀ i₀ file n i = length text - i
 
 loop-holds : tie.Need-loop-holds Inv-loop μ-loop
-loop-holds c = (omega arith, omega arith, refl, rest-all)
+loop-holds c = (omega arith, refl, rest-all)
 
-slice-aggregate-put-marked : tie.Need-slice-aggregate-put-marked Inv-loop μ-loop
-slice-aggregate-put-marked c = omega arith
+shared-slice-read-literal : tie.Need-shared-slice-read-literal Inv-loop μ-loop
+shared-slice-read-literal c = omega arith
 
-shared-slice-read-put-marked : tie.Need-shared-slice-read-put-marked Inv-loop μ-loop
-shared-slice-read-put-marked c = omega arith
+literal-requires : tie.Need-literal-requires Inv-loop μ-loop
+literal-requires c κs = tt
 
-put-marked-requires : tie.Need-put-marked-requires Inv-loop μ-loop
-put-marked-requires c κs = record { within = omega arith; short = omega arith }
-
-enum-known-m : tie.Need-enum-known-m Inv-loop μ-loop
-enum-known-m c = search
-
-enum-told : tie.Need-enum-told Inv-loop μ-loop
-enum-told c = search
-
-same-length : tie.Need-same-length Inv-loop μ-loop
-same-length c = omega arith
-
-returns : tie.Need-returns Inv-loop μ-loop
-unfolding textMarks
-returns c = rest-full (writeText (drop (c .before .before .before .before .before .before .before .before .before .loop .i + 1) (now (c .before .before .before .before .before .before .before .before .before .before .before .before .args .text)))) (c .before .before .before .before .before .before .before .before .before .loop .inv .3) (text-step (now (c .before .before .before .before .before .before .before .before .before .before .before .before .args .text)) (c .before .before .before .before .before .before .before .before .before .loop .i) (omega arith)) (c .before .before .before .before .put-marked .ensures) (c .enum-told .given .1)
+put-requires : tie.Need-put-requires Inv-loop μ-loop
+put-requires c κs = omega arith
 
 add-i : tie.Need-add-i Inv-loop μ-loop
 add-i c = omega arith
@@ -49,14 +36,15 @@ loop-less : tie.Need-loop-less Inv-loop μ-loop
 loop-less c = omega arith
 
 loop-again : tie.Need-loop-again Inv-loop μ-loop
-unfolding textMarks
-loop-again c = (omega arith, room (c .before .before .before .before .before .put-marked .ensures) (c .before .m .given .1), omega arith, rest-next (c .before .before .before .before .before .before .before .before .before .before .loop .inv .3) (text-step (now (c .before .before .before .before .before .before .before .before .before .before .before .before .before .args .text)) (c .before .before .before .before .before .before .before .before .before .before .loop .i) (omega arith)) (c .before .before .before .before .before .put-marked .ensures) (c .before .m .given .1))
+loop-again c =
+    let loop = c .before .before .before .before .before .before .before .loop in
+    (omega arith, omega arith, rest-next (loop .inv .2) (text-step (now (c .before .before .before .before .before .before .before .before .before .before .args .text)) (loop .i) (omega arith)) (by-bytes (c .before .before .before .literal .ensures) (c .before .before .put .ensures)))
 
-same-length-2 : tie.Need-same-length-2 Inv-loop μ-loop
-same-length-2 c = omega arith
+same-length : tie.Need-same-length Inv-loop μ-loop
+same-length c = omega arith
 
-returns-2 : tie.Need-returns-2 Inv-loop μ-loop
-returns-2 c = rest-done (c .before .loop .inv .3) (text-end (now (c .before .before .before .before .args .text)) (c .before .loop .i) (omega arith)) (omega arith)
+returns : tie.Need-returns Inv-loop μ-loop
+returns c = rest-done (c .before .loop .inv .2) (text-end (now (c .before .before .before .before .args .text)) (c .before .loop .i) (omega arith))
 
 pub put-text-spec : {M : Type 1} → statement M
 put-text-spec =
@@ -65,15 +53,11 @@ put-text-spec =
     Inv-loop
     μ-loop
     loop-holds
-    slice-aggregate-put-marked
-    shared-slice-read-put-marked
-    put-marked-requires
-    enum-known-m
-    enum-told
-    same-length
-    returns
+    shared-slice-read-literal
+    literal-requires
+    put-requires
     add-i
     loop-less
     loop-again
-    same-length-2
-    returns-2)
+    same-length
+    returns)

@@ -1,10 +1,10 @@
 -- Assumes nothing.
+use Rattle.writing.specs.Puts.{shortText}
 use mathlib.Core.Path.{sym, ap, _∙_}
 use mathlib.Core.List.{[], _∷_}
 use native.Mathlib.Omega.{arith}
-use Rattle.writing.proofs.Putting.{room, also, no-more, by-bytes}
+use Rattle.writing.proofs.Putting.{also, by-bytes}
 use Rattle.writing.proofs.Numbers.{digits-last, digits-few}
-use borrow.Author.Needs.{needs}
 use Prim.Native.Nat.{ℕ, _<_}
 use borrow.Fn.Kinds.{In}
 use borrow.Fn.PlainCycle.{Measures, is, falls, and}
@@ -17,7 +17,7 @@ use Rattle.writing.proofs.put.+put_number.{statement}
 use Rattle.writing.proofs.put.+put_number.Tie.{close}
 
 abbrev μ-put-number : Measures 1 put-number-kinds.ps ℕ
-μ-put-number κs a = a .1 .1 .1 .0
+μ-put-number κs a = a .1 .1 .0
 
 abbrev put-number-at : ℕ → In 1 put-number-kinds.ps
 put-number-at t =
@@ -30,64 +30,44 @@ put-number-below t =
 put-number-figure-requires : (t : ℕ) → put-number-lts.Need-figure-requires (figure-reads.Asked, figure-reads.Learnt, put-reads.Asked, put-reads.Learnt, put-number-below t, put-number.Post) (put-number-at t) put-number.Post
 put-number-figure-requires t c κs = omega arith
 
-put-number-slice-aggregate-put : (t : ℕ) → put-number-lts.Need-slice-aggregate-put (figure-reads.Asked, figure-reads.Learnt, put-reads.Asked, put-reads.Learnt, put-number-below t, put-number.Post) (put-number-at t) put-number.Post
-put-number-slice-aggregate-put t c = search needs
-
 put-number-put-requires : (t : ℕ) → put-number-lts.Need-put-requires (figure-reads.Asked, figure-reads.Learnt, put-reads.Asked, put-reads.Learnt, put-number-below t, put-number.Post) (put-number-at t) put-number.Post
-put-number-put-requires t c κs = c .before .before .before .before .before .pre .1
+put-number-put-requires t c κs = omega arith
 
 put-number-same-length : (t : ℕ) → put-number-lts.Need-same-length (figure-reads.Asked, figure-reads.Learnt, put-reads.Asked, put-reads.Learnt, put-number-below t, put-number.Post) (put-number-at t) put-number.Post
 put-number-same-length t c = omega arith
 
 put-number-returns : (t : ℕ) → put-number-lts.Need-returns (figure-reads.Asked, figure-reads.Learnt, put-reads.Asked, put-reads.Learnt, put-number-below t, put-number.Post) (put-number-at t) put-number.Post
-put-number-returns t c = by-bytes (ap (λ (x : ℕ). x ∷ []) (c .before .before .before .before .figure .ensures) ∙ sym (digits-few (c .before .before .before .before .before .before .before .before .args .v) (c .before .before .before .before .before .before .if1 .taken))) (c .before .before .put .ensures)
+unfolding shortText
+put-number-returns t c =
+    by-bytes (ap (λ (x : ℕ). x ∷ []) (c .before .before .before .figure .ensures) ∙ sym (digits-few (c .before .before .before .before .before .before .before .args .v) (c .before .before .before .before .before .if1 .taken))) (c .before .before .put .ensures)
 
 put-number-put-number-requires : (t : ℕ) → put-number-lts.Need-put-number-requires (figure-reads.Asked, figure-reads.Learnt, put-reads.Asked, put-reads.Learnt, put-number-below t, put-number.Post) (put-number-at t) put-number.Post
-put-number-put-number-requires t c κs = (omega arith, c .before .before .before .pre .1)
+put-number-put-number-requires t c κs = (omega arith, omega arith)
 
-put-number-enum-known-m : (t : ℕ) → put-number-lts.Need-enum-known-m (figure-reads.Asked, figure-reads.Learnt, put-reads.Asked, put-reads.Learnt, put-number-below t, put-number.Post) (put-number-at t) put-number.Post
-put-number-enum-known-m t c = search needs
+put-number-figure-requires-2 : (t : ℕ) → put-number-lts.Need-figure-requires-2 (figure-reads.Asked, figure-reads.Learnt, put-reads.Asked, put-reads.Learnt, put-number-below t, put-number.Post) (put-number-at t) put-number.Post
+put-number-figure-requires-2 t c κs = omega arith
 
-put-number-enum-told : (t : ℕ) → put-number-lts.Need-enum-told (figure-reads.Asked, figure-reads.Learnt, put-reads.Asked, put-reads.Learnt, put-number-below t, put-number.Post) (put-number-at t) put-number.Post
-put-number-enum-told t c = search needs
+put-number-put-requires-2 : (t : ℕ) → put-number-lts.Need-put-requires-2 (figure-reads.Asked, figure-reads.Learnt, put-reads.Asked, put-reads.Learnt, put-number-below t, put-number.Post) (put-number-at t) put-number.Post
+put-number-put-requires-2 t c κs = omega arith
 
 put-number-same-length-2 : (t : ℕ) → put-number-lts.Need-same-length-2 (figure-reads.Asked, figure-reads.Learnt, put-reads.Asked, put-reads.Learnt, put-number-below t, put-number.Post) (put-number-at t) put-number.Post
 put-number-same-length-2 t c = omega arith
 
 put-number-returns-2 : (t : ℕ) → put-number-lts.Need-returns-2 (figure-reads.Asked, figure-reads.Learnt, put-reads.Asked, put-reads.Learnt, put-number-below t, put-number.Post) (put-number-at t) put-number.Post
-put-number-returns-2 t c = rw (digits-last (c .before .before .before .before .before .before .before .before .args .v) (c .before .before .before .before .before .before .if1 .left)) (no-more _ (c .before .before .before .before .put-number .ensures) (c .enum-told .given .1))
-
-put-number-figure-requires-2 : (t : ℕ) → put-number-lts.Need-figure-requires-2 (figure-reads.Asked, figure-reads.Learnt, put-reads.Asked, put-reads.Learnt, put-number-below t, put-number.Post) (put-number-at t) put-number.Post
-put-number-figure-requires-2 t c κs = omega arith
-
-put-number-slice-aggregate-put-2 : (t : ℕ) → put-number-lts.Need-slice-aggregate-put-2 (figure-reads.Asked, figure-reads.Learnt, put-reads.Asked, put-reads.Learnt, put-number-below t, put-number.Post) (put-number-at t) put-number.Post
-put-number-slice-aggregate-put-2 t c = search needs
-
-put-number-put-requires-2 : (t : ℕ) → put-number-lts.Need-put-requires-2 (figure-reads.Asked, figure-reads.Learnt, put-reads.Asked, put-reads.Learnt, put-number-below t, put-number.Post) (put-number-at t) put-number.Post
-put-number-put-requires-2 t c κs = record { within = room (c .before .before .before .before .before .before .before .before .put-number .ensures) (c .before .before .before .before .m .given .1); short = omega arith }
-
-put-number-same-length-3 : (t : ℕ) → put-number-lts.Need-same-length-3 (figure-reads.Asked, figure-reads.Learnt, put-reads.Asked, put-reads.Learnt, put-number-below t, put-number.Post) (put-number-at t) put-number.Post
-put-number-same-length-3 t c = omega arith
-
-put-number-returns-3 : (t : ℕ) → put-number-lts.Need-returns-3 (figure-reads.Asked, figure-reads.Learnt, put-reads.Asked, put-reads.Learnt, put-number-below t, put-number.Post) (put-number-at t) put-number.Post
-put-number-returns-3 t c = rw (digits-last (c .before .before .before .before .before .before .before .before .before .before .before .before .before .before .before .args .v) (c .before .before .before .before .before .before .before .before .before .before .before .before .before .if1 .left), ← c .before .before .before .before .figure2 .ensures) (also (c .before .before .before .before .before .before .before .before .before .before .before .put-number .ensures) (c .before .before .before .before .before .before .before .m .given .1) (c .before .before .put2 .ensures))
+unfolding shortText
+put-number-returns-2 t c =
+    rw (digits-last (c .before .before .before .before .before .before .before .before .before .before .before .args .v) (c .before .before .before .before .before .before .before .before .before .if1 .left), ← c .before .before .before .figure2 .ensures) (also (c .before .before .before .before .before .before .before .put-number .ensures) (c .before .before .put2 .ensures))
 
 pub +put-number-spec : {M : Type 1} → statement M
 +put-number-spec = close μ-put-number λ t. put-number-lts.spec (figure-reads.Asked, figure-reads.Learnt, put-reads.Asked, put-reads.Learnt, put-number-below t, put-number.Post)
     (put-number-at t)
     put-number.Post
     (put-number-figure-requires t)
-    (put-number-slice-aggregate-put t)
     (put-number-put-requires t)
     (put-number-same-length t)
     (put-number-returns t)
     (put-number-put-number-requires t)
-    (put-number-enum-known-m t)
-    (put-number-enum-told t)
+    (put-number-figure-requires-2 t)
+    (put-number-put-requires-2 t)
     (put-number-same-length-2 t)
     (put-number-returns-2 t)
-    (put-number-figure-requires-2 t)
-    (put-number-slice-aggregate-put-2 t)
-    (put-number-put-requires-2 t)
-    (put-number-same-length-3 t)
-    (put-number-returns-3 t)

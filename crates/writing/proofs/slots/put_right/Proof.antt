@@ -1,0 +1,91 @@
+-- Assumes nothing.
+use Prim.Native.Nat.{ℕ}
+use mathlib.Core.List.{List, _∷_}
+use mathlib.Core.Path.{ap}
+use Rattle.writing.proofs.Slotted.{parts-fit, replacement-here, commands-here}
+use Rattle.writing.proofs.Putting.{also, by-bytes}
+use Rattle.writing.specs.Slots.{rightText}
+use Rattle.writing.specs.Items.{actionsText}
+use Rattle.writing.specs.Puts.{shortText}
+use denote.Ref.{now}
+use native.Mathlib.Omega.{arith}
+use Rattle.writing.proofs.slots.put_right.Statement.{statement}
+use Rattle.writing.proofs.slots.put_right.Tie as tie
+
+size-at-requires : tie.Need-size-at-requires
+size-at-requires c κs = (omega arith, omega (arith, c .before .before .pre .1 .size))
+
+add-p : tie.Need-add-p
+add-p c = omega (arith, parts-fit (now (c .before .before .before .args .slot)) (c .before .before .before .pre .1), c .before .before .before .pre .1 .size, c .size-at .ensures)
+
+size-at-requires-2 : tie.Need-size-at-requires-2
+size-at-requires-2 c κs = (omega arith, omega (arith, c .before .before .before .pre .1 .size))
+
+add-r : tie.Need-add-r
+add-r c = omega (arith, parts-fit (now (c .before .before .before .before .args .slot)) (c .before .before .before .before .pre .1), c .before .before .before .before .pre .1 .size, c .before .size-at .ensures, c .size-at2 .ensures)
+
+size-at-requires-3 : tie.Need-size-at-requires-3
+size-at-requires-3 c κs = (omega arith, omega (arith, c .before .before .before .before .pre .1 .size))
+
+add-e : tie.Need-add-e
+add-e c = omega (arith, parts-fit (now (c .before .before .before .before .before .args .slot)) (c .before .before .before .before .before .pre .1), c .before .before .before .before .before .pre .1 .size, c .before .before .size-at .ensures, c .before .size-at2 .ensures, c .size-at3 .ensures)
+
+sub-put-actions : tie.Need-sub-put-actions
+sub-put-actions c = omega arith
+
+part-put-actions-start : tie.Need-part-put-actions-start
+part-put-actions-start c = omega arith
+
+part-put-actions-end : tie.Need-part-put-actions-end
+part-put-actions-end c = omega (arith, parts-fit (now (c .before .before .before .before .before .before .args .slot)) (c .before .before .before .before .before .before .pre .1), c .before .before .before .before .before .before .pre .1 .size, c .before .before .before .size-at .ensures, c .before .before .size-at2 .ensures)
+
+put-actions-requires : tie.Need-put-actions-requires
+put-actions-requires c κs = (c .before .before .before .before .before .before .before .pre .0, rw (replacement-here (now (c .before .before .before .before .before .before .before .args .slot)) (c .before .before .before .before .size-at .ensures) (c .before .before .before .size-at2 .ensures)) (c .before .before .before .before .before .before .before .pre .1 .replacement))
+
+sub-put-actions-2 : tie.Need-sub-put-actions-2
+sub-put-actions-2 c = omega arith
+
+part-put-actions-start-2 : tie.Need-part-put-actions-start-2
+part-put-actions-start-2 c = omega arith
+
+part-put-actions-end-2 : tie.Need-part-put-actions-end-2
+part-put-actions-end-2 c = omega (arith, parts-fit (now (c .before .before .before .before .before .before .before .before .before .before .before .args .slot)) (c .before .before .before .before .before .before .before .before .before .before .before .pre .1), c .before .before .before .before .before .before .before .before .before .before .before .pre .1 .size, c .before .before .before .before .before .before .before .before .size-at .ensures, c .before .before .before .before .before .before .before .size-at2 .ensures, c .before .before .before .before .before .before .size-at3 .ensures)
+
+put-actions-requires-2 : tie.Need-put-actions-requires-2
+put-actions-requires-2 c κs = (omega (arith, c .before .before .before .before .before .before .before .before .before .before .before .before .pre .0, c .before .before .before .before .put-actions .kept .0), rw (commands-here (now (c .before .before .before .before .before .before .before .before .before .before .before .before .args .slot)) (c .before .before .before .before .before .before .before .before .before .size-at .ensures) (c .before .before .before .before .before .before .before .before .size-at2 .ensures) (c .before .before .before .before .before .before .before .size-at3 .ensures)) (c .before .before .before .before .before .before .before .before .before .before .before .before .pre .1 .commands))
+
+put-requires : tie.Need-put-requires
+put-requires c κs = omega (arith, c .before .before .before .before .before .before .before .before .before .before .before .before .before .before .before .before .pre .0, c .before .before .before .before .before .before .before .before .put-actions .kept .0, c .before .before .before .put-actions2 .kept .0)
+
+same-length : tie.Need-same-length
+same-length c = omega (arith, c .before .before .before .before .before .before .before .before .before .before .before .put-actions .kept .0, c .before .before .before .before .before .before .put-actions2 .kept .0, c .before .before .put .kept .0)
+
+returns : tie.Need-returns
+unfolding rightText shortText
+returns c =
+    let slot = (now (c .before .before .before .before .before .before .before .before .before .before .before .before .before .before .before .before .before .before .before .args .slot)) in
+    let one = by-bytes (ap (λ (l : List ℕ). 39 ∷ actionsText 0 l) (replacement-here slot (c .before .before .before .before .before .before .before .before .before .before .before .before .before .before .before .before .size-at .ensures) (c .before .before .before .before .before .before .before .before .before .before .before .before .before .before .before .size-at2 .ensures))) (c .before .before .before .before .before .before .before .before .before .before .before .put-actions .ensures) in
+    let two = by-bytes (ap (λ (l : List ℕ). 39 ∷ actionsText 0 l) (commands-here slot (c .before .before .before .before .before .before .before .before .before .before .before .before .before .before .before .before .size-at .ensures) (c .before .before .before .before .before .before .before .before .before .before .before .before .before .before .before .size-at2 .ensures) (c .before .before .before .before .before .before .before .before .before .before .before .before .before .before .size-at3 .ensures))) (c .before .before .before .before .before .before .put-actions2 .ensures) in
+    also one (also two (c .before .before .put .ensures))
+
+pub put-right-spec : {M : Type 1} → statement M
+put-right-spec =
+    tie.close
+    (tie.spec
+    size-at-requires
+    add-p
+    size-at-requires-2
+    add-r
+    size-at-requires-3
+    add-e
+    sub-put-actions
+    part-put-actions-start
+    part-put-actions-end
+    put-actions-requires
+    sub-put-actions-2
+    part-put-actions-start-2
+    part-put-actions-end-2
+    put-actions-requires-2
+    put-requires
+    same-length
+    returns)
