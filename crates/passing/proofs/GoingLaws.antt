@@ -1,7 +1,7 @@
 -- The walk over all places: what holds before each, and what it comes to.
 use Prim.Native.Nat.{ℕ, zero, suc, _*_, _≤_, _<_}
 use mathlib.Core.Path.{_≡_, refl, sym, ap, _∙_, subst}
-use mathlib.Core.Bool.{Bool, false, _||_}
+use mathlib.Core.Bool.{Bool, true, false, _||_}
 use mathlib.Core.List.{List, []}
 use native.Mathlib.Omega.{arith}
 use lib.ListN.{length, getD, drop, replicate, length-replicate}
@@ -15,17 +15,19 @@ use Rattle.lines.specs.Line.{textOf}
 use Rattle.states.specs.Access.{Holds, replaced}
 use Rattle.replacing.specs.Contract.{IsSlot, IsMoment}
 use Rattle.passing.specs.declared.Passed.{Passed}
+use Rattle.passing.specs.declared.Found.the-variants.{NoMatch}
 use Rattle.passing.specs.declared.At.{At}
 use Rattle.passing.specs.Contract.{marksBytes, Lent, Passes, SaysOccurred, sizeOf}
 use Rattle.passing.specs.declared.Fate.{Fate}
 use Rattle.passing.specs.declared.Fate.the-variants.{Well, Bad}
 use Rattle.passing.specs.Marks.{Sound}
-use Rattle.passing.specs.Finding.{lastOf}
+use Rattle.passing.specs.Finding.{lastOf, Differs}
 use Rattle.passing.specs.Seen.{Seen}
-use Rattle.passing.specs.Places.{from, startAt, answerOf, passedOf, ItemsOf, AtPlace, Onward, Goes}
+use Rattle.passing.specs.Places.{from, startAt, answerOf, passedOf, ItemsOf, AtPlace, Copies, Onward, Goes}
 use Rattle.passing.proofs.MarkLaws.{sound-zero}
 use Rattle.passing.proofs.CallLaws.{zero-again}
-use Rattle.passing.proofs.PlaceLaws.{drop-on}
+use Rattle.passing.proofs.PlaceLaws.{drop-on, ready, go-free}
+use Rattle.passing.proofs.FindLaws.{find-differs}
 
 -- THE MARKS, at the start and at the end, AND THE ENDS at the start
 
@@ -112,6 +114,16 @@ module _ (s items kinds t b out marks seen : List ℕ) (y : Lent s kinds t b out
             count = g .count;
             inside = g .inside;
           }
+
+      -- no match begins here
+      pub skipped : (x : Bool) → Differs items t (a .place) x → x ≡ true → (out″ : List ℕ) (r : At) → Copies t out′ out″ a r → Goes s items t b′ b′ out′ out″ marks′ marks′ seen′ ends a r
+      skipped x d e out″ r c =
+          go-free s items kinds t b′ out′ marks′ ends a trying seen′ (g .sees) NoMatch marks′ ends
+          (find-differs items b′ t (a .last) (a .place) marks′ marks′ ends kinds ends (ready s items kinds t b′ out′ marks′ ends (a .place) (a .size) trying) x d e)
+          refl
+          r
+          out″
+          c
 
       module _ (b″ out″ marks″ seen″ ends′ : List ℕ) (r : At) (h : Goes s items t b′ b″ out′ out″ marks′ marks″ seen″ ends′ a r) where
         came : (m : Macro) → IsSlot s m → (st : State) → Holds b st → Reached t b″ out″ r m st

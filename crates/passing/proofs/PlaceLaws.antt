@@ -34,9 +34,11 @@ use Rattle.passing.specs.declared.Found.the-variants.{Matched, NoMatch}
 use Rattle.passing.specs.declared.At.{At}
 use Rattle.passing.specs.Contract.{SaysOccurred, doneOf as passDone}
 use Rattle.passing.specs.Marks.{Sound}
-use Rattle.passing.specs.Finding.{FoundAt, Finds, lastOf}
+use Rattle.passing.specs.Finding.{Ready, FoundAt, countedOf, Finds, lastOf}
+use Rattle.passing.specs.Trying.{Tried}
 use Rattle.passing.specs.Seen.{Seen, Renewed}
 use Rattle.passing.specs.Places.{from, matchAt, movedTo, refusedAt, afterOf, passedOf, AtPlace, Acting, Acts, Copies, CopiesEmpty, Onward, Goes}
+use Rattle.passing.proofs.FindLaws.{find-counted}
 use Rattle.passing.proofs.GrowLaws.{Grown, occur-grown}
 
 -- THE LAST MATCH
@@ -179,6 +181,25 @@ pub acted-state : (s items t b b′ out out′ marks seen ends : List ℕ) (n : 
 acted-state s items t b b′ out out′ marks seen ends n o a oc =
     let c = oc .comes (a .divided .0) (a .divided .1) (a .divided .2) (a .moment .0) (a .moment .1) in
     (c .0 .state, c .2 .state)
+
+pub ready : (s items kinds t b out marks ends : List ℕ) (p n : ℕ) → AtPlace s items kinds t b out marks ends p n → Ready items kinds b t p marks ends
+ready s items kinds t b out marks ends p n y =
+    let m = y .macro .0 in
+    record {
+      pattern = (m .pattern, y .pattern .pattern m (y .macro .1));
+      fits = y .pattern .fits;
+      table = y .table;
+      state = (y .moment .0 .state, y .moment .1 .state);
+      short = y .short;
+      place = y .place;
+      size = y .rows;
+      count = y .count;
+      inside = y .inside;
+      sound = y .sound;
+    }
+
+pub finds : (s items kinds t b out marks ends : List ℕ) (a : At) → AtPlace s items kinds t b out marks ends (a .place) (a .size) → (marks′ ends′ : List ℕ) (f r : Found) → Tried items b t 0 (a .place) marks marks′ ends′ f → r ≡ countedOf f (a .last) (a .place) → Finds items b t (a .last) (a .place) marks marks′ ends′ r
+finds s items kinds t b out marks ends a y marks′ ends′ f r k e = find-counted items b t (a .last) (a .place) marks marks′ ends′ (let p = y .place in let l = y .short in omega arith) f r k e
 
 module _ (s items kinds t b out marks ends : List ℕ) (a : At) (y : AtPlace s items kinds t b out marks ends (a .place) (a .size)) (seen : List ℕ) (sn : Seen items seen b) (r : Found) (marks′ ends′ : List ℕ) (fi : Finds items b t (a .last) (a .place) marks marks′ ends′ r) where
   abbrev found : Macro → Work → Option Division

@@ -10,8 +10,9 @@ use crate::unit::element_at;
 use crate::unit::lead_at;
 use crate::unit::may_repeat;
 use crate::unit::width_of;
+ghost use mathlib.Core.Path.{_≡_};
 ghost use Rattle.passing.specs.Trying.{Trying, Counting, Repeating, Tried, Most, Copied};
-ghost use Rattle.passing.specs.Finding.{Ready, Differs, Finds};
+ghost use Rattle.passing.specs.Finding.{Differs, countedOf};
 
 // How many copies of u, w bytes wide, stand in a row from q on. Places with a mark end the row: there is no division from there.
 fn most_copies(
@@ -41,7 +42,7 @@ fn most_copies(
 }
 
 // The pieces whose items begin at `at`, at place p. On a match `ends` holds the place where each of them ends.
-fn elements(
+pub(crate) fn elements(
     items: &[u8],
     kinds: &[u8; 256],
     state: &[u8],
@@ -113,7 +114,7 @@ fn closure(
 }
 
 // Whether the pattern begins with a literal that must stand at p and does not: most places are decided so.
-fn differs(items: &[u8], line: &[u8], p: usize) -> bool
+pub(crate) fn differs(items: &[u8], line: &[u8], p: usize) -> bool
     ensures { λ r. ⌜ Differs (now (items .entry)) (now (line .entry)) p r ⌝ }
 {
     if items.len() < 2 {
@@ -131,26 +132,12 @@ fn differs(items: &[u8], line: &[u8], p: usize) -> bool
     items[1] != line[p]
 }
 
-// "A match, the division chosen there"; "An empty match at the end of the match just made in the same pass does not count."
-pub(crate) fn find(
-    items: &[u8],
-    kinds: &[u8; 256],
-    state: &[u8],
-    line: &[u8],
-    last: usize,
-    p: usize,
-    marks: &mut [u8],
-    ends: &mut [u16],
-) -> Found
-    requires { ⌜ Ready (now items) (now kinds) (now state) (now line) p (now marks) (now ends) ⌝ }
-    ensures { λ r. ⌜ Finds (now (items .entry)) (now (state .entry)) (now (line .entry)) last p (now (marks .entry)) (now (marks .exit)) (now (ends .exit)) r ⌝ }
+// "An empty match at the end of the match just made in the same pass does not count."
+pub(crate) fn counted(found: Found, last: usize, p: usize) -> Found
+    ensures { λ r. ⌜ r ≡ countedOf found last p ⌝ }
 {
-    if differs(items, line, p) {
-        return Found::NoMatch;
-    }
-    let found = elements(items, kinds, state, line, 0, p, marks, ends);
     let Found::Matched(end) = found else {
-        return Found::NoMatch;
+        return found;
     };
     if end != p {
         return found;

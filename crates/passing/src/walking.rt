@@ -5,7 +5,9 @@ use crate::Found;
 use crate::Passed;
 use crate::keeping::clear;
 use crate::keeping::renew;
-use crate::matcher::find;
+use crate::matcher::counted;
+use crate::matcher::differs;
+use crate::matcher::elements;
 use replacing::Fault;
 use replacing::Outcome;
 use replacing::occurrence;
@@ -140,7 +142,8 @@ fn go_on(
     ensures { λ r. ⌜ Goes (now (slot .entry)) (now (items .entry)) (now (line .entry)) (now (state .entry)) (now (state .exit)) (now (out .entry)) (now (out .exit)) (now (marks .entry)) (now (marks .exit)) (now (seen .exit)) (now (ends .exit)) at r ⌝ }
 {
     let p = at.place;
-    let found = find(items, kinds, state, line, at.last, p, marks, ends);
+    let whole = elements(items, kinds, state, line, 0, p, marks, ends);
+    let found = counted(whole, at.last, p);
     let Found::Matched(end) = found else {
         return copy_byte(line, at, out);
     };
@@ -186,18 +189,22 @@ pub(crate) fn walk(
     let mut ends = [0u16; 1016];
     let mut at = start();
     while at.place <= line.len() {
-        at = go_on(
-            slot,
-            items,
-            kinds,
-            line,
-            at,
-            state,
-            out,
-            marks,
-            seen,
-            &mut ends,
-        );
+        if differs(items, line, at.place) {
+            at = copy_byte(line, at, out);
+        } else {
+            at = go_on(
+                slot,
+                items,
+                kinds,
+                line,
+                at,
+                state,
+                out,
+                marks,
+                seen,
+                &mut ends,
+            );
+        }
     }
     clear(marks, 66 * items.len());
     answer(at)
