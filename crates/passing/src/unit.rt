@@ -12,7 +12,7 @@ ghost use Rattle.tables.specs.Form.{pieceItems, memberItems, membersItems};
 ghost use Rattle.lines.specs.Matching.{byteFits, begins, isMember};
 ghost use Rattle.states.specs.Access.{IsState, OfState};
 ghost use Rattle.passing.specs.Pattern.{OfPiece};
-ghost use Rattle.passing.specs.Pieces.{membersOf, unitAt, closureAt, holds, fitU, ledTo, leadOf, again, Lettered, Stands, IsUnit, IsElement, SomeMembers, OfMembers, FirstMember, OfFirst, OneByte, Copying, Leading, Wide};
+ghost use Rattle.passing.specs.Pieces.{membersOf, closureOf, unitAt, closureAt, holds, fitU, ledTo, leadOf, again, Lettered, Stands, IsUnit, SomeMembers, OfMembers, FirstMember, OfFirst, OneByte, Copying, Leading, Wide};
 
 // What a closure may follow, and what has no closure. The members of a class stand in the items, behind its own.
 pub(crate) enum Unit {
@@ -31,11 +31,6 @@ pub(crate) enum Closure {
     Once,
     OneOrMore,
     ZeroOrMore,
-}
-
-pub(crate) struct Element {
-    pub(crate) unit: Unit,
-    pub(crate) closure: Closure,
 }
 
 // The place behind copies that must stand.
@@ -89,15 +84,20 @@ fn closure_of(code: u8) -> Closure
     Closure::Once
 }
 
-// The element at a place of the items.
-pub(crate) fn element_at(items: &[u8], at: usize) -> Element
+// The unit of the piece at a place of the items.
+pub(crate) fn unit_at(items: &[u8], at: usize) -> Unit
     requires { ⌜ Stands (now items) at ⌝ }
-    ensures { λ r. ⌜ IsElement (now (items .entry)) at r ⌝ }
+    ensures { λ r. ⌜ IsUnit (now (items .entry)) at r ⌝ }
 {
-    let code = items[at];
-    let unit = unit_of(code, items[at + 1]);
-    let closure = closure_of(code);
-    Element { unit, closure }
+    unit_of(items[at], items[at + 1])
+}
+
+// Its closure.
+pub(crate) fn closure_at(items: &[u8], at: usize) -> Closure
+    requires { ⌜ Stands (now items) at ⌝ }
+    ensures { λ r. ⌜ OfPiece (now (items .entry)) at (λ e. closureOf e ≡ r) ⌝ }
+{
+    closure_of(items[at])
 }
 
 fn in_range(a: u8, z: u8, b: u8) -> bool
