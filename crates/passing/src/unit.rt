@@ -166,13 +166,7 @@ pub(crate) fn behind(items: &[u8], at: usize, u: Unit) -> usize
     match u {
         Unit::Class => members_end(items, at + 2),
         Unit::ClassNot => members_end(items, at + 2),
-        Unit::Literal(_) => at + 2,
-        Unit::Kind(_) => at + 2,
-        Unit::StackCall(_) => at + 2,
-        Unit::CounterCall(_) => at + 2,
-        Unit::Start => at + 2,
-        Unit::End => at + 2,
-        Unit::Brace => at + 2,
+        _ => at + 2,
     }
 }
 
@@ -186,11 +180,7 @@ fn is_copy(items: &[u8], kinds: &[u8; 256], at: usize, u: Unit, b: u8) -> bool
         Unit::Kind(n) => is_kind(kinds, b, n),
         Unit::Class => is_member(items, at + 2, b),
         Unit::ClassNot => !is_member(items, at + 2, b),
-        Unit::StackCall(_) => false,
-        Unit::CounterCall(_) => false,
-        Unit::Start => false,
-        Unit::End => false,
-        Unit::Brace => false,
+        _ => false,
     }
 }
 
