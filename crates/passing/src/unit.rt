@@ -278,15 +278,12 @@ pub(crate) fn copy_at(
     ensures { λ r. ⌜ OfPiece (now (items .entry)) at (λ e. OfState (now (state .entry)) (λ st. r ≡ fitU st u (membersOf e) p (drop p (now (line .entry))))) ⌝ }
 {
     match u {
-        Unit::Literal(_) => one_at(items, kinds, line, at, u, p),
-        Unit::Kind(_) => one_at(items, kinds, line, at, u, p),
-        Unit::Class => one_at(items, kinds, line, at, u, p),
-        Unit::ClassNot => one_at(items, kinds, line, at, u, p),
         Unit::StackCall(i) => text_at(entry(state, i), line, p),
         Unit::CounterCall(i) => has_number(value(state, i), line, p),
         Unit::Start => p == 0,
         Unit::End => p == line.len(),
         Unit::Brace => true,
+        _ => one_at(items, kinds, line, at, u, p),
     }
 }
 
@@ -298,13 +295,10 @@ pub(crate) fn width_of(state: &[u8], u: Unit) -> usize
     match u {
         Unit::StackCall(i) => entry(state, i).len(),
         Unit::CounterCall(i) => number_width(value(state, i)),
-        Unit::Literal(_) => 1,
-        Unit::Kind(_) => 1,
-        Unit::Class => 1,
-        Unit::ClassNot => 1,
         Unit::Start => 0,
         Unit::End => 0,
         Unit::Brace => 0,
+        _ => 1,
     }
 }
 
