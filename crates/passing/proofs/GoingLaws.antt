@@ -1,7 +1,7 @@
 -- The walk over all places: what holds before each, and what it comes to.
 use Prim.Native.Nat.{ℕ, zero, suc, _*_, _≤_, _<_}
 use mathlib.Core.Path.{_≡_, refl, sym, ap, _∙_, subst}
-use mathlib.Core.Bool.{Bool, true, false, _||_}
+use mathlib.Core.Bool.{Bool, true, false}
 use mathlib.Core.List.{List, []}
 use native.Mathlib.Omega.{arith}
 use lib.ListN.{length, getD, drop, replicate, length-replicate}
@@ -10,7 +10,7 @@ use Rattle.macros.specs.Macro.{Macro}
 use Rattle.tables.specs.Form.{bodyBytes}
 use Rattle.lines.specs.State.{State}
 use Rattle.lines.specs.Replacing.{Work, onto}
-use Rattle.lines.specs.Pass.{Walk, pass, outcome, occurred}
+use Rattle.lines.specs.Pass.{pass}
 use Rattle.lines.specs.Line.{textOf}
 use Rattle.states.specs.Access.{Holds, replaced}
 use Rattle.replacing.specs.Contract.{IsSlot, IsMoment}

@@ -33,7 +33,6 @@ use Rattle.passing.specs.declared.Found.{Found}
 use Rattle.passing.specs.declared.Found.the-variants.{Matched, NoMatch}
 use Rattle.passing.specs.declared.At.{At}
 use Rattle.passing.specs.Contract.{SaysOccurred, doneOf as passDone}
-use Rattle.passing.specs.Marks.{Sound}
 use Rattle.passing.specs.Finding.{Ready, FoundAt, countedOf, Finds, lastOf}
 use Rattle.passing.specs.Trying.{Tried}
 use Rattle.passing.specs.Seen.{Seen, Renewed}

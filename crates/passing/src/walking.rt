@@ -162,6 +162,7 @@ fn go_on(
     copy_empty(line, p, next, out)
 }
 
+// What the pass comes to, past the last place.
 fn answer(at: At) -> Passed
     ensures { λ r. ⌜ r ≡ passedOf at ⌝ }
 {
