@@ -1,6 +1,6 @@
 -- The match at a place, from the matcher's answer.
 -- Assumes nothing.
-use mathlib.Core.Path.{_≡_, refl, sym, ap, _∙_}
+use mathlib.Core.Path.{_≡_, refl, sym, ap, _∙_, subst}
 use mathlib.Core.Bool.{Bool, true, false, false≢true, not}
 use mathlib.Core.List.{List, [], _∷_}
 use mathlib.Core.Option.{Option, none, some}
@@ -22,7 +22,7 @@ use Rattle.lines.specs.Matching.{Division, Rest, span, byteFits, fits, width, e
 use Rattle.lines.specs.Pass.{barred, unlessBarred, counting, match}
 use Rattle.lines.proofs.MoreLaws.{stopsOf}
 use Rattle.passing.specs.Pattern.{IsPattern, IsRest}
-use Rattle.passing.specs.Finding.{Ready, pickLast, lastOf, FoundAt, Differs, Finds}
+use Rattle.passing.specs.Finding.{Ready, pickLast, lastOf, FoundAt, countedOf, Differs, Finds}
 use Rattle.passing.specs.Trying.{answer, lastStop, Said, Trying, Tried}
 use Rattle.passing.proofs.TextLaws.{byte-here, byte-past}
 use Rattle.passing.specs.declared.Found.{Found}
@@ -87,7 +87,7 @@ module _ (es : List Piece) (last p : ℕ) (ends : List ℕ) where
       rw (is-barred last p (endOf p d) y (last-stop p d ∙ k ∙ x) l) tt
 
 module _ (items b t : List ℕ) (last p : ℕ) (marks marks′ ends′ : List ℕ) where
-  pub find-none : Tried items b t 0 p marks marks′ ends′ NoMatch → Finds items b t last p marks marks′ ends′ NoMatch
+  find-none : Tried items b t 0 p marks marks′ ends′ NoMatch → Finds items b t last p marks marks′ ends′ NoMatch
   unfolding match
   find-none k = record {
     found = λ es i st h. no-match es last p ends′ (chosen st es p (drop p t)) (k .said es (whole items es i) st h);
@@ -96,7 +96,7 @@ module _ (items b t : List ℕ) (last p : ℕ) (marks marks′ ends′ : List �
     inside = k .kept .noted .inside;
   }
 
-  pub find-one : (m : ℕ) → Tried items b t 0 p marks marks′ ends′ (Matched m) → (m ≡ p → last ≡ p → ⊥) → Finds items b t last p marks marks′ ends′ (Matched m)
+  find-one : (m : ℕ) → Tried items b t 0 p marks marks′ ends′ (Matched m) → (m ≡ p → last ≡ p → ⊥) → Finds items b t last p marks marks′ ends′ (Matched m)
   unfolding match
   find-one m k f = record {
     found = λ es i st h. a-match es last p ends′ (chosen st es p (drop p t)) m (k .said es (whole items es i) st h) f;
@@ -105,7 +105,7 @@ module _ (items b t : List ℕ) (last p : ℕ) (marks marks′ ends′ : List �
     inside = k .kept .noted .inside;
   }
 
-  pub find-empty : (m : ℕ) → Tried items b t 0 p marks marks′ ends′ (Matched m) → m ≡ p → last ≡ p → p ≤ mostLineBytes → Finds items b t last p marks marks′ ends′ NoMatch
+  find-empty : (m : ℕ) → Tried items b t 0 p marks marks′ ends′ (Matched m) → m ≡ p → last ≡ p → p ≤ mostLineBytes → Finds items b t last p marks marks′ ends′ NoMatch
   unfolding match
   find-empty m k x y l = record {
     found = λ es i st h. empty-match es last p ends′ (chosen st es p (drop p t)) m (k .said es (whole items es i) st h) x y l;
@@ -113,6 +113,15 @@ module _ (items b t : List ℕ) (last p : ℕ) (marks marks′ ends′ : List �
     outside = k .kept .outside;
     inside = k .kept .noted .inside;
   }
+
+  pub find-counted : p ≤ mostLineBytes → (f r : Found) → Tried items b t 0 p marks marks′ ends′ f → r ≡ countedOf f last p → Finds items b t last p marks marks′ ends′ r
+  find-counted l NoMatch r k e = subst (Finds items b t last p marks marks′ ends′) (sym e) (find-none k)
+  find-counted l (Matched q) r k e = subst (Finds items b t last p marks marks′ ends′) (sym e) (by (ℕ-discrete q p) (ℕ-discrete last p))
+    where
+      by : Dec (q ≡ p) → Dec (last ≡ p) → Finds items b t last p marks marks′ ends′ (countedOf (Matched q) last p)
+      by (yes x) (yes y) = rw (eq-eqb q p x, eq-eqb last p y) (find-empty q k x y l)
+      by (yes x) (no y) = rw (eq-eqb q p x, ne-eqb last p y) (find-one q k (λ u v. y v))
+      by (no x) d = rw (ne-eqb q p x) (find-one q k (λ u v. x u))
 
   pub find-differs : (kinds ends : List ℕ) → Ready items kinds b t p marks ends → (x : Bool) → Differs items t p x → x ≡ true → Finds items b t last p marks marks ends NoMatch
   unfolding match counting

@@ -18,10 +18,10 @@ use Rattle.macros.specs.Macro.Piece.{element, start, end, left, right}
 use Rattle.tables.specs.Form.{closureCode, unitCode, unitOperand, memberItems, membersItems, unitRest, pieceItems, patternItems}
 use Rattle.lines.specs.Matching.{isMember}
 use Rattle.passing.specs.Pattern.{FormedUnits, IsRest}
-use Rattle.passing.specs.Pieces.{codeUnit, membersOf, closureOf, unitAt, closureAt, Lettered, Stands, IsUnit, IsElement, Members, SomeMembers, FirstMember}
+use Rattle.passing.specs.Pieces.{codeUnit, membersOf, closureOf, unitAt, closureAt, Lettered, Stands, IsUnit, Members, SomeMembers, FirstMember}
+use Rattle.passing.specs.declared.unit.Closure.{Closure as CodeClosure}
 use Rattle.passing.specs.declared.unit.Unit.{Unit as CodeUnit}
 use Rattle.passing.specs.declared.unit.Unit.the-variants.{Literal, Kind, Class, ClassNot, StackCall, CounterCall, Start, End, Brace}
-use Rattle.passing.specs.declared.unit.Element.{Element}
 
 -- a list that begins at a place
 module _ (l : List ℕ) (i : ℕ) (v : List ℕ) (e : v ≡ drop i l) where
@@ -191,19 +191,21 @@ closure-decoded end r = refl
 closure-decoded left r = refl
 closure-decoded right r = refl
 
-pub element-is : (items : List ℕ) (at : ℕ) (x : Element) → Stands items at → x .unit ≡ unitAt (getD items at 0) (getD items (at + 1) 0) → x .closure ≡ closureAt (getD items at 0) → IsElement items at x
-unfolding patternItems
-element-is items at x s f g = record { unit = record { stands = s; unit = is-unit; letter = rw (← is-unit (s .piece) (s .pieces) (s .is)) (rest-letter items at (s .piece) (s .pieces) (s .is)) }; closure = is-closure }
-  where
-    is-unit : (e : Piece) (es : List Piece) → IsRest items at (e ∷ es) → codeUnit e ≡ x .unit
-    is-unit e es r =
-        let i = rest-items items at (e ∷ es) r in
-        sym (unit-decoded e (patternItems es)) ∙ rw (← peek-first items at (patternItems (e ∷ es)) i, ← peek items at (patternItems (e ∷ es)) i 1) (sym f)
+module _ (items : List ℕ) (at : ℕ) (s : Stands items at) where
+  pub unit-is : (u : CodeUnit) → u ≡ unitAt (getD items at 0) (getD items (at + 1) 0) → IsUnit items at u
+  unfolding patternItems
+  unit-is u f = record { stands = s; unit = is-unit; letter = rw (← is-unit (s .piece) (s .pieces) (s .is)) (rest-letter items at (s .piece) (s .pieces) (s .is)) }
+    where
+      is-unit : (e : Piece) (es : List Piece) → IsRest items at (e ∷ es) → codeUnit e ≡ u
+      is-unit e es r =
+          let i = rest-items items at (e ∷ es) r in
+          sym (unit-decoded e (patternItems es)) ∙ rw (← peek-first items at (patternItems (e ∷ es)) i, ← peek items at (patternItems (e ∷ es)) i 1) (sym f)
 
-    is-closure : (e : Piece) (es : List Piece) → IsRest items at (e ∷ es) → closureOf e ≡ x .closure
-    is-closure e es r =
-        let i = rest-items items at (e ∷ es) r in
-        sym (closure-decoded e (patternItems es)) ∙ rw (← peek-first items at (patternItems (e ∷ es)) i) (sym g)
+  pub closure-is : (k : CodeClosure) → k ≡ closureAt (getD items at 0) → (e : Piece) (es : List Piece) → IsRest items at (e ∷ es) → closureOf e ≡ k
+  unfolding patternItems
+  closure-is k g e es r =
+      let i = rest-items items at (e ∷ es) r in
+      sym (closure-decoded e (patternItems es)) ∙ rw (← peek-first items at (patternItems (e ∷ es)) i) (sym g)
 
 -- CLASSES
 

@@ -6,17 +6,19 @@ use mathlib.Core.List.{List, [], _∷_, _++_}
 use mathlib.Core.Option.{Option, none, some}
 use native.Mathlib.Numerals.{add-one}
 use native.Mathlib.Omega.{arith}
-use borrow.Author.Tests.{lt-ltb, le-ltb, le-leb}
+use borrow.Author.Tests.{ltb-true, ltb-false, lt-ltb, le-ltb, le-leb}
+use lib.Dec.{ltb}
 use lib.ListN.{length, getD, take, drop, set}
 use lib.Seq.{take-suc-set, drop-set-lt, drop-drop}
 use Rattle.macros.specs.Bounds.{mostLineBytes}
 use Rattle.macros.specs.Refusals.{WorkRefusal}
+use Rattle.macros.specs.Refusals.WorkRefusal.{newLineTooLong}
 use Rattle.macros.specs.Macro.{Piece, Macro}
 use Rattle.lines.specs.State.{State}
 use Rattle.lines.specs.Matching.{Division, Divides, endOf, stops}
-use Rattle.lines.specs.Replacing.{Work, unless, put}
+use Rattle.lines.specs.Replacing.{Work, unless, put, occur}
 use Rattle.lines.specs.Replacing.Done.{bad, good}
-use Rattle.lines.specs.Pass.{match, goOn, matched, atEnd, onward, atByte, walk, pass, outcome, occurred}
+use Rattle.lines.specs.Pass.{Walk, match, goOn, matched, atEnd, onward, atByte, walk, pass, outcome, occurred}
 use Rattle.lines.proofs.StepLaws.{walk-end, walk-byte, step-copy, step-match, step-empty}
 use Rattle.lines.proofs.CopiedLaws.{put-copied}
 use Rattle.lines.proofs.CopyLaws.{ends-on, ends-inside}
@@ -29,14 +31,13 @@ use Rattle.replacing.specs.declared.Outcome.the-variants.{Made, Refused as Made
 use Rattle.replacing.specs.Contract.{EndsFrom, IsSlot, IsDivided, IsMoment, Occurs, refusalOf, doneOf, sizeOf}
 use Rattle.passing.specs.declared.Found.{Found}
 use Rattle.passing.specs.declared.Found.the-variants.{Matched, NoMatch}
-use Rattle.passing.specs.declared.walking.Attempt.{Attempt}
-use Rattle.passing.specs.declared.walking.Attempt.the-variants.{Free, Occurred, Refused}
-use Rattle.passing.specs.declared.walking.Went.{Went}
-use Rattle.passing.specs.declared.walking.Went.the-variants.{On, Stopped}
-use Rattle.passing.specs.Marks.{Sound}
-use Rattle.passing.specs.Finding.{FoundAt, Finds, lastOf}
+use Rattle.passing.specs.declared.At.{At}
+use Rattle.passing.specs.Contract.{SaysOccurred, doneOf as passDone}
+use Rattle.passing.specs.Finding.{Ready, FoundAt, countedOf, Finds, lastOf}
+use Rattle.passing.specs.Trying.{Tried}
 use Rattle.passing.specs.Seen.{Seen, Renewed}
-use Rattle.passing.specs.Places.{from, matchAt, AtPlace, Happens, Fails, Attempts, wentSize, CopyComes, Copies, WentComes, Ahead, Onward, Goes}
+use Rattle.passing.specs.Places.{from, matchAt, movedTo, refusedAt, afterOf, passedOf, AtPlace, Acting, Acts, Copies, CopiesEmpty, Onward, Goes}
+use Rattle.passing.proofs.FindLaws.{find-counted}
 use Rattle.passing.proofs.GrowLaws.{Grown, occur-grown}
 
 -- THE LAST MATCH
@@ -51,38 +52,42 @@ put-on : (b : ℕ) (w : Work) → w .size < mostLineBytes → put b w ≡ good (
 unfolding put unless
 put-on b w k = rw (lt-ltb (w .size) 1054 k)
 
-module _ (t out : List ℕ) (p n last : ℕ) (hit : Bool) where
-  pub copy-full : mostLineBytes ≤ n → n ≤ mostLineBytes → Copies t out out p n last hit (Stopped NewLineTooLong n)
-  unfolding put unless
-  copy-full h l =
-      record {
-        comes = λ b w x. ((let e : mostLineBytes ≤ w .size = (let z = x .size in omega arith) in rw (le-ltb (w .size) 1054 e)), x);
-        past = refl;
-        size = l;
-        grows = omega arith;
-      }
+put-full : (b : ℕ) (w : Work) → mostLineBytes ≤ w .size → put b w ≡ bad newLineTooLong w
+unfolding put unless
+put-full b w k = rw (le-ltb (w .size) 1054 k)
 
-  pub copy-next : n < mostLineBytes → length out ≡ mostLineBytes → Copies t out (set out n (getD t p 0)) p n last hit (On (record { place = p + 1; last = last; size = n + 1; hit = hit }))
-  copy-next h l =
+put-moment : (out b : List ℕ) (c n : ℕ) (w : Work) → n < mostLineBytes → length out ≡ mostLineBytes → IsMoment out b n w → (v : Work) × (put c w ≡ good v) × IsMoment (set out n c) b (n + 1) v
+put-moment out b c n w h l x =
+    let v : Work = record { out = c ∷ w .out; size = suc (w .size); state = w .state } in
+    let e : put c w ≡ good v = put-on c w (let z = x .size in omega arith) in (
+      v,
+      e,
       record {
-        comes = λ b w x. record { place = refl; kept = refl; says = refl; moment = moved b w x };
-        past = drop-set-lt (n + 1) out n (getD t p 0) (omega arith);
-        size = omega arith;
-        grows = omega arith;
-      }
-    where
-      moved : (b : List ℕ) (w : Work) → IsMoment out b n w → (v : Work) × (put (getD t p 0) w ≡ good v) × IsMoment (set out n (getD t p 0)) b (n + 1) v
-      moved b w x =
-          let v : Work = record { out = getD t p 0 ∷ w .out; size = suc (w .size); state = w .state } in
-          let e : put (getD t p 0) w ≡ good v = put-on (getD t p 0) w (let z = x .size in omega arith) in (
-            v,
-            e,
-            record {
-              line = put-copied (getD t p 0) w v e .line ∙ ap (λ (s : List ℕ). s ++ (getD t p 0 ∷ [])) (x .line) ∙ sym (take-suc-set out n (getD t p 0) (omega arith)) ∙ ap (λ (j : ℕ). take j (set out n (getD t p 0))) (sym (add-one n));
-              size = (let z = x .size in omega arith);
-              state = x .state;
-            },
-          )
+        line = put-copied c w v e .line ∙ ap (λ (s : List ℕ). s ++ (c ∷ [])) (x .line) ∙ sym (take-suc-set out n c (omega arith)) ∙ ap (λ (j : ℕ). take j (set out n c)) (sym (add-one n));
+        size = (let z = x .size in omega arith);
+        state = x .state;
+      },
+    )
+
+below-or : (P : Type 0) (a b : ℕ) → (a < b → P) → (b ≤ a → P) → P
+below-or P a b f g = by (ltb a b) refl
+  where
+    by : (c : Bool) → ltb a b ≡ c → P
+    by true e = f (ltb-true a b e)
+    by false e = g (ltb-false a b e)
+
+both : (P : At → List ℕ → Type 0) (r x : At) (l y : List ℕ) → (r ≡ x) × (l ≡ y) → P x y → P r l
+both P r x l y e h = subst (λ (z : At). P z l) (sym (e .0)) (subst (P x) (sym (e .1)) h)
+
+-- what holds of each answer holds of the answer
+copies-by : (P : At → List ℕ → Type 0) (t out out′ : List ℕ) (a r : At) → Copies t out out′ a r → (length t ≤ a .place → P (movedTo a (a .size)) out)
+    → (a .place < length t → mostLineBytes ≤ a .size → P (refusedAt NewLineTooLong (a .size)) out)
+    → (a .place < length t → a .size < mostLineBytes → P (movedTo a (a .size + 1)) (set out (a .size) (getD t (a .place) 0)))
+    → P r out′
+copies-by P t out out′ a r c f g h =
+    below-or (P r out′) (a .place) (length t)
+    (λ l. below-or (P r out′) (a .size) mostLineBytes (λ k. both P r _ out′ _ (c .copied l k) (h l k)) (λ k. both P r _ out′ _ (c .full l k) (g l k)))
+    (λ l. both P r _ out′ _ (c .none l) (f l))
 
 -- THE PASS FROM A PLACE ON
 
@@ -90,9 +95,20 @@ or-true : (u : Bool) → u || true ≡ true
 or-true true = refl
 or-true false = refl
 
+or-false : (u : Bool) → u || false ≡ u
+or-false true = refl
+or-false false = refl
+
+module _ (m : Macro) (t : List ℕ) (x : Walk) (hit : Bool) (a : At) (w : Work) where
+  goes-on : a .place ≤ length t → outcome x ≡ outcome (from m t (a .last) (a .place) w) → hit || occurred x ≡ a .hit || occurred (from m t (a .last) (a .place) w) → Onward m t x hit a w
+  goes-on l e f = record { on = λ k. (e, f); over = λ k. absurd (omega arith) }
+
+  is-over : length t < a .place → outcome x ≡ passDone (passedOf a) w → SaysOccurred (passedOf a) (hit || occurred x) → Onward m t x hit a w
+  is-over l e f = record { on = λ k. absurd (omega arith); over = λ k. (e, f) }
+
 module _ (m : Macro) (t : List ℕ) (last p : ℕ) (w : Work) where
   -- at a byte
-  module _ (lt : p < length t) (short : length t ≤ mostLineBytes) where
+  module _ (lt : p < length t) where
     byte-at : from m t last p w ≡ atByte m t p (getD t p 0) (lastOf last) w (λ skip l v. walk m t skip l (suc p) v (drop (suc p) t)) (matchAt m t last p w)
     byte-at = walk-byte m t (lastOf last) p w lt
 
@@ -100,57 +116,42 @@ module _ (m : Macro) (t : List ℕ) (last p : ℕ) (w : Work) where
     unfolding atByte goOn outcome
     free-full r e x = ap outcome byte-at ∙ rw (e, x)
 
-    pub byte-free : matchAt m t last p w ≡ none → (out b : List ℕ) (hit : Bool) (r : Went) → CopyComes t out p last hit w b r → WentComes m t last p hit w b out r
-    byte-free e out b hit (On a) x =
-        let v : Work = x .moment .0 in
-        let s : from m t last p w ≡ from m t (a .last) (a .place) v = step-copy m t (lastOf last) p w v lt e (x .moment .1) ∙ rw (x .place, x .kept, add-one) in
-        (v, x .moment .2, ap outcome s, ap (λ (u : Bool). hit || u) (ap occurred s) ∙ rw (x .says))
-    byte-free e out b hit (Stopped f k) x = (w, x .1, free-full (refusalOf f) e (x .0))
-
-    module _ (q : ℕ) (v : Work) (d : Division) (h : Happens m t last p q w v d) where
-      occurred-at : occurred (from m t last p w) ≡ true
+    module _ (v : Work) (d : Division) (e : matchAt m t last p w ≡ some d) where
+      byte-occurs : occur m t d w ≡ good v → occurred (from m t last p w) ≡ true
       unfolding atByte matched goOn occurred
-      occurred-at = ap occurred byte-at ∙ rw (h .found, h .acts)
+      byte-occurs o = ap occurred byte-at ∙ rw (e, o)
 
-      hits : (hit : Bool) → hit || occurred (from m t last p w) ≡ true
-      hits hit = ap (λ (u : Bool). hit || u) occurred-at ∙ or-true hit
+      byte-hits : (hit : Bool) → occur m t d w ≡ good v → hit || occurred (from m t last p w) ≡ true
+      byte-hits hit o = ap (λ (u : Bool). hit || u) (byte-occurs o) ∙ or-true hit
 
-      pub byte-match : (out b : List ℕ) (k : ℕ) (hit : Bool) → p < q → q ≤ length t → IsMoment out b k v → WentComes m t last p hit w b out (On (record { place = q; last = q; size = k; hit = true }))
-      byte-match out b k hit l i x =
-          let z = h .ends in
-          (v, x, step-match m t (lastOf last) p w v d lt (h .found) (h .acts) (omega arith) (omega arith) ∙ rw (z, last-some q (omega arith)), hits hit)
-
-      empty-full : (r : WorkRefusal) → q ≡ p → put (getD t p 0) v ≡ bad r v → outcome (from m t last p w) ≡ bad r v
+      empty-full : (r : WorkRefusal) → occur m t d w ≡ good v → endOf p d ≡ p → put (getD t p 0) v ≡ bad r v → outcome (from m t last p w) ≡ bad r v
       unfolding atByte matched goOn onward outcome
-      empty-full r z x = let y = h .ends in let e : endOf p d - p ≡ 0 = omega arith in ap outcome byte-at ∙ rw (h .found, h .acts, e, x)
+      empty-full r o z x = let n : endOf p d - p ≡ 0 = omega arith in ap outcome byte-at ∙ rw (e, o, n, x)
 
-      pub byte-empty : q ≡ p → (out b : List ℕ) (hit : Bool) (r : Went) → CopyComes t out p p true v b r → WentComes m t last p hit w b out r
-      byte-empty z out b hit (On a) x =
-          let u : Work = x .moment .0 in
-          let s : outcome (from m t last p w) ≡ outcome (from m t (a .last) (a .place) u) = step-empty m t (lastOf last) p w v u d lt (h .found) (h .acts) (h .ends ∙ z) (x .moment .1) ∙ rw (x .place, x .kept, add-one, last-some p (omega arith)) in
-          (u, x .moment .2, s, hits hit ∙ rw (x .says))
-      byte-empty z out b hit (Stopped f k) x = (v, x .1, empty-full (refusalOf f) z (x .0))
-
-    pub byte-fails : (f : Fault) (v : Work) (d : Division) → Fails m t last p f w v d → outcome (from m t last p w) ≡ bad (refusalOf f) v
-    unfolding atByte matched goOn outcome
-    byte-fails f v d h = ap outcome byte-at ∙ rw (h .found, h .acts)
+      byte-fails : (r : WorkRefusal) → occur m t d w ≡ bad r v → outcome (from m t last p w) ≡ bad r v
+      unfolding atByte matched goOn outcome
+      byte-fails r o = ap outcome byte-at ∙ rw (e, o)
 
   -- at the line's length
   module _ (ge : length t ≤ p) where
     end-at : from m t last p w ≡ atEnd m t p w (matchAt m t last p w)
     end-at = walk-end m t (lastOf last) p w ge
 
-    pub end-free : matchAt m t last p w ≡ none → (outcome (from m t last p w) ≡ good w) × (occurred (from m t last p w) ≡ false)
+    end-free : matchAt m t last p w ≡ none → (outcome (from m t last p w) ≡ good w) × (occurred (from m t last p w) ≡ false)
     unfolding atEnd outcome occurred
     end-free e = (ap outcome end-at ∙ rw e, ap occurred end-at ∙ rw e)
 
-    pub end-match : (q : ℕ) (v : Work) (d : Division) → Happens m t last p q w v d → (outcome (from m t last p w) ≡ good v) × (occurred (from m t last p w) ≡ true)
-    unfolding atEnd matched goOn outcome occurred
-    end-match q v d h = (ap outcome end-at ∙ rw (h .found, h .acts), ap occurred end-at ∙ rw (h .found, h .acts))
+    module _ (v : Work) (d : Division) (e : matchAt m t last p w ≡ some d) where
+      end-match : occur m t d w ≡ good v → (outcome (from m t last p w) ≡ good v) × (occurred (from m t last p w) ≡ true)
+      unfolding atEnd matched goOn outcome occurred
+      end-match o = (ap outcome end-at ∙ rw (e, o), ap occurred end-at ∙ rw (e, o))
 
-    pub end-fails : (f : Fault) (v : Work) (d : Division) → Fails m t last p f w v d → outcome (from m t last p w) ≡ bad (refusalOf f) v
-    unfolding atEnd matched goOn outcome
-    end-fails f v d h = ap outcome end-at ∙ rw (h .found, h .acts)
+      end-fails : (r : WorkRefusal) → occur m t d w ≡ bad r v → outcome (from m t last p w) ≡ bad r v
+      unfolding atEnd matched goOn outcome
+      end-fails r o = ap outcome end-at ∙ rw (e, o)
+
+  fails : (v : Work) (d : Division) → matchAt m t last p w ≡ some d → (r : WorkRefusal) → occur m t d w ≡ bad r v → outcome (from m t last p w) ≡ bad r v
+  fails v d e r o = below-or _ p (length t) (λ l. byte-fails l v d e r o) (λ l. end-fails l v d e r o)
 
 -- A PLACE IS TRIED
 
@@ -172,177 +173,241 @@ found-some (some d) p q es ends h = (d, refl, h .0, h .1)
 match-divides : (st : State) (es : List Piece) (t : List ℕ) (last : Option ℕ) (p : ℕ) (d : Division) → match st es last p (drop p t) ≡ some d → Divides st t es p d
 match-divides st es t last p d e = subst (Matches (Divides st t es p) last p) e (match-matches st es t last p) .0
 
-module _ (s items kinds t b out marks ends : List ℕ) (last p n : ℕ) (y : AtPlace s items kinds t b out marks ends p n) where
-  module _ (r : Found) (marks′ ends′ : List ℕ) (fi : Finds items b t last p marks marks′ ends′ r) where
-    pub try-free : r ≡ NoMatch → Attempts s items t b b out out marks marks′ ends′ last p n Free
-    try-free e =
+pub acting-state : (s items t b out marks seen ends : List ℕ) (n : ℕ) → Acting s items t b out marks seen ends n → IsState b
+acting-state s items t b out marks seen ends n a = (a .moment .0 .state, a .moment .1 .state)
+
+pub acted-state : (s items t b b′ out out′ marks seen ends : List ℕ) (n : ℕ) (o : Outcome) → Acting s items t b out marks seen ends n → Occurs s ends t b b′ out out′ n o → IsState b′
+acted-state s items t b b′ out out′ marks seen ends n o a oc =
+    let c = oc .comes (a .divided .0) (a .divided .1) (a .divided .2) (a .moment .0) (a .moment .1) in
+    (c .0 .state, c .2 .state)
+
+pub ready : (s items kinds t b out marks ends : List ℕ) (p n : ℕ) → AtPlace s items kinds t b out marks ends p n → Ready items kinds b t p marks ends
+ready s items kinds t b out marks ends p n y =
+    let m = y .macro .0 in
+    record {
+      pattern = (m .pattern, y .pattern .pattern m (y .macro .1));
+      fits = y .pattern .fits;
+      table = y .table;
+      state = (y .moment .0 .state, y .moment .1 .state);
+      short = y .short;
+      place = y .place;
+      size = y .rows;
+      count = y .count;
+      inside = y .inside;
+      sound = y .sound;
+    }
+
+pub finds : (s items kinds t b out marks ends : List ℕ) (a : At) → AtPlace s items kinds t b out marks ends (a .place) (a .size) → (marks′ ends′ : List ℕ) (f r : Found) → Tried items b t 0 (a .place) marks marks′ ends′ f → r ≡ countedOf f (a .last) (a .place) → Finds items b t (a .last) (a .place) marks marks′ ends′ r
+finds s items kinds t b out marks ends a y marks′ ends′ f r k e = find-counted items b t (a .last) (a .place) marks marks′ ends′ (let p = y .place in let l = y .short in omega arith) f r k e
+
+module _ (s items kinds t b out marks ends : List ℕ) (a : At) (y : AtPlace s items kinds t b out marks ends (a .place) (a .size)) (seen : List ℕ) (sn : Seen items seen b) (r : Found) (marks′ ends′ : List ℕ) (fi : Finds items b t (a .last) (a .place) marks marks′ ends′ r) where
+  abbrev found : Macro → Work → Option Division
+  found m w = matchAt m t (a .last) (a .place) w
+
+  abbrev ahead : Macro → Work → Walk
+  ahead m w = from m t (a .last) (a .place) w
+
+  -- without a match
+  module _ (e : r ≡ NoMatch) where
+    abbrev Went : At → List ℕ → Type 0
+    Went z l = Goes s items t b b out l marks marks′ seen ends′ a z
+
+    none-here : (m : Macro) → IsSlot s m → (w : Work) → IsMoment out b (a .size) w → found m w ≡ none
+    none-here m i w x = found-none (found m w) (a .place) (m .pattern) ends′ (subst (FoundAt (found m w) (a .place) (m .pattern) ends′) e (fi .found (m .pattern) (y .pattern .pattern m i) (w .state) (x .state)))
+
+    went : (z : At) (l : List ℕ) → ((m : Macro) → IsSlot s m → (w : Work) → IsMoment out b (a .size) w → (v : Work) × IsMoment l b (z .size) v × Onward m t (ahead m w) (a .hit) z v) → drop (z .size) l ≡ drop (z .size) out → z .size ≤ mostLineBytes → a .size ≤ z .size → a .place < z .place → Went z l
+    went z l c p n g f = record { comes = c; past = p; size = n; grows = g; further = f; sound = fi .sound; sees = sn; outside = fi .outside; inside = fi .inside }
+
+    free-end : length t ≤ a .place → Went (movedTo a (a .size)) out
+    free-end l =
+        went (movedTo a (a .size)) out
+        (λ m i w x. let f = end-free m t (a .last) (a .place) w l (none-here m i w x) in (w, x, is-over m t (ahead m w) (a .hit) (movedTo a (a .size)) w (omega arith) (f .0) (sym (ap (λ (u : Bool). a .hit || u) (f .1) ∙ or-false (a .hit)))))
+        refl
+        (y .size)
+        (omega arith)
+        (omega arith)
+
+    free-full-here : a .place < length t → mostLineBytes ≤ a .size → Went (refusedAt NewLineTooLong (a .size)) out
+    free-full-here l k =
+        let h = y .short in
+        went (refusedAt NewLineTooLong (a .size)) out
+        (λ m i w x. (w, x, is-over m t (ahead m w) (a .hit) (refusedAt NewLineTooLong (a .size)) w (omega arith) (free-full m t (a .last) (a .place) w l newLineTooLong (none-here m i w x) (put-full _ w (let z = x .size in omega arith))) tt))
+        refl
+        (y .size)
+        (omega arith)
+        (omega arith)
+
+    free-copied : a .place < length t → a .size < mostLineBytes → Went (movedTo a (a .size + 1)) (set out (a .size) (getD t (a .place) 0))
+    free-copied l k =
+        went (movedTo a (a .size + 1)) (set out (a .size) (getD t (a .place) 0))
+        (λ m i w x.
+        let c = put-moment out b (getD t (a .place) 0) (a .size) w k (y .room) x in
+        let z : ahead m w ≡ from m t (a .last) (a .place + 1) (c .0) = step-copy m t (lastOf (a .last)) (a .place) w (c .0) l (none-here m i w x) (c .1) ∙ rw add-one in
+        (c .0, c .2, goes-on m t (ahead m w) (a .hit) (movedTo a (a .size + 1)) (c .0) (omega arith) (ap outcome z) (ap (λ (u : Bool). a .hit || u) (ap occurred z))))
+        (drop-set-lt (a .size + 1) out (a .size) (getD t (a .place) 0) (omega arith))
+        (omega arith)
+        (omega arith)
+        (omega arith)
+
+    pub go-free : (z : At) (l : List ℕ) → Copies t out l a z → Went z l
+    go-free z l c = copies-by Went t out l a z c free-end free-full-here free-copied
+
+  -- with a match that ends at q
+  module _ (q : ℕ) (e : r ≡ Matched q) where
+    divided : (m : Macro) → IsSlot s m → (w : Work) → IsMoment out b (a .size) w → (d : Division) × (found m w ≡ some d) × (endOf (a .place) d ≡ q) × IsDivided s ends′ m d
+    divided m i w x =
+        let f = found-some (found m w) (a .place) q (m .pattern) ends′ (subst (FoundAt (found m w) (a .place) (m .pattern) ends′) e (fi .found (m .pattern) (y .pattern .pattern m i) (w .state) (x .state))) in
+        (f .0, f .1, f .2, record { macro = i; spans = f .3 })
+
+    within : (a .place ≤ q) × (q ≤ length t)
+    within =
+        let m = y .macro .0 in
+        let w = y .moment .0 in
+        let f = divided m (y .macro .1) w (y .moment .1) in
+        let g = match-divides (w .state) (m .pattern) t (lastOf (a .last)) (a .place) (f .0) (f .1) in
+        let z = f .2 in
+        let l : a .place ≤ endOf (a .place) (f .0) = ends-on (w .state) t (m .pattern) (a .place) (f .0) g in
+        let k : endOf (a .place) (f .0) ≤ length t = ends-inside (w .state) t (m .pattern) (a .place) (f .0) (y .place) g in
+        (omega arith, omega arith)
+
+    held : IsState b
+    held = (y .moment .0 .state, y .moment .1 .state)
+
+    pub acting : length marks′ ≡ length marks → length ends′ ≡ length ends → Acting s items t b out marks′ seen ends′ (a .size)
+    acting lm le =
+        let m = y .macro .0 in
+        let f = divided m (y .macro .1) (y .moment .0) (y .moment .1) in
         record {
-          comes = λ m i w x. (found-none (matchAt m t last p w) p (m .pattern) ends′ (subst (FoundAt (matchAt m t last p w) p (m .pattern) ends′) e (fi .found (m .pattern) (y .pattern m i) (w .state) (x .state))), x);
-          past = refl;
-          size = y .size;
-          grows = omega arith;
-          within = tt;
-          stays = refl;
-          sound = fi .sound;
-          outside = fi .outside;
+          divided = (m, f .0, f .3);
+          count = le ∙ y .count;
           inside = fi .inside;
+          bytes = y .bytes;
+          short = y .short;
+          moment = y .moment;
+          room = y .room;
+          size = y .size;
+          pattern = (m .pattern, y .pattern .pattern m (y .macro .1));
+          fits = y .pattern .fits;
+          old = sn .state;
+          rows = lm ∙ y .rows;
         }
 
-    module _ (q : ℕ) (e : r ≡ Matched q) where
-      pub try-divided : (m : Macro) → IsSlot s m → (w : Work) → IsMoment out b n w → (d : Division) × (matchAt m t last p w ≡ some d) × (endOf p d ≡ q) × IsDivided s ends′ m d
-      try-divided m i w x =
-          let f = found-some (matchAt m t last p w) p q (m .pattern) ends′ (subst (FoundAt (matchAt m t last p w) p (m .pattern) ends′) e (fi .found (m .pattern) (y .pattern m i) (w .state) (x .state))) in
-          (f .0, f .1, f .2, record { macro = i; spans = f .3 })
+    module _ (b′ out′ marks″ seen′ : List ℕ) (rn : Renewed items b′ seen seen′ marks′ marks″) where
+      abbrev Acted : At → List ℕ → Type 0
+      Acted z l = Goes s items t b b′ out l marks marks″ seen′ ends′ a z
 
-      try-within : (p ≤ q) × (q ≤ length t)
-      try-within =
+      acted : (z : At) (l : List ℕ) → ((m : Macro) → IsSlot s m → (w : Work) → IsMoment out b (a .size) w → (v : Work) × IsMoment l b′ (z .size) v × Onward m t (ahead m w) (a .hit) z v) → drop (z .size) l ≡ drop (z .size) out → z .size ≤ mostLineBytes → a .size ≤ z .size → a .place < z .place → Acted z l
+      acted z l c p n g f =
+          record {
+            comes = c;
+            past = p;
+            size = n;
+            grows = g;
+            further = f;
+            sound = rn .sound b t held sn (fi .sound);
+            sees = rn .sees b sn;
+            outside = rn .outside ∙ fi .outside;
+            inside = fi .inside;
+          }
+
+      grows : (o : Outcome) → Occurs s ends′ t b b′ out out′ (a .size) o → a .size ≤ sizeOf o
+      grows o oc =
           let m = y .macro .0 in
           let w = y .moment .0 in
-          let f = try-divided m (y .macro .1) w (y .moment .1) in
-          let g = match-divides (w .state) (m .pattern) t (lastOf last) p (f .0) (f .1) in
-          let z = f .2 in
-          let l : p ≤ endOf p (f .0) = ends-on (w .state) t (m .pattern) p (f .0) g in
-          let k : endOf p (f .0) ≤ length t = ends-inside (w .state) t (m .pattern) p (f .0) (y .place) g in
-          (omega arith, omega arith)
+          let f = divided m (y .macro .1) w (y .moment .1) in
+          let c = oc .comes m (f .0) (f .3) w (y .moment .1) in
+          let z = y .moment .1 .size in
+          grown o (c .0) (subst (Grown (a .size)) (c .1) (occur-grown (a .size) m t (f .0) w (omega arith))) (c .2 .size)
+        where
+          grown : (o : Outcome) (v : Work) → Grown (a .size) (doneOf o v) → v .size ≡ sizeOf o → a .size ≤ sizeOf o
+          grown (Made k) v h z = omega arith
+          grown (MadeRefused f k) v h z = omega arith
 
-      module _ (b′ out′ : List ℕ) (o : Outcome) (oc : Occurs s ends′ t b b′ out out′ n o) where
-        try-grows : n ≤ sizeOf o
-        try-grows =
-            let m = y .macro .0 in
-            let w = y .moment .0 in
-            let f = try-divided m (y .macro .1) w (y .moment .1) in
-            let c = oc .comes m (f .0) (f .3) w (y .moment .1) in
-            let z = y .moment .1 .size in
-            grown o (c .0) (subst (Grown n) (c .1) (occur-grown n m t (f .0) w (omega arith))) (c .2 .size)
-          where
-            grown : (o : Outcome) (v : Work) → Grown n (doneOf o v) → v .size ≡ sizeOf o → n ≤ sizeOf o
-            grown (Made k) v h z = omega arith
-            grown (MadeRefused f k) v h z = omega arith
+      act-refused : (f : Fault) (k : ℕ) → Occurs s ends′ t b b′ out out′ (a .size) (MadeRefused f k) → Acted (refusedAt f k) out′
+      act-refused f k oc =
+          let h = y .short in
+          let l = y .place in
+          acted (refusedAt f k) out′
+          (λ m i w x.
+          let d = divided m i w x in
+          let c = oc .comes m (d .0) (d .3) w x in
+          (c .0, c .2, is-over m t (ahead m w) (a .hit) (refusedAt f k) (c .0) (omega arith) (fails m t (a .last) (a .place) w (c .0) (d .0) (d .1) (refusalOf f) (c .1)) tt))
+          (oc .past)
+          (oc .within)
+          (grows (MadeRefused f k) oc)
+          (omega arith)
 
-      pub try-made : (b′ out′ : List ℕ) (o : Outcome) (k : ℕ) → o ≡ Made k → Occurs s ends′ t b b′ out out′ n o → Attempts s items t b b′ out out′ marks marks′ ends′ last p n (Occurred q k)
-      try-made b′ out′ o k h oc =
-          let g : Occurs s ends′ t b b′ out out′ n (Made k) = subst (Occurs s ends′ t b b′ out out′ n) h oc in
-          record {
-            comes = λ m i w x. let f = try-divided m i w x in let c = g .comes m (f .0) (f .3) w x in (c .0, f .0, record { found = f .1; ends = f .2; acts = c .1 }, c .2);
-            past = g .past;
-            size = g .within;
-            grows = try-grows b′ out′ (Made k) g;
-            within = try-within;
-            stays = tt;
-            sound = fi .sound;
-            outside = fi .outside;
-            inside = fi .inside;
-          }
+      module _ (k : ℕ) (oc : Occurs s ends′ t b b′ out out′ (a .size) (Made k)) where
+        abbrev next : At
+        next = afterOf (Made k) q
 
-      pub try-refused : (b′ out′ : List ℕ) (o : Outcome) (f : Fault) (k : ℕ) → o ≡ MadeRefused f k → Occurs s ends′ t b b′ out out′ n o → Attempts s items t b b′ out out′ marks marks′ ends′ last p n (Refused f k)
-      try-refused b′ out′ o f k h oc =
-          let g : Occurs s ends′ t b b′ out out′ n (MadeRefused f k) = subst (Occurs s ends′ t b b′ out out′ n) h oc in
-          record {
-            comes = λ m i w x. let a = try-divided m i w x in let c = g .comes m (a .0) (a .3) w x in (c .0, a .0, record { found = a .1; acts = c .1 }, c .2);
-            past = g .past;
-            size = g .within;
-            grows = try-grows b′ out′ (MadeRefused f k) g;
-            within = tt;
-            stays = tt;
-            sound = fi .sound;
-            outside = fi .outside;
-            inside = fi .inside;
-          }
+        act-on : a .place < q → Acted next out′
+        act-on l =
+            acted next out′
+            (λ m i w x.
+            let d = divided m i w x in
+            let c = oc .comes m (d .0) (d .3) w x in
+            let z = d .2 in
+            let g = within in
+            let h = y .short in
+            let lt : a .place < length t = omega arith in
+            (c .0, c .2, goes-on m t (ahead m w) (a .hit) next (c .0) (within .1) (step-match m t (lastOf (a .last)) (a .place) w (c .0) (d .0) lt (d .1) (c .1) (omega arith) (omega arith) ∙ rw (z, last-some q (omega arith))) (byte-hits m t (a .last) (a .place) w lt (c .0) (d .0) (d .1) (a .hit) (c .1))))
+            (oc .past)
+            (oc .within)
+            (grows (Made k) oc)
+            l
 
-  -- GOING ON FROM A BYTE
+        module _ (z : q ≡ a .place) where
+          empty-end : length t ≤ q → Acted (movedTo next k) out′
+          empty-end l =
+              acted (movedTo next k) out′
+              (λ m i w x.
+              let d = divided m i w x in
+              let c = oc .comes m (d .0) (d .3) w x in
+              let f = end-match m t (a .last) (a .place) w (omega arith) (c .0) (d .0) (d .1) (c .1) in
+              (c .0, c .2, is-over m t (ahead m w) (a .hit) (movedTo next k) (c .0) (omega arith) (f .0) (sym (ap (λ (u : Bool). a .hit || u) (f .1) ∙ or-true (a .hit)))))
+              (oc .past)
+              (oc .within)
+              (grows (Made k) oc)
+              (omega arith)
 
-  module _ (hit : Bool) (lt : p < length t) (b′ out′ marks′ ends′ : List ℕ) (r : Attempt) (tr : Attempts s items t b b′ out out′ marks marks′ ends′ last p n r) where
-    pub go-stop : (seen : List ℕ) (f : Fault) (k : ℕ) → r ≡ Refused f k → Goes s items t b b′ out out′ marks marks′ seen ends′ last p n hit (Stopped f k)
-    go-stop seen f k e =
-        let g : Attempts s items t b b′ out out′ marks marks′ ends′ last p n (Refused f k) = subst (Attempts s items t b b′ out out′ marks marks′ ends′ last p n) e tr in
-        record {
-          comes = λ m i w x. let z = g .comes m i w x in (z .0, z .3, byte-fails m t last p w lt (y .short) f (z .0) (z .1) (z .2));
-          past = g .past;
-          size = g .size;
-          grows = g .grows;
-          on = tt;
-          outside = g .outside;
-          inside = g .inside;
-        }
+          empty-full-here : q < length t → mostLineBytes ≤ k → Acted (refusedAt NewLineTooLong k) out′
+          empty-full-here l j =
+              let h = y .short in
+              acted (refusedAt NewLineTooLong k) out′
+              (λ m i w x.
+              let d = divided m i w x in
+              let c = oc .comes m (d .0) (d .3) w x in
+              (c .0, c .2, is-over m t (ahead m w) (a .hit) (refusedAt NewLineTooLong k) (c .0) (omega arith) (empty-full m t (a .last) (a .place) w (omega arith) (c .0) (d .0) (d .1) newLineTooLong (c .1) (d .2 ∙ z) (put-full _ (c .0) (let n = c .2 .size in omega arith))) tt))
+              (oc .past)
+              (oc .within)
+              (grows (Made k) oc)
+              (omega arith)
 
-    module _ (e : r ≡ Free) where
-      free : Attempts s items t b b′ out out′ marks marks′ ends′ last p n Free
-      free = subst (Attempts s items t b b′ out out′ marks marks′ ends′ last p n) e tr
+          empty-copied : length out′ ≡ mostLineBytes → q < length t → k < mostLineBytes → Acted (movedTo next (k + 1)) (set out′ k (getD t q 0))
+          empty-copied lo l n =
+              let g = grows (Made k) oc in
+              acted (movedTo next (k + 1)) (set out′ k (getD t q 0))
+              (λ m i w x.
+              let d = divided m i w x in
+              let c = oc .comes m (d .0) (d .3) w x in
+              let u = put-moment out′ b′ (getD t q 0) k (c .0) n lo (c .2) in
+              let p : put (getD t (a .place) 0) (c .0) ≡ good (u .0) = ap (λ (j : ℕ). put (getD t j 0) (c .0)) (sym z) ∙ u .1 in
+              let h = y .short in
+              let lt : a .place < length t = omega arith in
+              let f : outcome (ahead m w) ≡ outcome (walk m t 0 (some q) (suc q) (u .0) (drop (suc q) t)) = step-empty m t (lastOf (a .last)) (a .place) w (c .0) (u .0) (d .0) lt (d .1) (c .1) (d .2 ∙ z) p ∙ ap (λ (j : ℕ). outcome (walk m t 0 (some j) (suc j) (u .0) (drop (suc j) t))) (sym z) in
+              (u .0, u .2, goes-on m t (ahead m w) (a .hit) (movedTo next (k + 1)) (u .0) (omega arith) (f ∙ rw (add-one, last-some q (omega arith))) (byte-hits m t (a .last) (a .place) w lt (c .0) (d .0) (d .1) (a .hit) (c .1))))
+              (drop-set-lt (k + 1) out′ k (getD t q 0) (omega arith) ∙ drop-on out′ out k (k + 1) (oc .past) (omega arith))
+              (omega arith)
+              (omega arith)
+              (omega arith)
 
-      free-on : (seen out″ : List ℕ) (a : Went) → Seen items seen b → Copies t out′ out″ p n last hit a → Onward items t b′ marks′ seen p a
-      free-on seen out″ (On a) sn cp =
-          let z = free .comes (y .macro .0) (y .macro .1) (y .moment .0) (y .moment .1) in
-          let x = cp .comes b′ (y .moment .0) (z .1) .place in
-          record {
-            place = omega arith;
-            within = omega arith;
-            sound = subst (λ (c : List ℕ). Sound items c t marks′) (sym (free .stays)) (free .sound);
-            sees = subst (Seen items seen) (sym (free .stays)) sn;
-          }
-      free-on seen out″ (Stopped f k) sn cp = tt
+      go-made : length out′ ≡ mostLineBytes → (o : Outcome) → Occurs s ends′ t b b′ out out′ (a .size) o → (z : At) (l : List ℕ) → CopiesEmpty t out′ l (a .place) (afterOf o q) z → Acted z l
+      go-made lo (MadeRefused f k) oc z l c = let h = y .short in let p = y .place in both Acted z _ l _ (c .further (omega arith)) (act-refused f k oc)
+      go-made lo (Made k) oc z l c =
+          below-or (Acted z l) (a .place) q
+          (λ g. both Acted z _ l _ (c .further g) (act-on k oc g))
+          (λ g. let i = within in let e : q ≡ a .place = omega arith in copies-by Acted t out′ l (next k oc) z (c .empty g) (empty-end k oc e) (empty-full-here k oc e) (empty-copied k oc e lo))
 
-      pub go-free : (seen out″ : List ℕ) (a : Went) → Seen items seen b → Copies t out′ out″ p n last hit a → Goes s items t b b′ out out″ marks marks′ seen ends′ last p n hit a
-      go-free seen out″ a sn cp =
-          record {
-            comes = λ m i w x. let z = free .comes m i w x in byte-free m t last p w lt (y .short) (z .0) out″ b′ hit a (cp .comes b′ w (z .1));
-            past = cp .past ∙ drop-on out′ out n (wentSize a) (free .past) (cp .grows);
-            size = cp .size;
-            grows = cp .grows;
-            on = free-on seen out″ a sn cp;
-            outside = free .outside;
-            inside = free .inside;
-          }
-
-    module _ (q k : ℕ) (e : r ≡ Occurred q k) where
-      made : Attempts s items t b b′ out out′ marks marks′ ends′ last p n (Occurred q k)
-      made = subst (Attempts s items t b b′ out out′ marks marks′ ends′ last p n) e tr
-
-      pub made-size : k ≤ mostLineBytes
-      made-size = made .size
-
-      made-moment : (v : Work) × IsMoment out′ b′ k v
-      made-moment = let z = made .comes (y .macro .0) (y .macro .1) (y .moment .0) (y .moment .1) in (z .0, z .3)
-
-      pub made-state : IsState b′
-      made-state = (made-moment .0 .state, made-moment .1 .state)
-
-      module _ (seen seen′ marks″ : List ℕ) (sn : Seen items seen b) (rn : Renewed items b′ seen seen′ marks′ marks″) where
-        held : IsState b
-        held = (y .moment .0 .state, y .moment .1 .state)
-
-        ahead : (j : ℕ) → p < j → j ≤ length t → Ahead items t b′ marks″ seen′ p j
-        ahead j l i = record { place = l; within = i; sound = rn .sound b t held sn (made .sound); sees = rn .sees b sn }
-
-        pub go-match : p < q → Goes s items t b b′ out out′ marks marks″ seen′ ends′ last p n hit (On (record { place = q; last = q; size = k; hit = true }))
-        go-match l =
-            record {
-              comes = λ m i w x. let z = made .comes m i w x in byte-match m t last p w lt (y .short) q (z .0) (z .1) (z .2) out′ b′ k hit l (made .within .1) (z .3);
-              past = made .past;
-              size = made .size;
-              grows = made .grows;
-              on = ahead q l (made .within .1);
-              outside = rn .outside ∙ made .outside;
-              inside = made .inside;
-            }
-
-        empty-on : (out″ : List ℕ) (a : Went) → Copies t out′ out″ p k p true a → Onward items t b′ marks″ seen′ p a
-        empty-on out″ (On a) cp = let x = cp .comes b′ (made-moment .0) (made-moment .1) .place in ahead (a .place) (omega arith) (omega arith)
-        empty-on out″ (Stopped f i) cp = tt
-
-        at-end : q ≤ p → q ≡ p
-        at-end l = let c = made .within .0 in omega arith
-
-        pub go-empty : q ≤ p → (out″ : List ℕ) (a : Went) → Copies t out′ out″ q k q true a → Goes s items t b b′ out out″ marks marks″ seen′ ends′ last p n hit a
-        go-empty l out″ a co =
-            let cp : Copies t out′ out″ p k p true a = subst (λ (j : ℕ). Copies t out′ out″ j k j true a) (at-end l) co in
-            let g = made .grows in
-            let h = cp .grows in
-            record {
-              comes = λ m i w x. let z = made .comes m i w x in byte-empty m t last p w lt (y .short) q (z .0) (z .1) (z .2) (at-end l) out″ b′ hit a (cp .comes b′ (z .0) (z .3));
-              past = cp .past ∙ drop-on out′ out k (wentSize a) (made .past) (cp .grows);
-              size = cp .size;
-              grows = omega arith;
-              on = empty-on out″ a cp;
-              outside = rn .outside ∙ made .outside;
-              inside = made .inside;
-            }
+    pub go-acted : (b′ out′ marks″ seen′ : List ℕ) (x : At) → Acts s items t b b′ out out′ marks′ marks″ seen seen′ ends′ q (a .size) x → length out′ ≡ mostLineBytes → (z : At) (l : List ℕ) → CopiesEmpty t out′ l (a .place) x z → Goes s items t b b′ out l marks marks″ seen′ ends′ a z
+    go-acted b′ out′ marks″ seen′ x h lo z l c = go-made b′ out′ marks″ seen′ (h .renewed) lo (h .made .0) (h .made .2) z l (subst (λ (u : At). CopiesEmpty t out′ l (a .place) u z) (h .made .1) c)

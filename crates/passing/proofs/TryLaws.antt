@@ -1,6 +1,6 @@
 -- The steps of the matcher: what each answer says.
 -- Assumes nothing.
-use mathlib.Core.Path.{_≡_, refl, sym, ap, _∙_}
+use mathlib.Core.Path.{_≡_, refl, sym, ap, _∙_, subst}
 use mathlib.Core.Bool.{Bool, true, false, false≢true}
 use mathlib.Core.List.{List, [], _∷_}
 use mathlib.Core.Option.{Option, none, some}
@@ -23,12 +23,11 @@ use Rattle.replacing.specs.Contract.{EndsFrom}
 use Rattle.passing.specs.Contract.{marksBytes}
 use Rattle.passing.specs.Pattern.{IsRest, OfPiece}
 use Rattle.passing.specs.Marks.{mark}
-use Rattle.passing.specs.Pieces.{membersOf, codeClosure, fitU, widthU, leadOf, again, Stands, IsUnit, IsElement, Wide}
-use Rattle.passing.specs.Trying.{answer, after, thenP, foundOf, Said, Given, Noted, Trying, Kept, Tried, Copied}
+use Rattle.passing.specs.Pieces.{membersOf, codeClosure, fitU, widthU, leadOf, again, Stands, Element, IsUnit, IsElement, Wide}
+use Rattle.passing.specs.Trying.{answer, after, thenP, foundOf, endedIn, Said, Given, Noted, Trying, Kept, Tried, Copied}
 use Rattle.passing.specs.declared.unit.Unit.{Unit as CodeUnit}
 use Rattle.passing.specs.declared.unit.Closure.{Closure as CodeClosure}
 use Rattle.passing.specs.declared.unit.Closure.the-variants.{Once, OneOrMore, ZeroOrMore}
-use Rattle.passing.specs.declared.unit.Element.{Element}
 use Rattle.passing.specs.declared.unit.Lead.{Lead}
 use Rattle.passing.specs.declared.unit.Lead.the-variants.{After, Nothing}
 use Rattle.passing.specs.declared.Found.{Found}
@@ -199,7 +198,7 @@ module _ (items b t : List ℕ) (at p : ℕ) (n : at ≡ length items → ⊥) (
       rest-at : (e : Piece) (es : List Piece) → IsRest items at (e ∷ es) → IsRest items next es
       rest-at e es i = rw (after-it e es i) (rest-next items at e es i)
 
-      pub tried-first : (m : ℕ) → at < length ends′ → q ≤ length t → Tried items b t next q marks marks′ ends′ (Matched m) → Tried items b t at p marks marks′ (set ends′ at q) (Matched m)
+      tried-first : (m : ℕ) → at < length ends′ → q ≤ length t → Tried items b t next q marks marks′ ends′ (Matched m) → Tried items b t at p marks marks′ (set ends′ at q) (Matched m)
       tried-first m z v c = record {
         said =
             by-piece items at (λ es. OfState b (λ st. Said es (answer st es t p) at p (set ends′ at q) (Matched m))) n
@@ -208,7 +207,7 @@ module _ (items b t : List ℕ) (at p : ℕ) (n : at ≡ length items → ⊥) (
         kept = kept-end items b t marks marks′ ends′ at q z v (c .kept);
       }
 
-      pub tried-fails : Tried items b t next q marks marks′ ends′ NoMatch → Tried items b t at p marks marks′ ends′ NoMatch
+      tried-fails : Tried items b t next q marks marks′ ends′ NoMatch → Tried items b t at p marks marks′ ends′ NoMatch
       tried-fails c = record {
         said =
             by-piece items at (λ es. OfState b (λ st. Said es (answer st es t p) at p ends′ NoMatch)) n
@@ -217,6 +216,13 @@ module _ (items b t : List ℕ) (at p : ℕ) (n : at ≡ length items → ⊥) (
             (answer-once items b t at p x w l r e es i st h q g a ∙ ap (thenP q) (found-none q (answer st es t q) (c .said es (rest-at e es i) st h .found))));
         kept = c .kept;
       }
+
+      pub tried-ended : (f : Found) → at < length ends′ → q ≤ length t → Tried items b t next q marks marks′ ends′ f → (r : Found) (ends″ : List ℕ) → (r ≡ f) × (ends″ ≡ endedIn f at q ends′) → Tried items b t at p marks marks′ ends″ r
+      tried-ended f z v c r ends″ h = subst (Tried items b t at p marks marks′ ends″) (sym (h .0)) (subst (λ (y : List ℕ). Tried items b t at p marks marks′ y f) (sym (h .1)) (go f c))
+        where
+          go : (f : Found) → Tried items b t next q marks marks′ ends′ f → Tried items b t at p marks marks′ (endedIn f at q ends′) f
+          go NoMatch c = tried-fails c
+          go (Matched m) c = tried-first m z v c
 
 -- what the pieces behind ask
 pub next-trying : (items kinds b t : List ℕ) (at next q : ℕ) (marks ends : List ℕ) → Given items kinds b t → Noted items b t marks ends → Stands items at

@@ -4,7 +4,7 @@ use mathlib.Core.Path.{_≡_}
 use mathlib.Core.Bool.{Bool, true, false}
 use mathlib.Core.List.{List, [], _∷_}
 use mathlib.Core.Option.{Option, none, some}
-use lib.Dec.{leb}
+use lib.Dec.{eqb, leb}
 use lib.ListN.{length, getD, drop}
 use Rattle.kinds.specs.Kind.{kindTable}
 use Rattle.macros.specs.Bounds.{mostLineBytes}
@@ -69,6 +69,16 @@ pub record Finds (items b t : List ℕ) (last p : ℕ) (marks marks′ ends′ :
   -- only the marks of the items change
   pub outside : drop (66 * length items) marks′ ≡ drop (66 * length items) marks
   pub inside : (i : ℕ) → getD ends′ i 0 ≤ length t
+
+-- "An empty match at the end of the match just made in the same pass does not count."
+abbrev pub countedIf : Bool → Bool → ℕ → Found
+countedIf true true q = NoMatch
+countedIf true false q = Matched q
+countedIf false b q = Matched q
+
+abbrev pub countedOf : Found → ℕ → ℕ → Found
+countedOf NoMatch last p = NoMatch
+countedOf (Matched q) last p = countedIf (eqb q p) (eqb last p) q
 
 -- if the answer is true, no division begins at p
 pub record Differs (items t : List ℕ) (p : ℕ) (r : Bool) : Type 0 where

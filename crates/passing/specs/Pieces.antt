@@ -21,7 +21,6 @@ use Rattle.passing.specs.declared.unit.Unit.{Unit as CodeUnit}
 use Rattle.passing.specs.declared.unit.Unit.the-variants.{Literal, Kind, Class, ClassNot, StackCall, CounterCall, Start, End, Brace}
 use Rattle.passing.specs.declared.unit.Closure.{Closure as CodeClosure}
 use Rattle.passing.specs.declared.unit.Closure.the-variants.{Once, OneOrMore, ZeroOrMore}
-use Rattle.passing.specs.declared.unit.Element.{Element}
 use Rattle.passing.specs.declared.unit.Lead.{Lead}
 use Rattle.passing.specs.declared.unit.Lead.the-variants.{After, Nothing}
 
@@ -151,6 +150,11 @@ pub record IsUnit (items : List ℕ) (at : ℕ) (u : CodeUnit) : Type 0 where
   pub stands : Stands items at
   pub unit : OfPiece items at (λ e. codeUnit e ≡ u)
   pub letter : Lettered u
+
+-- a unit with a closure
+pub record Element : Type 0 where
+  pub unit : CodeUnit
+  pub closure : CodeClosure
 
 pub record IsElement (items : List ℕ) (at : ℕ) (x : Element) : Type 0 where
   pub unit : IsUnit items at (x .unit)

@@ -4,7 +4,7 @@ use mathlib.Core.Path.{_≡_}
 use mathlib.Core.Bool.{true}
 use mathlib.Core.List.{List, [], _∷_}
 use mathlib.Core.Option.{Option, none, some}
-use lib.ListN.{length, getD, drop}
+use lib.ListN.{length, getD, drop, set}
 use Rattle.kinds.specs.Kind.{kindTable}
 use Rattle.macros.specs.Bounds.{mostLineBytes}
 use Rattle.macros.specs.Macro.{Closure, PatternUnit, Piece}
@@ -42,6 +42,11 @@ lastStop p (q ∷ qs) = lastStop q qs
 abbrev pub foundOf : ℕ → Option (List ℕ) → Found
 foundOf p none = NoMatch
 foundOf p (some qs) = Matched (lastStop p qs)
+
+-- the ends with that of the piece at `at`, if the pieces behind it match
+abbrev pub endedIn : Found → ℕ → ℕ → List ℕ → List ℕ
+endedIn NoMatch at q ends = ends
+endedIn (Matched m) at q ends = set ends at q
 
 abbrev pub Ended : List ℕ → ℕ → List Piece → Option (List ℕ) → Type 0
 Ended ends at es none = Unit {0}

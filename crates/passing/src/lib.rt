@@ -5,14 +5,16 @@ mod matcher;
 mod unit;
 mod walking;
 
-use keeping::clear;
+use keeping::copy_state;
+use keeping::has_calls;
 use replacing::Fault;
-use walking::walk_all;
-ghost use Prim.Native.Nat.{_+_, _*_, _<_};
+use walking::walk;
+ghost use Prim.Native.Nat.{_+_, _<_};
 ghost use mathlib.Core.Path.{_≡_};
 ghost use lib.ListN.{length};
 ghost use Rattle.tables.specs.Check.{twoAt};
 ghost use Rattle.passing.specs.Contract.{Lent, Passes};
+ghost use Rattle.passing.specs.Places.{SomeSlot, ItemsOf};
 
 // Whether there was an occurrence, and the bytes of the new line; or a refusal, with the bytes that the new line has by then.
 pub enum Passed {
@@ -26,7 +28,22 @@ pub(crate) enum Found {
     NoMatch,
 }
 
-// "A pass of one macro tries places from 0 to the line's length, both included."
+// Whether a pass goes well, or its refusal.
+pub(crate) enum Fate {
+    Well,
+    Bad(Fault),
+}
+
+// A moment of a pass: the place to be tried next, the end of the match just made, the bytes of the new line, whether there was an occurrence, and a refusal.
+pub(crate) struct At {
+    pub(crate) place: usize,
+    pub(crate) last: usize,
+    pub(crate) size: usize,
+    pub(crate) hit: bool,
+    pub(crate) fate: Fate,
+}
+
+// A pass; only a pattern with calls needs the state under which its marks were made.
 pub fn pass(
     slot: &[u8],
     kinds: &[u8; 256],
@@ -38,15 +55,26 @@ pub fn pass(
     requires { ⌜ Lent (now slot) (now kinds) (now line) (now state) (now out) (now marks) ⌝ }
     ensures { λ r. ⌜ Passes (now (slot .entry)) (now (line .entry)) (now (state .entry)) (now (state .exit)) (now (out .entry)) (now (out .exit)) (now (marks .entry)) (now (marks .exit)) r ⌝ }
 {
-    let end = pattern_end(slot);
-    let items = &slot[8..end];
-    let mut ends = [0u16; 1016];
-    let answer = walk_all(slot, items, kinds, line, state, out, marks, &mut ends);
-    clear(marks, 66 * items.len());
-    answer
+    let items = items_of(slot);
+    if has_calls(items) {
+        let mut seen = [0u8; 26236];
+        copy_state(state, &mut seen);
+        return walk(slot, items, kinds, line, state, out, marks, &mut seen);
+    }
+    let mut none = [0u8; 0];
+    walk(slot, items, kinds, line, state, out, marks, &mut none)
 }
 
-// Where the items of a slot's pattern end.
+// The items of a slot's pattern.
+fn items_of(slot: &[u8]) -> &[u8]
+    requires { ⌜ SomeSlot (now slot) ⌝ }
+    ensures { λ r. ⌜ ItemsOf (now (slot .entry)) (now r) ⌝ }
+{
+    let end = pattern_end(slot);
+    &slot[8..end]
+}
+
+// Where they end.
 fn pattern_end(slot: &[u8]) -> usize
     requires { ⌜ 3 < length (now slot) ⌝ }
     ensures { λ r. ⌜ r ≡ 8 + twoAt (now (slot .entry)) 2 ⌝ }

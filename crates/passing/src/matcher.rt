@@ -5,13 +5,19 @@ use crate::failed::set_mark;
 use crate::unit::Lead;
 use crate::unit::Unit;
 use crate::unit::behind;
+use crate::unit::closure_at;
 use crate::unit::copy_at;
-use crate::unit::element_at;
 use crate::unit::lead_at;
 use crate::unit::may_repeat;
+use crate::unit::unit_at;
 use crate::unit::width_of;
-ghost use Rattle.passing.specs.Trying.{Trying, Counting, Repeating, Tried, Most, Copied};
-ghost use Rattle.passing.specs.Finding.{Ready, Differs, Finds};
+ghost use Prim.Native.Nat.{_≤_, _<_};
+ghost use mathlib.Core.Path.{_≡_};
+ghost use lib.ListN.{length};
+ghost use Rattle.macros.specs.Bounds.{mostLineBytes};
+ghost use Rattle.tables.specs.Form.{bodyBytes};
+ghost use Rattle.passing.specs.Trying.{endedIn, Trying, Counting, Repeating, Tried, Most, Copied};
+ghost use Rattle.passing.specs.Finding.{Differs, countedOf};
 
 // How many copies of u, w bytes wide, stand in a row from q on. Places with a mark end the row: there is no division from there.
 fn most_copies(
@@ -41,7 +47,7 @@ fn most_copies(
 }
 
 // The pieces whose items begin at `at`, at place p. On a match `ends` holds the place where each of them ends.
-fn elements(
+pub(crate) fn elements(
     items: &[u8],
     kinds: &[u8; 256],
     state: &[u8],
@@ -57,9 +63,8 @@ fn elements(
     if at == items.len() {
         return Found::Matched(p);
     }
-    let e = element_at(items, at);
-    let u = e.unit;
-    let c = e.closure;
+    let u = unit_at(items, at);
+    let c = closure_at(items, at);
     let w = width_of(state, u);
     let Lead::After(q) = lead_at(items, kinds, state, line, at, u, c, w, p) else {
         return Found::NoMatch;
@@ -72,11 +77,20 @@ fn elements(
         let most = most_copies(items, kinds, state, line, at, u, w, q, marks);
         return closure(items, kinds, state, line, at, next, w, q, most, marks, ends);
     }
-    let Found::Matched(end) = elements(items, kinds, state, line, next, q, marks, ends) else {
-        return Found::NoMatch;
+    let found = elements(items, kinds, state, line, next, q, marks, ends);
+    ended(found, at, q, ends)
+}
+
+// On a match of the pieces behind it, the piece at `at` ends at q.
+fn ended(found: Found, at: usize, q: usize, ends: &mut [u16]) -> Found
+    requires { ⌜ (at < length (now ends)) × (length (now ends) ≡ bodyBytes) × (q ≤ mostLineBytes) ⌝ }
+    ensures { λ r. ⌜ (r ≡ found) × (now (ends .exit) ≡ endedIn found at q (now (ends .entry))) ⌝ }
+{
+    let Found::Matched(_) = found else {
+        return found;
     };
     ends[at] = q as u16;
-    Found::Matched(end)
+    found
 }
 
 // The element at `at`, with up to `most` copies from q on, each w bytes wide: the pieces behind it, with no copy given back, then one, and so on.
@@ -113,7 +127,7 @@ fn closure(
 }
 
 // Whether the pattern begins with a literal that must stand at p and does not: most places are decided so.
-fn differs(items: &[u8], line: &[u8], p: usize) -> bool
+pub(crate) fn differs(items: &[u8], line: &[u8], p: usize) -> bool
     ensures { λ r. ⌜ Differs (now (items .entry)) (now (line .entry)) p r ⌝ }
 {
     if items.len() < 2 {
@@ -131,26 +145,12 @@ fn differs(items: &[u8], line: &[u8], p: usize) -> bool
     items[1] != line[p]
 }
 
-// "A match, the division chosen there"; "An empty match at the end of the match just made in the same pass does not count."
-pub(crate) fn find(
-    items: &[u8],
-    kinds: &[u8; 256],
-    state: &[u8],
-    line: &[u8],
-    last: usize,
-    p: usize,
-    marks: &mut [u8],
-    ends: &mut [u16],
-) -> Found
-    requires { ⌜ Ready (now items) (now kinds) (now state) (now line) p (now marks) (now ends) ⌝ }
-    ensures { λ r. ⌜ Finds (now (items .entry)) (now (state .entry)) (now (line .entry)) last p (now (marks .entry)) (now (marks .exit)) (now (ends .exit)) r ⌝ }
+// "An empty match at the end of the match just made in the same pass does not count."
+pub(crate) fn counted(found: Found, last: usize, p: usize) -> Found
+    ensures { λ r. ⌜ r ≡ countedOf found last p ⌝ }
 {
-    if differs(items, line, p) {
-        return Found::NoMatch;
-    }
-    let found = elements(items, kinds, state, line, 0, p, marks, ends);
     let Found::Matched(end) = found else {
-        return Found::NoMatch;
+        return found;
     };
     if end != p {
         return found;

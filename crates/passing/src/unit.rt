@@ -12,7 +12,7 @@ ghost use Rattle.tables.specs.Form.{pieceItems, memberItems, membersItems};
 ghost use Rattle.lines.specs.Matching.{byteFits, begins, isMember};
 ghost use Rattle.states.specs.Access.{IsState, OfState};
 ghost use Rattle.passing.specs.Pattern.{OfPiece};
-ghost use Rattle.passing.specs.Pieces.{membersOf, unitAt, closureAt, holds, fitU, ledTo, leadOf, again, Lettered, Stands, IsUnit, IsElement, SomeMembers, OfMembers, FirstMember, OfFirst, OneByte, Copying, Leading, Wide};
+ghost use Rattle.passing.specs.Pieces.{membersOf, closureOf, unitAt, closureAt, holds, fitU, ledTo, leadOf, again, Lettered, Stands, IsUnit, SomeMembers, OfMembers, FirstMember, OfFirst, OneByte, Copying, Leading, Wide};
 
 // What a closure may follow, and what has no closure. The members of a class stand in the items, behind its own.
 pub(crate) enum Unit {
@@ -31,11 +31,6 @@ pub(crate) enum Closure {
     Once,
     OneOrMore,
     ZeroOrMore,
-}
-
-pub(crate) struct Element {
-    pub(crate) unit: Unit,
-    pub(crate) closure: Closure,
 }
 
 // The place behind copies that must stand.
@@ -89,15 +84,20 @@ fn closure_of(code: u8) -> Closure
     Closure::Once
 }
 
-// The element at a place of the items.
-pub(crate) fn element_at(items: &[u8], at: usize) -> Element
+// The unit of the piece at a place of the items.
+pub(crate) fn unit_at(items: &[u8], at: usize) -> Unit
     requires { ⌜ Stands (now items) at ⌝ }
-    ensures { λ r. ⌜ IsElement (now (items .entry)) at r ⌝ }
+    ensures { λ r. ⌜ IsUnit (now (items .entry)) at r ⌝ }
 {
-    let code = items[at];
-    let unit = unit_of(code, items[at + 1]);
-    let closure = closure_of(code);
-    Element { unit, closure }
+    unit_of(items[at], items[at + 1])
+}
+
+// Its closure.
+pub(crate) fn closure_at(items: &[u8], at: usize) -> Closure
+    requires { ⌜ Stands (now items) at ⌝ }
+    ensures { λ r. ⌜ OfPiece (now (items .entry)) at (λ e. closureOf e ≡ r) ⌝ }
+{
+    closure_of(items[at])
 }
 
 fn in_range(a: u8, z: u8, b: u8) -> bool
@@ -166,13 +166,7 @@ pub(crate) fn behind(items: &[u8], at: usize, u: Unit) -> usize
     match u {
         Unit::Class => members_end(items, at + 2),
         Unit::ClassNot => members_end(items, at + 2),
-        Unit::Literal(_) => at + 2,
-        Unit::Kind(_) => at + 2,
-        Unit::StackCall(_) => at + 2,
-        Unit::CounterCall(_) => at + 2,
-        Unit::Start => at + 2,
-        Unit::End => at + 2,
-        Unit::Brace => at + 2,
+        _ => at + 2,
     }
 }
 
@@ -186,11 +180,7 @@ fn is_copy(items: &[u8], kinds: &[u8; 256], at: usize, u: Unit, b: u8) -> bool
         Unit::Kind(n) => is_kind(kinds, b, n),
         Unit::Class => is_member(items, at + 2, b),
         Unit::ClassNot => !is_member(items, at + 2, b),
-        Unit::StackCall(_) => false,
-        Unit::CounterCall(_) => false,
-        Unit::Start => false,
-        Unit::End => false,
-        Unit::Brace => false,
+        _ => false,
     }
 }
 
@@ -288,15 +278,12 @@ pub(crate) fn copy_at(
     ensures { λ r. ⌜ OfPiece (now (items .entry)) at (λ e. OfState (now (state .entry)) (λ st. r ≡ fitU st u (membersOf e) p (drop p (now (line .entry))))) ⌝ }
 {
     match u {
-        Unit::Literal(_) => one_at(items, kinds, line, at, u, p),
-        Unit::Kind(_) => one_at(items, kinds, line, at, u, p),
-        Unit::Class => one_at(items, kinds, line, at, u, p),
-        Unit::ClassNot => one_at(items, kinds, line, at, u, p),
         Unit::StackCall(i) => text_at(entry(state, i), line, p),
         Unit::CounterCall(i) => has_number(value(state, i), line, p),
         Unit::Start => p == 0,
         Unit::End => p == line.len(),
         Unit::Brace => true,
+        _ => one_at(items, kinds, line, at, u, p),
     }
 }
 
@@ -308,13 +295,10 @@ pub(crate) fn width_of(state: &[u8], u: Unit) -> usize
     match u {
         Unit::StackCall(i) => entry(state, i).len(),
         Unit::CounterCall(i) => number_width(value(state, i)),
-        Unit::Literal(_) => 1,
-        Unit::Kind(_) => 1,
-        Unit::Class => 1,
-        Unit::ClassNot => 1,
         Unit::Start => 0,
         Unit::End => 0,
         Unit::Brace => 0,
+        _ => 1,
     }
 }
 

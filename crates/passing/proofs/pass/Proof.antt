@@ -1,62 +1,78 @@
 use Prim.Native.Nat.{ℕ}
+use mathlib.Core.Path.{sym, _∙_}
 use native.Mathlib.Omega.{arith}
 use lib.ListN.{length-replicate}
-use Rattle.passing.proofs.SlotLaws.{slot-long, items-few, items-are, items-length}
-use Rattle.passing.specs.Contract.{marksBytes}
-use Rattle.passing.proofs.GoingLaws.{zero-inside, zero-rows, zero-sound, pass-done}
+use Rattle.states.proofs.Held.{is-long}
+use Rattle.passing.proofs.CallLaws.{pattern-letters, seen-none, seen-self}
 use borrow.Author.Needs.{needs}
 use Rattle.passing.proofs.pass.Statement.{statement}
 use Rattle.passing.proofs.pass.Tie as tie
 
-pattern-end-requires : tie.Need-pattern-end-requires
-pattern-end-requires c κs = omega (arith, slot-long _ (c .before .before .before .before .before .pre .macro .0) (c .before .before .before .before .before .pre .macro .1))
+items-of-requires : tie.Need-items-of-requires
+items-of-requires c κs = search needs
 
-sub-items : tie.Need-sub-items
-sub-items c = search needs
+has-calls-requires : tie.Need-has-calls-requires
+has-calls-requires c κs = let y = c .before .before .before .before .before .before .pre in let i = c .items-of .ensures in (pattern-letters _ (y .macro .0 .pattern) (i .pattern (y .macro .0) (y .macro .1)), i .fits)
 
-part-items-start : tie.Need-part-items-start
-part-items-start c = search needs
+slice-aggregate-copy-state : tie.Need-slice-aggregate-copy-state
+slice-aggregate-copy-state c = search needs
 
-part-items-end : tie.Need-part-items-end
-part-items-end c = omega (arith, slot-long _ (c .before .before .before .before .before .before .pre .macro .0) (c .before .before .before .before .before .before .pre .macro .1), items-few _ (c .before .before .before .before .before .before .pre .macro .0) (c .before .before .before .before .before .before .pre .macro .1), c .pattern-end .ensures)
+copy-state-requires : tie.Need-copy-state-requires
+copy-state-requires c κs = is-long _ (c .before .before .before .before .before .before .before .before .before .before .pre .state) ∙ sym (length-replicate {A = ℕ} 26236 0)
 
-slice-aggregate-walk-all : tie.Need-slice-aggregate-walk-all
-slice-aggregate-walk-all c = search needs
+slice-aggregate-walk : tie.Need-slice-aggregate-walk
+slice-aggregate-walk c = search needs
 
-walk-all-requires : tie.Need-walk-all-requires
-walk-all-requires c κs = record { macro = c .before .before .before .before .before .before .before .before .before .before .before .pre .macro; pattern = λ m i. items-are _ m i _ (c .before .before .before .before .before .pattern-end .ensures); fits = omega (arith, items-length _ (c .before .before .before .before .before .before .before .before .before .before .before .pre .macro .0) (c .before .before .before .before .before .before .before .before .before .before .before .pre .macro .1) _ (c .before .before .before .before .before .pattern-end .ensures), items-few _ (c .before .before .before .before .before .before .before .before .before .before .before .pre .macro .0) (c .before .before .before .before .before .before .before .before .before .before .before .pre .macro .1), c .before .before .before .before .before .pattern-end .ensures); table = c .before .before .before .before .before .before .before .before .before .before .before .pre .table; bytes = c .before .before .before .before .before .before .before .before .before .before .before .pre .bytes; short = c .before .before .before .before .before .before .before .before .before .before .before .pre .short; state = c .before .before .before .before .before .before .before .before .before .before .before .pre .state; room = c .before .before .before .before .before .before .before .before .before .before .before .pre .room; rows = zero-rows _ marksBytes (c .before .before .before .before .before .before .before .before .before .before .before .pre .clear); sound = zero-sound _ _ _ _ marksBytes (c .before .before .before .before .before .before .before .before .before .before .before .pre .clear); count = length-replicate {A = ℕ} 1016 0; inside = zero-inside 1016 _ }
-
-mul-clear : tie.Need-mul-clear
-mul-clear c = omega (arith, items-length _ (c .before .before .before .before .before .before .before .before .before .before .before .before .before .before .before .before .before .before .before .before .pre .macro .0) (c .before .before .before .before .before .before .before .before .before .before .before .before .before .before .before .before .before .before .before .before .pre .macro .1) _ (c .before .before .before .before .before .before .before .before .before .before .before .before .before .before .pattern-end .ensures), items-few _ (c .before .before .before .before .before .before .before .before .before .before .before .before .before .before .before .before .before .before .before .before .pre .macro .0) (c .before .before .before .before .before .before .before .before .before .before .before .before .before .before .before .before .before .before .before .before .pre .macro .1), c .before .before .before .before .before .before .before .before .before .before .before .before .before .before .pattern-end .ensures)
-
-clear-requires : tie.Need-clear-requires
-clear-requires c κs = omega (arith, items-length _ (c .before .before .before .before .before .before .before .before .before .before .before .before .before .before .before .before .before .before .before .before .pre .macro .0) (c .before .before .before .before .before .before .before .before .before .before .before .before .before .before .before .before .before .before .before .before .pre .macro .1) _ (c .before .before .before .before .before .before .before .before .before .before .before .before .before .before .pattern-end .ensures), items-few _ (c .before .before .before .before .before .before .before .before .before .before .before .before .before .before .before .before .before .before .before .before .pre .macro .0) (c .before .before .before .before .before .before .before .before .before .before .before .before .before .before .before .before .before .before .before .before .pre .macro .1), c .before .before .before .before .before .before .before .before .before .before .before .before .before .before .pattern-end .ensures, c .before .before .before .before .before .before .before .before .walk-all .kept .1 .1 .1 .1 .1 .1 .0, zero-rows _ marksBytes (c .before .before .before .before .before .before .before .before .before .before .before .before .before .before .before .before .before .before .before .before .pre .clear))
+walk-requires : tie.Need-walk-requires
+walk-requires c κs = let y = c .before .before .before .before .before .before .before .before .before .before .before .before .before .before .before .before .pre in let i = c .before .before .before .before .before .before .before .before .before .before .items-of .ensures in (y, i, seen-self _ _ _ (y .macro .0 .pattern) (i .pattern (y .macro .0) (y .macro .1)) (y .state) (omega (arith, c .before .before .before .before .before .copy-state .kept .1 .0, length-replicate {A = ℕ} 26236 0)) (c .before .before .before .before .before .copy-state .ensures))
 
 same-length : tie.Need-same-length
-same-length c = search needs
+same-length c = c .before .before .before .before .before .before .before .walk .kept .1 .1 .1 .1 .0
 
 same-length-2 : tie.Need-same-length-2
-same-length-2 c = search needs
+same-length-2 c = c .before .before .before .before .before .before .before .walk .kept .1 .1 .1 .1 .1 .0
 
 same-length-3 : tie.Need-same-length-3
-same-length-3 c = search needs
+same-length-3 c = c .before .before .before .before .before .before .before .walk .kept .1 .1 .1 .1 .1 .1 .0
 
 returns : tie.Need-returns
-returns c = pass-done _ _ _ _ _ _ _ _ _ _ _ (c .before .before .before .before .before .before .before .before .before .before .before .before .before .before .before .before .before .before .before .before .before .before .before .pre .clear) (omega (arith, items-length _ (c .before .before .before .before .before .before .before .before .before .before .before .before .before .before .before .before .before .before .before .before .before .before .before .pre .macro .0) (c .before .before .before .before .before .before .before .before .before .before .before .before .before .before .before .before .before .before .before .before .before .before .before .pre .macro .1) _ (c .before .before .before .before .before .before .before .before .before .before .before .before .before .before .before .before .before .pattern-end .ensures), items-few _ (c .before .before .before .before .before .before .before .before .before .before .before .before .before .before .before .before .before .before .before .before .before .before .before .pre .macro .0) (c .before .before .before .before .before .before .before .before .before .before .before .before .before .before .before .before .before .before .before .before .before .before .before .pre .macro .1), c .before .before .before .before .before .before .before .before .before .before .before .before .before .before .before .before .before .pattern-end .ensures)) (c .before .before .before .before .before .before .before .before .before .before .before .walk-all .ensures) (c .before .before .clear .ensures)
+returns c = c .before .before .before .before .before .before .before .walk .ensures
+
+slice-aggregate-walk-2 : tie.Need-slice-aggregate-walk-2
+slice-aggregate-walk-2 c = search needs
+
+walk-requires-2 : tie.Need-walk-requires-2
+walk-requires-2 c κs = (c .before .before .before .before .before .before .before .before .before .before .before .before .pre, c .before .before .before .before .before .before .items-of .ensures, seen-none _ _ (c .before .before .before .before .before .has-calls .ensures (c .before .before .before .before .if1 .left)))
+
+same-length-4 : tie.Need-same-length-4
+same-length-4 c = c .before .before .before .before .before .before .before .walk2 .kept .1 .1 .1 .1 .0
+
+same-length-5 : tie.Need-same-length-5
+same-length-5 c = c .before .before .before .before .before .before .before .walk2 .kept .1 .1 .1 .1 .1 .0
+
+same-length-6 : tie.Need-same-length-6
+same-length-6 c = c .before .before .before .before .before .before .before .walk2 .kept .1 .1 .1 .1 .1 .1 .0
+
+returns-2 : tie.Need-returns-2
+returns-2 c = c .before .before .before .before .before .before .before .walk2 .ensures
 
 pub pass-spec : {M : Type 1} → statement M
 pass-spec =
     tie.close
     (tie.spec
-    pattern-end-requires
-    sub-items
-    part-items-start
-    part-items-end
-    slice-aggregate-walk-all
-    walk-all-requires
-    mul-clear
-    clear-requires
+    items-of-requires
+    has-calls-requires
+    slice-aggregate-copy-state
+    copy-state-requires
+    slice-aggregate-walk
+    walk-requires
     same-length
     same-length-2
     same-length-3
-    returns)
+    returns
+    slice-aggregate-walk-2
+    walk-requires-2
+    same-length-4
+    same-length-5
+    same-length-6
+    returns-2)

@@ -1,12 +1,32 @@
 -- Assumes nothing.
+use Prim.Native.Nat.{ℕ}
+use mathlib.Core.Path.{_≡_, refl, ap, _∙_}
+use mathlib.Core.Bool.{false, not}
+use mathlib.Core.List.{List, [], _∷_}
+use types.Run.{OneOf, miss}
+use denote.Enum.Declared.{tagOf}
+use Rattle.passing.proofs.unit.Unit.{the-type}
+use Rattle.passing.specs.declared.unit.Unit.{Unit as CodeUnit}
+use Rattle.passing.specs.declared.unit.Unit.the-variants.{Literal, Kind, Class, ClassNot, StackCall, CounterCall, Start, End, Brace}
+use Rattle.macros.specs.Macro.{Member}
+use Rattle.passing.specs.Pieces.{holds}
+use native.Mathlib.Omega.{arith}
+use Rattle.lines.specs.Matching.{inClass}
+use Rattle.passing.proofs.ItemLaws.{hasMembers, unit-inside, class-some, class-members}
 use borrow.Author.Needs.{needs}
 use Rattle.passing.proofs.unit.is_copy.Statement.{statement}
 use Rattle.passing.proofs.unit.is_copy.Tie as tie
-use mathlib.Core.Path.{ap, _∙_}
-use native.Mathlib.Omega.{arith}
-use mathlib.Core.Bool.{not}
-use Rattle.lines.specs.Matching.{inClass}
-use Rattle.passing.proofs.ItemLaws.{hasMembers, unit-inside, class-some, class-members}
+
+none : (u : CodeUnit) → OneOf (4 ∷ 5 ∷ 6 ∷ 7 ∷ 8 ∷ []) (tagOf the-type u) → (ms : List Member) (b : ℕ) → false ≡ holds u ms b
+none (Literal c) h ms b = absurd (miss (4 ∷ 5 ∷ 6 ∷ 7 ∷ 8 ∷ []) 0 tt h)
+none (Kind n) h ms b = absurd (miss (4 ∷ 5 ∷ 6 ∷ 7 ∷ 8 ∷ []) 1 tt h)
+none Class h ms b = absurd (miss (4 ∷ 5 ∷ 6 ∷ 7 ∷ 8 ∷ []) 2 tt h)
+none ClassNot h ms b = absurd (miss (4 ∷ 5 ∷ 6 ∷ 7 ∷ 8 ∷ []) 3 tt h)
+none (StackCall i) h ms b = refl
+none (CounterCall i) h ms b = refl
+none Start h ms b = refl
+none End h ms b = refl
+none Brace h ms b = refl
 
 enum-known-u : tie.Need-enum-known-u
 enum-known-u c = search needs
@@ -35,21 +55,6 @@ add-is-member-2 c = let l = unit-inside _ _ _ (c .before .before .before .pre .u
 is-member-requires-2 : tie.Need-is-member-requires-2
 is-member-requires-2 c κs = class-some _ _ _ (c .before .before .before .pre .unit) (ap hasMembers (c .enum-told2 .given .1))
 
-enum-told-3 : tie.Need-enum-told-3
-enum-told-3 c = search needs
-
-enum-told-4 : tie.Need-enum-told-4
-enum-told-4 c = search needs
-
-enum-told-5 : tie.Need-enum-told-5
-enum-told-5 c = search needs
-
-enum-told-6 : tie.Need-enum-told-6
-enum-told-6 c = search needs
-
-enum-told-7 : tie.Need-enum-told-7
-enum-told-7 c = search needs
-
 returns : tie.Need-returns
 returns c = λ e es r. rw (c .before .u .given .1)
 
@@ -65,19 +70,7 @@ unfolding inClass
 returns-4 c = λ e es r. ap not (c .is-member2 .ensures _ _ (class-members _ _ _ (c .before .before .before .before .pre .unit) (ap hasMembers (c .before .enum-told2 .given .1)) e es r)) ∙ rw (c .before .enum-told2 .given .1)
 
 returns-5 : tie.Need-returns-5
-returns-5 c = λ e es r. rw (c .enum-told3 .given .1)
-
-returns-6 : tie.Need-returns-6
-returns-6 c = λ e es r. rw (c .enum-told4 .given .1)
-
-returns-7 : tie.Need-returns-7
-returns-7 c = λ e es r. rw (c .enum-told5 .given .1)
-
-returns-8 : tie.Need-returns-8
-returns-8 c = λ e es r. rw (c .enum-told6 .given .1)
-
-returns-9 : tie.Need-returns-9
-returns-9 c = λ e es r. rw (c .enum-told7 .given .1)
+returns-5 c = λ e es r. none (c .before .before .args .u) (c .match .keys5) _ _
 
 pub is-copy-spec : {M : Type 1} → statement M
 is-copy-spec =
@@ -92,17 +85,8 @@ is-copy-spec =
     enum-told-2
     add-is-member-2
     is-member-requires-2
-    enum-told-3
-    enum-told-4
-    enum-told-5
-    enum-told-6
-    enum-told-7
     returns
     returns-2
     returns-3
     returns-4
-    returns-5
-    returns-6
-    returns-7
-    returns-8
-    returns-9)
+    returns-5)

@@ -1,11 +1,30 @@
 -- Assumes nothing.
+use mathlib.Core.Path.{_≡_, refl, ap, _∙_}
+use mathlib.Core.List.{[], _∷_}
+use lib.ListN.{length}
+use types.Run.{OneOf, miss}
+use denote.Enum.Declared.{tagOf}
+use Rattle.passing.proofs.unit.Unit.{the-type}
+use Rattle.passing.specs.declared.unit.Unit.{Unit as CodeUnit}
+use Rattle.passing.specs.declared.unit.Unit.the-variants.{Literal, Kind, Class, ClassNot, StackCall, CounterCall, Start, End, Brace}
+use Rattle.lines.specs.State.{State, contents}
+use Rattle.lines.specs.Matching.{width}
+use Rattle.passing.specs.Pieces.{widthU}
 use borrow.Author.Needs.{needs}
 use Rattle.passing.proofs.unit.width_of.Statement.{statement}
 use Rattle.passing.proofs.unit.width_of.Tie as tie
-use mathlib.Core.Path.{ap, _∙_}
-use lib.ListN.{length}
-use Rattle.lines.specs.State.{contents}
-use Rattle.lines.specs.Matching.{width}
+
+one-wide : (u : CodeUnit) → OneOf (0 ∷ 1 ∷ 2 ∷ 3 ∷ []) (tagOf the-type u) → (st : State) → 1 ≡ widthU st u
+unfolding width contents
+one-wide (Literal c) h st = refl
+one-wide (Kind n) h st = refl
+one-wide Class h st = refl
+one-wide ClassNot h st = refl
+one-wide (StackCall i) h st = absurd (miss (0 ∷ 1 ∷ 2 ∷ 3 ∷ []) 4 tt h)
+one-wide (CounterCall i) h st = absurd (miss (0 ∷ 1 ∷ 2 ∷ 3 ∷ []) 5 tt h)
+one-wide Start h st = absurd (miss (0 ∷ 1 ∷ 2 ∷ 3 ∷ []) 6 tt h)
+one-wide End h st = absurd (miss (0 ∷ 1 ∷ 2 ∷ 3 ∷ []) 7 tt h)
+one-wide Brace h st = absurd (miss (0 ∷ 1 ∷ 2 ∷ 3 ∷ []) 8 tt h)
 
 enum-known-u : tie.Need-enum-known-u
 enum-known-u c = search needs
@@ -31,18 +50,6 @@ enum-told-2 c = search needs
 enum-told-3 : tie.Need-enum-told-3
 enum-told-3 c = search needs
 
-enum-told-4 : tie.Need-enum-told-4
-enum-told-4 c = search needs
-
-enum-told-5 : tie.Need-enum-told-5
-enum-told-5 c = search needs
-
-enum-told-6 : tie.Need-enum-told-6
-enum-told-6 c = search needs
-
-enum-told-7 : tie.Need-enum-told-7
-enum-told-7 c = search needs
-
 returns : tie.Need-returns
 unfolding width contents
 returns c = λ st h. ap length (c .entry .ensures st h) ∙ rw (c .before .before .u .given .1)
@@ -52,27 +59,16 @@ unfolding width contents
 returns-2 c = λ st h. c .number-width .ensures ∙ rw (c .before .value .ensures st h, c .before .before .before .u2 .given .1)
 
 returns-3 : tie.Need-returns-3
-unfolding width contents
 returns-3 c = λ st h. rw (c .enum-told .given .1)
 
 returns-4 : tie.Need-returns-4
-unfolding width contents
 returns-4 c = λ st h. rw (c .enum-told2 .given .1)
 
 returns-5 : tie.Need-returns-5
 returns-5 c = λ st h. rw (c .enum-told3 .given .1)
 
 returns-6 : tie.Need-returns-6
-returns-6 c = λ st h. rw (c .enum-told4 .given .1)
-
-returns-7 : tie.Need-returns-7
-returns-7 c = λ st h. rw (c .enum-told5 .given .1)
-
-returns-8 : tie.Need-returns-8
-returns-8 c = λ st h. rw (c .enum-told6 .given .1)
-
-returns-9 : tie.Need-returns-9
-returns-9 c = λ st h. rw (c .enum-told7 .given .1)
+returns-6 c = λ st h. one-wide (c .before .before .args .u) (c .match .keys6) st
 
 pub width-of-spec : {M : Type 1} → statement M
 width-of-spec =
@@ -86,16 +82,9 @@ width-of-spec =
     enum-told
     enum-told-2
     enum-told-3
-    enum-told-4
-    enum-told-5
-    enum-told-6
-    enum-told-7
     returns
     returns-2
     returns-3
     returns-4
     returns-5
-    returns-6
-    returns-7
-    returns-8
-    returns-9)
+    returns-6)

@@ -1,12 +1,20 @@
+use mathlib.Core.Path.{refl}
 use native.Mathlib.Omega.{arith}
-use denote.Ref.{now}
-use Rattle.passing.proofs.PlaceLaws.{copy-full, copy-next}
 use borrow.Author.Needs.{needs}
 use Rattle.passing.proofs.walking.copy_byte.Statement.{statement}
 use Rattle.passing.proofs.walking.copy_byte.Tie as tie
 
+moved-requires : tie.Need-moved-requires
+moved-requires c κs = search needs
+
 returns : tie.Need-returns
-returns c = copy-full (now (c .before .args .line)) (now (c .before .args .out)) (c .before .args .at .place) (c .before .args .at .size) (c .before .args .at .last) (c .before .args .at .hit) (c .if1 .taken) (c .before .pre .3)
+returns c = record { none = λ l. (c .moved .ensures, refl); full = λ l k. absurd (omega arith); copied = λ l k. absurd (omega arith) }
+
+refused-requires : tie.Need-refused-requires
+refused-requires c κs = search needs
+
+returns-2 : tie.Need-returns-2
+returns-2 c = record { none = λ l. absurd (omega arith); full = λ l k. (c .refused .ensures, refl); copied = λ l k. absurd (omega arith) }
 
 shared-slice-read-out : tie.Need-shared-slice-read-out
 shared-slice-read-out c = search needs
@@ -14,19 +22,29 @@ shared-slice-read-out c = search needs
 slice-write-out : tie.Need-slice-write-out
 slice-write-out c = search needs
 
-add-t11 : tie.Need-add-t11
-add-t11 c = search needs
+add-moved : tie.Need-add-moved
+add-moved c = search needs
 
-add-t12 : tie.Need-add-t12
-add-t12 c = search needs
+moved-requires-2 : tie.Need-moved-requires-2
+moved-requires-2 c κs = search needs
 
 same-length : tie.Need-same-length
 same-length c = search needs
 
-returns-2 : tie.Need-returns-2
-returns-2 c = copy-next (now (c .before .before .args .line)) (now (c .before .before .args .out)) (c .before .before .args .at .place) (c .before .before .args .at .size) (c .before .before .args .at .last) (c .before .before .args .at .hit) (omega arith) (c .before .before .pre .2)
+returns-3 : tie.Need-returns-3
+returns-3 c = record { none = λ l. absurd (omega arith); full = λ l k. absurd (omega arith); copied = λ l k. (c .moved2 .ensures, refl) }
 
 pub copy-byte-spec : {M : Type 1} → statement M
 copy-byte-spec =
     tie.close
-    (tie.spec returns shared-slice-read-out slice-write-out add-t11 add-t12 same-length returns-2)
+    (tie.spec
+    moved-requires
+    returns
+    refused-requires
+    returns-2
+    shared-slice-read-out
+    slice-write-out
+    add-moved
+    moved-requires-2
+    same-length
+    returns-3)
