@@ -23,8 +23,9 @@ use Rattle.replacing.specs.Contract.{EndsFrom}
 use Rattle.passing.specs.Contract.{marksBytes}
 use Rattle.passing.specs.Pattern.{IsRest, OfPiece}
 use Rattle.passing.specs.Marks.{mark}
-use Rattle.passing.specs.Pieces.{membersOf, codeClosure, fitU, widthU, leadOf, again, Stands, Element, IsUnit, IsElement, Wide}
+use Rattle.passing.specs.Pieces.{membersOf, codeClosure, fitU, widthU, leadOf, again, Stands, IsUnit, IsElement, Wide}
 use Rattle.passing.specs.Trying.{answer, after, thenP, foundOf, endedIn, Said, Given, Noted, Trying, Kept, Tried, Copied}
+use Rattle.passing.specs.declared.unit.Element.{Element}
 use Rattle.passing.specs.declared.unit.Unit.{Unit as CodeUnit}
 use Rattle.passing.specs.declared.unit.Closure.{Closure as CodeClosure}
 use Rattle.passing.specs.declared.unit.Closure.the-variants.{Once, OneOrMore, ZeroOrMore}

@@ -17,6 +17,7 @@ use Rattle.lines.specs.State.{State}
 use Rattle.lines.specs.Matching.{inClass, fits, width, isEnd}
 use Rattle.states.specs.Access.{IsState, OfState}
 use Rattle.passing.specs.Pattern.{IsRest, OfPiece}
+use Rattle.passing.specs.declared.unit.Element.{Element}
 use Rattle.passing.specs.declared.unit.Unit.{Unit as CodeUnit}
 use Rattle.passing.specs.declared.unit.Unit.the-variants.{Literal, Kind, Class, ClassNot, StackCall, CounterCall, Start, End, Brace}
 use Rattle.passing.specs.declared.unit.Closure.{Closure as CodeClosure}
@@ -150,11 +151,6 @@ pub record IsUnit (items : List ℕ) (at : ℕ) (u : CodeUnit) : Type 0 where
   pub stands : Stands items at
   pub unit : OfPiece items at (λ e. codeUnit e ≡ u)
   pub letter : Lettered u
-
--- a unit with a closure
-pub record Element : Type 0 where
-  pub unit : CodeUnit
-  pub closure : CodeClosure
 
 pub record IsElement (items : List ℕ) (at : ℕ) (x : Element) : Type 0 where
   pub unit : IsUnit items at (x .unit)

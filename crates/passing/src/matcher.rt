@@ -5,11 +5,10 @@ use crate::failed::set_mark;
 use crate::unit::Lead;
 use crate::unit::Unit;
 use crate::unit::behind;
-use crate::unit::closure_at;
 use crate::unit::copy_at;
+use crate::unit::element_at;
 use crate::unit::lead_at;
 use crate::unit::may_repeat;
-use crate::unit::unit_at;
 use crate::unit::width_of;
 ghost use Prim.Native.Nat.{_≤_, _<_};
 ghost use mathlib.Core.Path.{_≡_};
@@ -63,8 +62,9 @@ pub(crate) fn elements(
     if at == items.len() {
         return Found::Matched(p);
     }
-    let u = unit_at(items, at);
-    let c = closure_at(items, at);
+    let e = element_at(items, at);
+    let u = e.unit;
+    let c = e.closure;
     let w = width_of(state, u);
     let Lead::After(q) = lead_at(items, kinds, state, line, at, u, c, w, p) else {
         return Found::NoMatch;

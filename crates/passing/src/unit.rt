@@ -12,7 +12,7 @@ ghost use Rattle.tables.specs.Form.{pieceItems, memberItems, membersItems};
 ghost use Rattle.lines.specs.Matching.{byteFits, begins, isMember};
 ghost use Rattle.states.specs.Access.{IsState, OfState};
 ghost use Rattle.passing.specs.Pattern.{OfPiece};
-ghost use Rattle.passing.specs.Pieces.{membersOf, closureOf, unitAt, closureAt, holds, fitU, ledTo, leadOf, again, Lettered, Stands, IsUnit, SomeMembers, OfMembers, FirstMember, OfFirst, OneByte, Copying, Leading, Wide};
+ghost use Rattle.passing.specs.Pieces.{membersOf, closureOf, unitAt, closureAt, holds, fitU, ledTo, leadOf, again, Lettered, Stands, IsUnit, IsElement, SomeMembers, OfMembers, FirstMember, OfFirst, OneByte, Copying, Leading, Wide};
 
 // What a closure may follow, and what has no closure. The members of a class stand in the items, behind its own.
 pub(crate) enum Unit {
@@ -31,6 +31,11 @@ pub(crate) enum Closure {
     Once,
     OneOrMore,
     ZeroOrMore,
+}
+
+pub(crate) struct Element {
+    pub(crate) unit: Unit,
+    pub(crate) closure: Closure,
 }
 
 // The place behind copies that must stand.
@@ -85,7 +90,7 @@ fn closure_of(code: u8) -> Closure
 }
 
 // The unit of the piece at a place of the items.
-pub(crate) fn unit_at(items: &[u8], at: usize) -> Unit
+fn unit_at(items: &[u8], at: usize) -> Unit
     requires { ⌜ Stands (now items) at ⌝ }
     ensures { λ r. ⌜ IsUnit (now (items .entry)) at r ⌝ }
 {
@@ -93,11 +98,21 @@ pub(crate) fn unit_at(items: &[u8], at: usize) -> Unit
 }
 
 // Its closure.
-pub(crate) fn closure_at(items: &[u8], at: usize) -> Closure
+fn closure_at(items: &[u8], at: usize) -> Closure
     requires { ⌜ Stands (now items) at ⌝ }
     ensures { λ r. ⌜ OfPiece (now (items .entry)) at (λ e. closureOf e ≡ r) ⌝ }
 {
     closure_of(items[at])
+}
+
+// The element at a place of the items.
+pub(crate) fn element_at(items: &[u8], at: usize) -> Element
+    requires { ⌜ Stands (now items) at ⌝ }
+    ensures { λ r. ⌜ IsElement (now (items .entry)) at r ⌝ }
+{
+    let unit = unit_at(items, at);
+    let closure = closure_at(items, at);
+    Element { unit, closure }
 }
 
 fn in_range(a: u8, z: u8, b: u8) -> bool
