@@ -1,68 +1,43 @@
 // Bytes as lower case hex, `-` for none.
 use streams::output::put_text;
-ghost use mathlib.Core.Path.{_≡_};
-ghost use Prim.Native.Nat.{_+_, _*_, _≤_};
+ghost use Prim.Native.Nat.{_≤_, _<_};
 ghost use lib.ListN.{length};
 
-// The bytes decoded, if the text is hex.
+// Whether a text is hex, and how many bytes were decoded of it.
 pub(crate) struct Decoded {
     pub good: bool,
     pub size: usize,
 }
 
-// Decodes a text, into a memory with room for its bytes.
-pub(crate) fn decode(text: &[u8], to: &mut [u8]) -> Decoded
-    ensures { λ r. ⌜ r .size ≤ length (now (to .entry)) ⌝ }
+// Decodes a text in place, to the front of its memory: no byte is written over before it is read.
+pub(crate) fn decode(text: &mut [u8], from: usize, end: usize) -> Decoded
+    requires { ⌜ (from ≤ end) × (0 < end) × (end ≤ length (now text)) ⌝ }
+    ensures { λ r. ⌜ r .size ≤ length (now (text .entry)) ⌝ }
 {
-    if text.len() == 1 {
-        return Decoded {
-            good: text[0] == b'-',
-            size: 0,
-        };
-    }
-    let size = text.len() / 2;
-    if size < 1 {
-        return Decoded {
-            good: false,
-            size: 0,
-        };
-    }
-    if to.len() < size {
-        return Decoded {
-            good: false,
-            size: 0,
-        };
-    }
-    if text.len() != size * 2 {
-        return Decoded {
-            good: false,
-            size: 0,
-        };
+    let last = text[end - 1];
+    let mut digits = true;
+    let mut at = from;
+    let mut size = 0;
+    while 1 < end - at {
+        let high = value(text[at]);
+        let low = value(text[at + 1]);
+        digits = digits & (high < 16) & (low < 16);
+        text[size] = joined(high, low);
+        size += 1;
+        at += 2;
     }
     Decoded {
-        good: decode_pairs(text, to, size),
+        good: is_hex(end - from, digits, last),
         size,
     }
 }
 
-// Decodes two digits for each byte; false if one is none.
-fn decode_pairs(text: &[u8], to: &mut [u8], size: usize) -> bool
-    requires { ⌜ (length (now text) ≡ size * 2) × (size ≤ length (now to)) ⌝ }
-{
-    let mut i = 0;
-    while i < size {
-        let high = value(text[i * 2]);
-        let low = value(text[i * 2 + 1]);
-        if 15 < high {
-            return false;
-        }
-        if 15 < low {
-            return false;
-        }
-        to[i] = high * 16 + low;
-        i += 1;
+// Two digits for each byte, or `-`.
+fn is_hex(size: usize, digits: bool, last: u8) -> bool {
+    if size == 1 {
+        return last == b'-';
     }
-    true
+    digits & (0 < size) & (size % 2 == 0)
 }
 
 // A digit's value; 16 for a byte that is none.
@@ -74,9 +49,14 @@ fn value(b: u8) -> u8 {
     }
 }
 
+// The byte of two digits.
+fn joined(high: u8, low: u8) -> u8 {
+    (high << 4) | low
+}
+
 // Appends the first bytes as hex.
 pub(crate) fn put_hex(out: &mut [u8], used: usize, bytes: &[u8], size: usize) -> usize
-    requires { ⌜ used ≤ length (now out) ⌝ }
+    requires { ⌜ (used ≤ length (now out)) × (size ≤ length (now bytes)) ⌝ }
     ensures { λ r. ⌜ r ≤ length (now (out .entry)) ⌝ }
 {
     if size < 1 {
@@ -84,7 +64,7 @@ pub(crate) fn put_hex(out: &mut [u8], used: usize, bytes: &[u8], size: usize) ->
     }
     let mut at = used;
     let mut i = 0;
-    while i < bytes.len() && i < size {
+    while i < size {
         at = put_pair(out, at, bytes[i]);
         i += 1;
     }

@@ -1,30 +1,37 @@
 use Prim.Native.Nat.{_≤_}
-use mathlib.Core.Path.{_≡_, refl}
+use mathlib.Core.Path.{_≡_}
 use native.Mathlib.Omega.{arith}
-use borrow.Author.Needs.{needs}
 use lib.ListN.{length}
+use borrow.Author.Needs.{needs}
 use Rattle.serving.proofs.each_command.Statement.{statement}
 use Rattle.serving.proofs.each_command.Tie as tie
 
 abbrev Inv-loop : tie.InvT-loop
-Inv-loop table₀ state₀ block₀ command₀ out₀ at₀ turns₀ more₀ table state block command out at turns more =
-    ((at .reading .size ≤ length block₀) × (at .used ≤ length out₀)) × (length block ≡ length block₀) × (length command ≡ length command₀) × (length out ≡ length out₀) × (length table ≡ length table₀) × (length state ≡ length state₀)
+Inv-loop table₀ state₀ block₀ command₀ reading₀ turns₀ table state block command reading turns = (reading .size ≤ 65536) × (reading .held ≤ length command₀) × (length command ≡ length command₀)
 
 abbrev μ-loop : tie.MeasureT-loop
-μ-loop table₀ state₀ block₀ command₀ out₀ at₀ turns₀ more₀ table state block command out at turns more =
-    turns
+μ-loop table₀ state₀ block₀ command₀ reading₀ turns₀ table state block command reading turns = turns
 
 start-requires : tie.Need-start-requires Inv-loop μ-loop
 start-requires c κs = search needs
 
+next-line-requires : tie.Need-next-line-requires Inv-loop μ-loop
+next-line-requires c κs = rw (c .start .ensures) (omega arith)
+
+left-requires : tie.Need-left-requires Inv-loop μ-loop
+left-requires c κs = search needs
+
 loop-holds : tie.Need-loop-holds Inv-loop μ-loop
-loop-holds c = ((rw (c .start .ensures) (omega arith), omega arith), refl, refl, refl, refl, refl)
+loop-holds c = search needs
 
-one-command-requires : tie.Need-one-command-requires Inv-loop μ-loop
-one-command-requires c κs = search needs
+obey-requires : tie.Need-obey-requires Inv-loop μ-loop
+obey-requires c κs = search needs
 
-sub-turns : tie.Need-sub-turns Inv-loop μ-loop
-sub-turns c = search needs
+next-line-requires-2 : tie.Need-next-line-requires-2 Inv-loop μ-loop
+next-line-requires-2 c κs = search needs
+
+left-requires-2 : tie.Need-left-requires-2 Inv-loop μ-loop
+left-requires-2 c κs = search needs
 
 loop-less : tie.Need-loop-less Inv-loop μ-loop
 loop-less c = search needs
@@ -32,23 +39,8 @@ loop-less c = search needs
 loop-again : tie.Need-loop-again Inv-loop μ-loop
 loop-again c = search needs
 
-flush-requires : tie.Need-flush-requires Inv-loop μ-loop
-flush-requires c κs = search needs
-
 same-length : tie.Need-same-length Inv-loop μ-loop
 same-length c = search needs
-
-same-length-2 : tie.Need-same-length-2 Inv-loop μ-loop
-same-length-2 c = search needs
-
-same-length-3 : tie.Need-same-length-3 Inv-loop μ-loop
-same-length-3 c = search needs
-
-same-length-4 : tie.Need-same-length-4 Inv-loop μ-loop
-same-length-4 c = search needs
-
-same-length-5 : tie.Need-same-length-5 Inv-loop μ-loop
-same-length-5 c = search needs
 
 returns : tie.Need-returns Inv-loop μ-loop
 returns c = search needs
@@ -60,15 +52,13 @@ each-command-spec =
     Inv-loop
     μ-loop
     start-requires
+    next-line-requires
+    left-requires
     loop-holds
-    one-command-requires
-    sub-turns
+    obey-requires
+    next-line-requires-2
+    left-requires-2
     loop-less
     loop-again
-    flush-requires
     same-length
-    same-length-2
-    same-length-3
-    same-length-4
-    same-length-5
     returns)

@@ -1,7 +1,7 @@
 use Prim.Native.Nat.{_-_, _≤_}
 use mathlib.Core.Path.{_≡_}
-use borrow.Author.Needs.{needs}
 use lib.ListN.{length}
+use borrow.Author.Needs.{needs}
 use Rattle.serving.proofs.hex.put_hex.Statement.{statement}
 use Rattle.serving.proofs.hex.put_hex.Tie as tie
 
@@ -9,7 +9,7 @@ abbrev Inv-loop : tie.InvT-loop
 Inv-loop out₀ used bytes size at₀ i₀ out at i = (at ≤ length out₀) × (length out ≡ length out₀)
 
 abbrev μ-loop : tie.MeasureT-loop
-μ-loop out₀ used bytes size at₀ i₀ out at i = length bytes - i
+μ-loop out₀ used bytes size at₀ i₀ out at i = size - i
 
 slice-aggregate-put-text : tie.Need-slice-aggregate-put-text Inv-loop μ-loop
 slice-aggregate-put-text c = search needs
@@ -47,12 +47,6 @@ same-length-2 c = search needs
 returns-2 : tie.Need-returns-2 Inv-loop μ-loop
 returns-2 c = search needs
 
-same-length-3 : tie.Need-same-length-3 Inv-loop μ-loop
-same-length-3 c = search needs
-
-returns-3 : tie.Need-returns-3 Inv-loop μ-loop
-returns-3 c = search needs
-
 pub put-hex-spec : {M : Type 1} → statement M
 put-hex-spec =
     tie.close
@@ -70,6 +64,4 @@ put-hex-spec =
     loop-less
     loop-again
     same-length-2
-    returns-2
-    same-length-3
-    returns-3)
+    returns-2)
