@@ -46,18 +46,17 @@ pub(crate) fn refusal_said(number: u32, line: u64, said: &mut [u8]) -> usize
     ensures { λ r. ⌜ (r ≤ 1100) × RefusalSaid number line (take r (now (said .exit))) ⌝ }
 {
     let a = append(said, 0, b"! ");
-    let b = number_said(said, a, number as u64);
-    let c = append(said, b, b" ");
-    let d = number_said(said, c, line);
-    append(said, d, b"\n")
+    let b = number_said(said, a, number as u64, b' ');
+    number_said(said, b, line, b'\n')
 }
 
-// Appends a number in digits.
-fn number_said(said: &mut [u8], used: usize, n: u64) -> usize
-    requires { ⌜ used + 20 ≤ length (now said) ⌝ }
-    ensures { λ r. ⌜ Numbered (now (said .entry)) (now (said .exit)) used n r ⌝ }
+// Appends a number in digits and a byte.
+fn number_said(said: &mut [u8], used: usize, n: u64, then: u8) -> usize
+    requires { ⌜ used + 21 ≤ length (now said) ⌝ }
+    ensures { λ r. ⌜ Numbered (now (said .entry)) (now (said .exit)) used n then r ⌝ }
 {
     let mut digits = [0u8; 20];
     let k = io::decimal(n, &mut digits);
-    append(said, used, &digits[..k])
+    let a = append(said, used, &digits[..k]);
+    append(said, a, &[then])
 }

@@ -11,7 +11,7 @@ ghost use lib.ListN.{length};
 
 // Writes the answer to a command: `read` gives `ok` and the number of macros, `feed` `NUMBER PLACE PASSES KIND HEXTEXT`, `fresh` `ok`,
 // `write` `ok HEXFILE`; a refusal `no NUMBER PLACE`.
-pub(crate) fn write_reply(out: &mut [u8; 65536], text: &[u8; 32768], which: u8, answer: Answer) {
+pub(crate) fn write_reply(out: &mut [u8; 4096], text: &[u8; 32768], which: u8, answer: Answer) {
     let form = form_of(which, answer.number);
     let a = put_head(out, form, answer);
     let b = put_tail(out, a, text, form, answer.length);
@@ -31,8 +31,8 @@ fn form_of(which: u8, number: u32) -> u8 {
 }
 
 // What stands before the hex.
-fn put_head(out: &mut [u8; 65536], form: u8, answer: Answer) -> usize
-    ensures { λ r. ⌜ r ≤ 65536 ⌝ }
+fn put_head(out: &mut [u8; 4096], form: u8, answer: Answer) -> usize
+    ensures { λ r. ⌜ r ≤ 4096 ⌝ }
 {
     match form {
         1 => put_count(out, answer.length),
@@ -46,9 +46,9 @@ fn put_head(out: &mut [u8; 65536], form: u8, answer: Answer) -> usize
 }
 
 // The hex of a line or a file.
-fn put_tail(out: &mut [u8; 65536], used: usize, text: &[u8; 32768], form: u8, size: u32) -> usize
-    requires { ⌜ used ≤ 65536 ⌝ }
-    ensures { λ r. ⌜ r ≤ 65536 ⌝ }
+fn put_tail(out: &mut [u8; 4096], used: usize, text: &[u8; 32768], form: u8, size: u32) -> usize
+    requires { ⌜ used ≤ 4096 ⌝ }
+    ensures { λ r. ⌜ r ≤ 4096 ⌝ }
 {
     if form == 2 || form == 4 {
         return put_hex(out, used, text, least(size as usize, 32768));
@@ -67,16 +67,16 @@ fn least(a: usize, b: usize) -> usize
 }
 
 // `ok NUMBER`.
-fn put_count(out: &mut [u8; 65536], n: u32) -> usize
-    ensures { λ r. ⌜ r ≤ 65536 ⌝ }
+fn put_count(out: &mut [u8; 4096], n: u32) -> usize
+    ensures { λ r. ⌜ r ≤ 4096 ⌝ }
 {
     let a = put_text(out, 0, b"ok ");
     put_number(out, a, n)
 }
 
 // `no NUMBER PLACE` for each refusal of the host.
-fn put_lends(out: &mut [u8; 65536]) -> usize
-    ensures { λ r. ⌜ r ≤ 65536 ⌝ }
+fn put_lends(out: &mut [u8; 4096]) -> usize
+    ensures { λ r. ⌜ r ≤ 4096 ⌝ }
 {
     let a = put_refusal(out, 0, other_size());
     let b = put_text(out, a, b"\n");
@@ -86,9 +86,9 @@ fn put_lends(out: &mut [u8; 65536]) -> usize
 }
 
 // `no NUMBER PLACE`.
-fn put_refusal(out: &mut [u8; 65536], used: usize, answer: Answer) -> usize
-    requires { ⌜ used ≤ 65536 ⌝ }
-    ensures { λ r. ⌜ r ≤ 65536 ⌝ }
+fn put_refusal(out: &mut [u8; 4096], used: usize, answer: Answer) -> usize
+    requires { ⌜ used ≤ 4096 ⌝ }
+    ensures { λ r. ⌜ r ≤ 4096 ⌝ }
 {
     let a = put_text(out, used, b"no ");
     let b = put_spaced(out, a, answer.number);
@@ -96,8 +96,8 @@ fn put_refusal(out: &mut [u8; 65536], used: usize, answer: Answer) -> usize
 }
 
 // `NUMBER PLACE PASSES KIND `.
-fn put_numbers(out: &mut [u8; 65536], answer: Answer) -> usize
-    ensures { λ r. ⌜ r ≤ 65536 ⌝ }
+fn put_numbers(out: &mut [u8; 4096], answer: Answer) -> usize
+    ensures { λ r. ⌜ r ≤ 4096 ⌝ }
 {
     let a = put_spaced(out, 0, answer.number);
     let b = put_spaced(out, a, answer.place);
@@ -106,18 +106,18 @@ fn put_numbers(out: &mut [u8; 65536], answer: Answer) -> usize
 }
 
 // A number and a space.
-fn put_spaced(out: &mut [u8; 65536], used: usize, n: u32) -> usize
-    requires { ⌜ used ≤ 65536 ⌝ }
-    ensures { λ r. ⌜ r ≤ 65536 ⌝ }
+fn put_spaced(out: &mut [u8; 4096], used: usize, n: u32) -> usize
+    requires { ⌜ used ≤ 4096 ⌝ }
+    ensures { λ r. ⌜ r ≤ 4096 ⌝ }
 {
     let a = put_number(out, used, n);
     put_text(out, a, b" ")
 }
 
 // A number in digits.
-fn put_number(out: &mut [u8; 65536], used: usize, n: u32) -> usize
-    requires { ⌜ used ≤ 65536 ⌝ }
-    ensures { λ r. ⌜ r ≤ 65536 ⌝ }
+fn put_number(out: &mut [u8; 4096], used: usize, n: u32) -> usize
+    requires { ⌜ used ≤ 4096 ⌝ }
+    ensures { λ r. ⌜ r ≤ 4096 ⌝ }
 {
     let mut digits = [0u8; 20];
     let k = io::decimal(n as u64, &mut digits);

@@ -23,7 +23,7 @@ pub(crate) fn obey(
     requires { ⌜ held ≤ length (now command) ⌝ }
 {
     let mut text: [u8; 32768] = [0; 32768];
-    let mut out: [u8; 65536] = [0; 65536];
+    let mut out: [u8; 4096] = [0; 4096];
     let asked = asked_of(command, held);
     let which = asked.which;
     let size = asked.size;
