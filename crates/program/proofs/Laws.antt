@@ -6,7 +6,7 @@ use mathlib.Core.List.{List, [], _∷_, _++_, append-assoc}
 use native.Mathlib.Omega.{arith}
 use lib.ListN.{length, take, drop, length-take, take-append-drop}
 use lib.Seq.{take-append-seam}
-use Rattle.streams.specs.Writing.{Behind}
+use Rattle.output.specs.Writing.{Behind}
 use Rattle.m7.specs.declared.Answer.{Answer}
 use Rattle.program.specs.Said.{Decimal, RefusalSaid, OutSaid, Said, Numbered}
 

@@ -6,8 +6,8 @@ use mathlib.Core.List.{List, []}
 use native.Mathlib.Omega.{arith}
 use borrow.Author.Tests.{eq-eqb}
 use lib.ListN.{length, take, replicate, length-take}
-use Rattle.streams.specs.declared.input.Reading.{Reading}
-use Rattle.streams.specs.Reading.{LineRead}
+use Rattle.input.specs.declared.Reading.{Reading}
+use Rattle.input.specs.Reading.{LineRead}
 use Rattle.lines.specs.State.{fresh}
 use Rattle.states.specs.Form.{stateForm}
 use Rattle.m7.specs.declared.Answer.{Answer}

@@ -5,9 +5,9 @@ use mathlib.Core.Path.{_≡_}
 use mathlib.Core.Bool.{true, false}
 use mathlib.Core.List.{List}
 use lib.ListN.{length, take, replicate}
-use Rattle.streams.specs.declared.input.Reading.{Reading}
-use Rattle.streams.specs.Reading.{LineRead}
-use Rattle.streams.specs.Writing.{puts, Gives}
+use Rattle.input.specs.declared.Reading.{Reading}
+use Rattle.input.specs.Reading.{LineRead}
+use Rattle.output.specs.Writing.{puts, Gives}
 use Rattle.lines.specs.State.{fresh}
 use Rattle.states.specs.Form.{stateForm}
 use Rattle.m7.specs.declared.Answer.{Answer}

@@ -2,15 +2,15 @@
 mod parts;
 mod said;
 
+use input::next_line;
+use input::start;
 use m7::Answer;
+use output::flush;
+use output::put_text;
 use parts::Parts;
 use parts::read_parts;
 use said::answer_said;
 use said::refusal_said;
-use streams::input::next_line;
-use streams::input::start;
-use streams::output::flush;
-use streams::output::put_text;
 ghost use mathlib.Core.Path.{_≡_};
 ghost use Prim.Native.Nat.{_≤_};
 ghost use lib.ListN.{length, take, replicate};

@@ -1,5 +1,5 @@
 // Bytes as lower case hex, `-` for none.
-use streams::output::put_text;
+use output::put_text;
 ghost use Prim.Native.Nat.{_≤_, _<_};
 ghost use lib.ListN.{length};
 

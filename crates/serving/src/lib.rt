@@ -6,9 +6,9 @@ mod reply;
 mod serve;
 mod words;
 
+use input::next_line;
+use input::start;
 use serve::obey;
-use streams::input::next_line;
-use streams::input::start;
 ghost use mathlib.Core.Path.{_≡_};
 ghost use Prim.Native.Nat.{_<_};
 

@@ -4,8 +4,8 @@ use crate::lends::no_state;
 use crate::lends::no_table;
 use crate::lends::other_size;
 use m7::Answer;
-use streams::output::flush;
-use streams::output::put_text;
+use output::flush;
+use output::put_text;
 ghost use Prim.Native.Nat.{_≤_};
 ghost use lib.ListN.{length};
 
