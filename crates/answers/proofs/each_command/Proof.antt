@@ -3,8 +3,8 @@ use mathlib.Core.Path.{_≡_}
 use native.Mathlib.Omega.{arith}
 use lib.ListN.{length}
 use borrow.Author.Needs.{needs}
-use Rattle.serving.proofs.each_command.Statement.{statement}
-use Rattle.serving.proofs.each_command.Tie as tie
+use Rattle.answers.proofs.each_command.Statement.{statement}
+use Rattle.answers.proofs.each_command.Tie as tie
 
 abbrev Inv-loop : tie.InvT-loop
 Inv-loop table₀ state₀ block₀ command₀ reading₀ turns₀ table state block command reading turns = (reading .size ≤ 65536) × (reading .held ≤ length command₀) × (length command ≡ length command₀)

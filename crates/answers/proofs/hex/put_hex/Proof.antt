@@ -2,8 +2,8 @@ use Prim.Native.Nat.{_-_, _≤_}
 use mathlib.Core.Path.{_≡_}
 use lib.ListN.{length}
 use borrow.Author.Needs.{needs}
-use Rattle.serving.proofs.hex.put_hex.Statement.{statement}
-use Rattle.serving.proofs.hex.put_hex.Tie as tie
+use Rattle.answers.proofs.hex.put_hex.Statement.{statement}
+use Rattle.answers.proofs.hex.put_hex.Tie as tie
 
 abbrev Inv-loop : tie.InvT-loop
 Inv-loop out₀ used bytes size at₀ i₀ out at i = (at ≤ length out₀) × (length out ≡ length out₀)

@@ -2,8 +2,8 @@ use mathlib.Core.Path.{sym}
 use native.Mathlib.Omega.{arith}
 use lib.Seq.{length-take-le}
 use borrow.Author.Needs.{needs}
-use Rattle.serving.proofs.serve.call.Statement.{statement}
-use Rattle.serving.proofs.serve.call.Tie as tie
+use Rattle.answers.proofs.serve.call.Statement.{statement}
+use Rattle.answers.proofs.serve.call.Tie as tie
 
 m7-read-requires : tie.Need-m7-read-requires
 m7-read-requires c κs = search needs

@@ -2,8 +2,8 @@ use mathlib.Core.Path.{sym}
 use native.Mathlib.Omega.{arith}
 use lib.Seq.{length-take-le}
 use borrow.Author.Needs.{needs}
-use Rattle.serving.proofs.serve.obey.Statement.{statement}
-use Rattle.serving.proofs.serve.obey.Tie as tie
+use Rattle.answers.proofs.serve.obey.Statement.{statement}
+use Rattle.answers.proofs.serve.obey.Tie as tie
 
 asked-of-requires : tie.Need-asked-of-requires
 asked-of-requires c κs = search needs

@@ -2,8 +2,8 @@ use Prim.Native.Nat.{_-_, _≤_}
 use mathlib.Core.Path.{_≡_}
 use lib.ListN.{length}
 use borrow.Author.Needs.{needs}
-use Rattle.serving.proofs.hex.decode.Statement.{statement}
-use Rattle.serving.proofs.hex.decode.Tie as tie
+use Rattle.answers.proofs.hex.decode.Statement.{statement}
+use Rattle.answers.proofs.hex.decode.Tie as tie
 
 abbrev Inv-loop : tie.InvT-loop
 Inv-loop text₀ from end last digits₀ at₀ size₀ text digits at size = (size ≤ at) × (at ≤ end) × (length text ≡ length text₀)

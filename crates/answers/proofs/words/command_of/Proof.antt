@@ -1,7 +1,7 @@
 use Prim.Native.Nat.{_-_, _≤_}
 use borrow.Author.Needs.{needs}
-use Rattle.serving.proofs.words.command_of.Statement.{statement}
-use Rattle.serving.proofs.words.command_of.Tie as tie
+use Rattle.answers.proofs.words.command_of.Statement.{statement}
+use Rattle.answers.proofs.words.command_of.Tie as tie
 
 abbrev Inv-loop : tie.InvT-loop
 Inv-loop command held which end budget₀ at₀ budget at = at ≤ end
