@@ -23,9 +23,9 @@ digits-most n k h f =
     omega arith))
 
 -- a number's digits, then a byte
-pub number-parts : {n then : ℕ} {text s0 s1 s2 : List ℕ} {used a r : ℕ} → Decimal n text → Behind s0 used text s1 a → Behind s1 a (then ∷ []) s2 r → r ≤ used + 21 → Numbered s0 s2 used n then r
-number-parts {then = then} {text = text} {s0 = s0} {used = used} d h1 h2 m =
-    record { text = text; decimal = d; bytes = h2 .bytes ∙ ap (λ (s : List ℕ). s ++ (then ∷ [])) (h1 .bytes) ∙ append-assoc (take used s0) text (then ∷ []); most = m }
+pub number-parts : {n then : ℕ} {text s0 s1 s2 : List ℕ} {used a r : ℕ} → Decimal n text → Behind s0 used text s1 a → Behind s1 a (then ∷ []) s2 r → r ≤ used + 21 → 1100 ≡ length s2 → Numbered s0 s2 used n then r
+number-parts {then = then} {text = text} {s0 = s0} {used = used} d h1 h2 m l =
+    record { text = text; decimal = d; bytes = h2 .bytes ∙ ap (λ (s : List ℕ). s ++ (then ∷ [])) (h1 .bytes) ∙ append-assoc (take used s0) text (then ∷ []); most = m; room = l }
 
 pub refusal-parts : {s0 s1 s2 s3 : List ℕ} {a b r n l : ℕ} → Behind s0 0 (33 ∷ 32 ∷ []) s1 a → Numbered s1 s2 a n 32 b → Numbered s2 s3 b l 10 r → RefusalSaid n l (take r s3)
 refusal-parts h1 h2 h3 =

@@ -1,6 +1,6 @@
 -- How reading and answering make the lines of a run, and what becomes of the macro file.
 use Prim.Native.Nat.{ℕ, zero, suc, _+_, _≤_, _<_}
-use mathlib.Core.Path.{_≡_, refl, ap, subst, _∙_}
+use mathlib.Core.Path.{_≡_, refl, subst, _∙_}
 use mathlib.Core.Bool.{true, false}
 use mathlib.Core.List.{List, []}
 use native.Mathlib.Omega.{arith}
@@ -17,7 +17,7 @@ use Rattle.program.specs.declared.parts.Parts.{Parts}
 use Rattle.program.specs.declared.parts.Parts.the-variants.{Table, Refused}
 use Rattle.program.specs.Parts.{FileRead, Refuses, PartsRead, partsOf}
 use Rattle.program.specs.Said.{RefusalSaid}
-use Rattle.program.specs.Lines.{Standing, Answered, LineDone, Session, starting, LinesDone, FreshLines}
+use Rattle.program.specs.Lines.{Standing, Answered, Session, starting, LinesDone, FreshLines}
 use Rattle.program.specs.Lines.Session.{none, next}
 use Rattle.program.specs.Run.{Follows, Ran}
 

@@ -3,9 +3,13 @@
 use Prim.Native.Nat.{ℕ, _+_, _≤_}
 use mathlib.Core.Path.{_≡_}
 use mathlib.Core.List.{List, [], _∷_, _++_}
-use lib.ListN.{take}
+use lib.ListN.{length, take}
 use Rattle.io.specs.Digits.{digits, Fewest}
 use Rattle.m7.specs.declared.Answer.{Answer}
+
+-- so many of the bytes held are said
+abbrev pub Within : (r : ℕ) → (said : List ℕ) → Type 0
+Within r said = (r ≤ 1100) × (1100 ≡ length said)
 
 -- a number in decimal digits without leading zeros
 pub record Decimal (n : ℕ) (s : List ℕ) : Type 0 where
@@ -37,3 +41,4 @@ pub record Numbered (old new : List ℕ) (used n then r : ℕ) : Type 0 where
   pub decimal : Decimal n text
   pub bytes : take r new ≡ take used old ++ (text ++ (then ∷ []))
   pub most : r ≤ used + 21
+  pub room : 1100 ≡ length new

@@ -14,6 +14,7 @@ use said::refusal_said;
 ghost use mathlib.Core.Path.{_≡_};
 ghost use Prim.Native.Nat.{_≤_};
 ghost use lib.ListN.{length, take, replicate};
+ghost use Rattle.program.specs.Said.{Within};
 ghost use Rattle.program.specs.Lines.{Put, Answered, LinesDone, FreshLines};
 ghost use Rattle.program.specs.Run.{Ran};
 
@@ -31,9 +32,9 @@ pub fn run()
 }
 
 // Reads the file and answers the lines. "A refused file gives `! N 0` and nothing more", which the caller writes.
-fn read_and_answer(table: &mut [u8; 98304], said: &mut [u8]) -> usize
-    requires { ⌜ (now table ≡ replicate 98304 0) × (length (now said) ≡ 1100) ⌝ }
-    ensures { λ r. ⌜ (r ≤ 1100) × Ran (now (table .exit)) (take r (now (said .exit))) ⌝ }
+fn read_and_answer(table: &mut [u8; 98304], said: &mut [u8; 1100]) -> usize
+    requires { ⌜ (now table ≡ replicate 98304 0) × (1100 ≡ length (now said)) ⌝ }
+    ensures { λ r. ⌜ Within r (now (said .exit)) × Ran (now (table .exit)) (take r (now (said .exit))) ⌝ }
 {
     let parts = read_parts(table);
     let Parts::Refused(number) = parts else {

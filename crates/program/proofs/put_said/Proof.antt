@@ -1,12 +1,9 @@
-use mathlib.Core.Path.{sym}
-use native.Mathlib.Omega.{arith}
 use lib.Seq.{length-take-le}
+use native.Mathlib.Omega.{arith}
+use mathlib.Core.Path.{sym}
 use borrow.Author.Needs.{needs}
 use Rattle.program.proofs.put_said.Statement.{statement}
 use Rattle.program.proofs.put_said.Tie as tie
-
-slice-aggregate-answer-said : tie.Need-slice-aggregate-answer-said
-slice-aggregate-answer-said c = search needs
 
 answer-said-requires : tie.Need-answer-said-requires
 answer-said-requires c κs = search needs
@@ -27,7 +24,6 @@ pub put-said-spec : {M : Type 1} → statement M
 put-said-spec =
     tie.close
     (tie.spec
-    slice-aggregate-answer-said
     answer-said-requires
     array-share-prefix-said
     slice-aggregate-put-text

@@ -16,11 +16,8 @@ number-said-requires c κs = search needs
 number-said-requires-2 : tie.Need-number-said-requires-2
 number-said-requires-2 c κs = search needs
 
-same-length : tie.Need-same-length
-same-length c = search needs
-
 returns : tie.Need-returns
-returns c = (omega arith, refusal-parts (c .before .before .before .before .before .before .before .before .before .before .append .ensures .1) (c .before .before .before .before .before .before .number-said .ensures) (c .before .before .number-said2 .ensures))
+returns c = ((omega arith, c .number-said2 .ensures .room), refusal-parts (c .before .before .before .before .append .ensures .1) (c .before .before .number-said .ensures) (c .number-said2 .ensures))
 
 pub refusal-said-spec : {M : Type 1} → statement M
 refusal-said-spec =
@@ -30,5 +27,4 @@ refusal-said-spec =
     append-requires
     number-said-requires
     number-said-requires-2
-    same-length
     returns)
