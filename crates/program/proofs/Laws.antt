@@ -1,14 +1,14 @@
 -- What the appended parts make together.
-use Prim.Native.Nat.{ℕ, _-_, _^_, _≤_, _<_, min}
+use Prim.Native.Nat.{ℕ, _+_, _-_, _^_, _≤_, _<_, min}
 use native.Mathlib.Nat.{le-trans, lt-of-not-le, le-of-suc-le-suc, pow-le-pow-right, zero-lt-suc}
-use mathlib.Core.Path.{_≡_}
+use mathlib.Core.Path.{_≡_, ap, _∙_}
 use mathlib.Core.List.{List, [], _∷_, _++_, append-assoc}
 use native.Mathlib.Omega.{arith}
 use lib.ListN.{length, take, drop, length-take, take-append-drop}
 use lib.Seq.{take-append-seam}
-use Rattle.streams.specs.Writing.{Behind}
+use Rattle.output.specs.Writing.{Behind}
 use Rattle.m7.specs.declared.Answer.{Answer}
-use Rattle.program.specs.Said.{RefusalSaid, OutSaid, Said, Numbered}
+use Rattle.program.specs.Said.{Decimal, RefusalSaid, OutSaid, Said, Numbered}
 
 -- a u64 has at most 20 digits
 pub digits-most : (n k : ℕ) → n < 2 ^ 64 → (1 < k → 10 ^ (k - 1) ≤ n) → k ≤ 20
@@ -22,16 +22,20 @@ digits-most n k h f =
     let j : 100000000000000000000 ≤ n = le-trans e i in
     omega arith))
 
-module _ {s0 s1 s2 s3 s4 s5 : List ℕ} {a b c d r n l : ℕ} where
-  pub refusal-parts : Behind s0 0 (33 ∷ 32 ∷ []) s1 a → Numbered s1 s2 a n b → Behind s2 b (32 ∷ []) s3 c → Numbered s3 s4 c l d → Behind s4 d (10 ∷ []) s5 r → RefusalSaid n l (take r s5)
-  refusal-parts h1 h2 h3 h4 h5 =
-      record {
-        number = h2 .text;
-        line = h4 .text;
-        isNumber = h2 .decimal;
-        isLine = h4 .decimal;
-        same = rw (h5 .bytes, h4 .bytes, h3 .bytes, h2 .bytes, h1 .bytes) (simp append-assoc);
-      }
+-- a number's digits, then a byte
+pub number-parts : {n then : ℕ} {text s0 s1 s2 : List ℕ} {used a r : ℕ} → Decimal n text → Behind s0 used text s1 a → Behind s1 a (then ∷ []) s2 r → r ≤ used + 21 → 1100 ≡ length s2 → Numbered s0 s2 used n then r
+number-parts {then = then} {text = text} {s0 = s0} {used = used} d h1 h2 m l =
+    record { text = text; decimal = d; bytes = h2 .bytes ∙ ap (λ (s : List ℕ). s ++ (then ∷ [])) (h1 .bytes) ∙ append-assoc (take used s0) text (then ∷ []); most = m; room = l }
+
+pub refusal-parts : {s0 s1 s2 s3 : List ℕ} {a b r n l : ℕ} → Behind s0 0 (33 ∷ 32 ∷ []) s1 a → Numbered s1 s2 a n 32 b → Numbered s2 s3 b l 10 r → RefusalSaid n l (take r s3)
+refusal-parts h1 h2 h3 =
+    record {
+      number = h2 .text;
+      line = h3 .text;
+      isNumber = h2 .decimal;
+      isLine = h3 .decimal;
+      same = rw (h3 .bytes, h2 .bytes, h1 .bytes) (simp append-assoc);
+    }
 
 -- the first bytes, as many as there are
 pub take-least : (size : ℕ) (text : List ℕ) → take (min size (length text)) text ≡ take size text

@@ -1,13 +1,13 @@
 -- How reading and answering make the lines of a run, and what becomes of the macro file.
-use Prim.Native.Nat.{ℕ, zero, suc, _≤_}
-use mathlib.Core.Path.{_≡_, refl, sym, subst, _∙_}
-use mathlib.Core.Bool.{true, false, true≢false}
+use Prim.Native.Nat.{ℕ, zero, suc, _+_, _≤_, _<_}
+use mathlib.Core.Path.{_≡_, refl, subst, _∙_}
+use mathlib.Core.Bool.{true, false}
 use mathlib.Core.List.{List, []}
 use native.Mathlib.Omega.{arith}
 use borrow.Author.Tests.{eq-eqb}
 use lib.ListN.{length, take, replicate, length-take}
-use Rattle.streams.specs.declared.input.Reading.{Reading}
-use Rattle.streams.specs.Reading.{LineRead}
+use Rattle.input.specs.declared.Reading.{Reading}
+use Rattle.input.specs.Reading.{LineRead}
 use Rattle.lines.specs.State.{fresh}
 use Rattle.states.specs.Form.{stateForm}
 use Rattle.m7.specs.declared.Answer.{Answer}
@@ -15,32 +15,69 @@ use Rattle.m7.specs.Contract.{Gives, reads, freshens, takes}
 use Rattle.macros.specs.Macro.{pick}
 use Rattle.program.specs.declared.parts.Parts.{Parts}
 use Rattle.program.specs.declared.parts.Parts.the-variants.{Table, Refused}
-use Rattle.program.specs.Parts.{FileRead, Refuses, PartsRead}
+use Rattle.program.specs.Parts.{FileRead, Refuses, PartsRead, partsOf}
 use Rattle.program.specs.Said.{RefusalSaid}
-use Rattle.program.specs.Lines.{Standing, Answered, Silent, LineDone, Session, starting, LinesDone, FreshLines}
+use Rattle.program.specs.Lines.{Standing, Answered, Session, starting, LinesDone, FreshLines}
 use Rattle.program.specs.Lines.Session.{none, next}
 use Rattle.program.specs.Run.{Follows, Ran}
 
-module _ {table state block line out block′ line′ : List ℕ} {was reading : Reading} {used number : ℕ} (h : LineRead was block line reading block′ line′) where
-  pub line-silent : reading .begun ≡ false
-      → LineDone (record { table = table; state = state; block = block; line = line; out = out; reading = was; used = used }) number (record { table = table; state = state; block = block′; line = line′; out = out; reading = reading; used = used })
-  line-silent e = record { heard = h; answered = λ f. absurd (true≢false (sym f ∙ e)); ended = λ _. record { table = refl; state = refl; out = refl; used = refl } }
+-- the lines so far, and the reading behind the last of them
+pub record Lines (a : Standing) (number : ℕ) (table state block line out : List ℕ) (reading : Reading) (used : ℕ) : Type 0 where
+  pub lastBlock : List ℕ
+  pub lastLine : List ℕ
+  pub lastReading : Reading
+  pub session : Session a number (record { table = table; state = state; block = lastBlock; line = lastLine; out = out; reading = lastReading; used = used })
+  pub heard : LineRead lastReading lastBlock lastLine reading block line
 
-  pub line-answered : {table′ state′ out′ : List ℕ} {used′ : ℕ} → reading .begun ≡ true → Answered (take (reading .held) line′) number table state out used table′ state′ out′ used′
-      → LineDone (record { table = table; state = state; block = block; line = line; out = out; reading = was; used = used }) number (record { table = table′; state = state′; block = block′; line = line′; out = out′; reading = reading; used = used′ })
-  line-answered e a = record { heard = h; answered = λ _. a; ended = λ f. absurd (true≢false (sym e ∙ f)) }
-
-pub session-start : {table state block line out : List ℕ} {r : Reading} {n : ℕ} {b : Standing} → r ≡ record { at = 0; size = 0; held = 0; begun = false }
-    → Session (record { table = table; state = state; block = block; line = line; out = out; reading = r; used = 0 }) n b → Session (starting table state block line out) n b
+pub lines-first : {table state block line out block′ line′ : List ℕ} {r reading : Reading} {number used : ℕ} → number ≡ 1 → used ≡ 0 → r ≡ record { at = 0; size = 0; held = 0; begun = false }
+    → LineRead r block line reading block′ line′ → Lines (starting table state block line out) number table state block′ line′ out reading used
 unfolding starting
-session-start e s = rw (← e) s
+lines-first {table = table} {state = state} {block = block} {line = line} {out = out} {r = r} {number = number} {used = used} n u e h =
+    record {
+      lastBlock = block;
+      lastLine = line;
+      lastReading = r;
+      session = none number (record { table = table; state = state; block = block; line = line; out = out; reading = r; used = used }) n (rw (u, e) refl);
+      heard = h;
+    }
+
+module _ {a : Standing} {number : ℕ} {table state block line out : List ℕ} {reading : Reading} {used : ℕ} (s : Lines a number table state block line out reading used) where
+  pub lines-more : {table′ state′ block′ line′ out′ : List ℕ} {reading′ : Reading} {used′ m : ℕ} → reading .begun ≡ true → Answered (take (reading .held) line) number table state out used table′ state′ out′ used′
+      → LineRead reading block line reading′ block′ line′ → m ≡ number + 1 → Lines a m table′ state′ block′ line′ out′ reading′ used′
+  lines-more b h r e =
+      record { lastBlock = block; lastLine = line; lastReading = reading; session = next _ _ _ _ (s .session) (record { heard = s .heard; begun = b; answered = h }) e; heard = r }
+
+pub lines-done : {table state block line out table′ state′ block′ line′ out′ : List ℕ} {number used : ℕ} {reading : Reading} → Lines (starting table state block line out) number table′ state′ block′ line′ out′ reading used
+    → (number < 18446744073709551615 → reading .begun ≡ false) → LinesDone table state block line out table′ state′ block′ line′ out′
+lines-done {table′ = table′} {state′ = state′} {out′ = out′} {number = number} {used = used} {reading = reading} l f =
+    record {
+      number = number;
+      last = record { table = table′; state = state′; block = l .lastBlock; line = l .lastLine; out = out′; reading = l .lastReading; used = used };
+      session = l .session;
+      reading = reading;
+      heard = l .heard;
+      ended = f;
+      sameTable = refl;
+      sameState = refl;
+      sameOut = refl;
+    }
 
 -- THE MACRO FILE
 
-pub file-refused : {old new : List ℕ} (n : ℕ) → (n ≡ 0 → ⊥) → FileRead old n new → Refuses old n new
-unfolding Refuses
-file-refused zero f h = absurd (f refl)
-file-refused (suc n) f h = h
+pub file-parts : {old new : List ℕ} (n : ℕ) → FileRead old n new → PartsRead old (partsOf n) new
+unfolding partsOf PartsRead Refuses
+file-parts zero h = h
+file-parts (suc n) h = h
+
+pub parts-table : (n : ℕ) → n < 1 → Table ≡ partsOf n
+unfolding partsOf
+parts-table zero h = refl
+parts-table (suc n) h = absurd (omega arith)
+
+pub parts-refused : (n : ℕ) → 1 ≤ n → Refused n ≡ partsOf n
+unfolding partsOf
+parts-refused zero h = absurd (omega arith)
+parts-refused (suc n) h = refl
 
 pub file-read : {old new : List ℕ} {answer : Answer} (file : List ℕ) (size : ℕ) → size ≤ 32769 → (n : ℕ) → n ≡ answer .number → Gives (reads (take size file) old) answer new → FileRead old n new
 file-read {answer = answer} file size h n e g = record { file = take size file; most = omega (arith, length-take size file); answer = answer; read = g; same = e }

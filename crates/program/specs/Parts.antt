@@ -16,6 +16,11 @@ pub record FileRead (old : List ℕ) (number : ℕ) (new : List ℕ) : Type 0 wh
   pub read : Gives (reads file old) answer new
   pub same : number ≡ answer .number
 
+-- what the program makes of the number that m7_read answers
+unfoldable pub partsOf : ℕ → Parts
+partsOf zero = Table
+partsOf (suc n) = Refused (suc n)
+
 -- 0 is the number of a file that cannot be opened or read
 unfoldable pub Refuses : (old : List ℕ) → ℕ → (new : List ℕ) → Type 0
 Refuses old zero new = new ≡ old

@@ -1,12 +1,15 @@
 -- WHAT THE PROGRAM SAYS TO A LINE (01, part 8), as bytes with their line feed.
--- It rules out, among others, the edits other_budget (1,000 passes) and withheld_said (a withheld line is written).
+-- It rules out, among others, the edit withheld_said (a withheld line is written).
 use Prim.Native.Nat.{ℕ, _+_, _≤_}
 use mathlib.Core.Path.{_≡_}
 use mathlib.Core.List.{List, [], _∷_, _++_}
 use lib.ListN.{length, take}
 use Rattle.io.specs.Digits.{digits, Fewest}
 use Rattle.m7.specs.declared.Answer.{Answer}
-use Rattle.m7.specs.Feeding.{Feeds}
+
+-- so many of the bytes held are said
+abbrev pub Within : (r : ℕ) → (said : List ℕ) → Type 0
+Within r said = (r ≤ 1100) × (1100 ≡ length said)
 
 -- a number in decimal digits without leading zeros
 pub record Decimal (n : ℕ) (s : List ℕ) : Type 0 where
@@ -32,18 +35,10 @@ pub record Said (a : Answer) (text : List ℕ) (l : ℕ) (s : List ℕ) : Type 0
   pub out : a .number ≡ 0 → a .kind ≡ 1 → OutSaid text (a .length) s
   pub silent : a .number ≡ 0 → (a .kind ≡ 1 → ⊥) → s ≡ []
 
--- the line was fed with "budget 10,000", and its answer is said
-pub record FedSaid (table table′ state state′ line : List ℕ) (l : ℕ) (s : List ℕ) : Type 0 where
-  pub output : List ℕ
-  pub output′ : List ℕ
-  pub answer : Answer
-  pub sized : length output ≡ 1054
-  pub fed : Feeds (record { line = line; budget = 10000; table = table; state = state; output = output; table′ = table′; state′ = state′; output′ = output′; answer = answer })
-  pub said : Said answer output′ l s
-
--- a number's digits behind the bytes held
-pub record Numbered (old new : List ℕ) (used n r : ℕ) : Type 0 where
+-- a number's digits and a byte behind the bytes held
+pub record Numbered (old new : List ℕ) (used n then r : ℕ) : Type 0 where
   pub text : List ℕ
   pub decimal : Decimal n text
-  pub bytes : take r new ≡ take used old ++ text
-  pub most : r ≤ used + 20
+  pub bytes : take r new ≡ take used old ++ (text ++ (then ∷ []))
+  pub most : r ≤ used + 21
+  pub room : 1100 ≡ length new

@@ -2,7 +2,7 @@
 ghost use mathlib.Core.Path.{_≡_};
 ghost use Prim.Native.Nat.{_+_, _≤_};
 ghost use lib.ListN.{length, take};
-ghost use Rattle.program.specs.Parts.{PartsRead};
+ghost use Rattle.program.specs.Parts.{PartsRead, partsOf};
 
 // What became of the file: a table, or its refusal's number, 0 for a file that cannot be opened or read.
 pub(crate) enum Parts {
@@ -17,7 +17,7 @@ struct Got {
 }
 
 // Reads the file as a table. One byte more than it may have is read, so that a longer one shows.
-pub(crate) fn read_parts(table: &mut [u8]) -> Parts
+pub(crate) fn read_parts(table: &mut [u8; 98304]) -> Parts
     ensures { λ r. ⌜ PartsRead (now (table .entry)) r (now (table .exit)) ⌝ }
 {
     let mut file: [u8; 32769] = [0; 32769];
@@ -27,10 +27,17 @@ pub(crate) fn read_parts(table: &mut [u8]) -> Parts
         return Parts::Refused(0);
     }
     let answer = m7::m7_read(&file[..size], table);
-    if answer.number != 0 {
-        return Parts::Refused(answer.number);
+    parts_of(answer.number)
+}
+
+// By the number that reading it as a table answers.
+fn parts_of(number: u32) -> Parts
+    ensures { λ r. ⌜ r ≡ partsOf number ⌝ }
+{
+    if number < 1 {
+        return Parts::Table;
     }
-    Parts::Table
+    Parts::Refused(number)
 }
 
 // Opens the file and reads it.
@@ -84,15 +91,9 @@ fn read_once(fd: i32, file: &mut [u8], done: usize) -> Got
     ensures { λ _. ⌜ take done (now (file .exit)) ≡ take done (now (file .entry)) ⌝ }
 {
     let got = libc::read(fd, &mut file[done..]);
-    if got < 0 {
-        return Got {
-            failed: true,
-            size: 0,
-        };
-    }
     let size = io::count(got, &file[done..]);
     Got {
-        failed: false,
+        failed: got < 0,
         size,
     }
 }

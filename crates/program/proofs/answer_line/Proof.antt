@@ -1,3 +1,5 @@
+use lib.ListN.{replicate, length-replicate}
+use Prim.Native.Nat.{ℕ}
 use mathlib.Core.Path.{sym}
 use native.Mathlib.Omega.{arith}
 use lib.Seq.{length-take-le}
@@ -5,43 +7,31 @@ use borrow.Author.Needs.{needs}
 use Rattle.program.proofs.answer_line.Statement.{statement}
 use Rattle.program.proofs.answer_line.Tie as tie
 
-slice-aggregate-fed-said : tie.Need-slice-aggregate-fed-said
-slice-aggregate-fed-said c = search needs
+slice-aggregate-m7-feed : tie.Need-slice-aggregate-m7-feed
+slice-aggregate-m7-feed c = sym (length-take-le _ _ (omega arith))
 
-fed-said-requires : tie.Need-fed-said-requires
-fed-said-requires c κs = search needs
+slice-aggregate-m7-feed-2 : tie.Need-slice-aggregate-m7-feed-2
+slice-aggregate-m7-feed-2 c = search needs
 
-array-share-prefix-said : tie.Need-array-share-prefix-said
-array-share-prefix-said c = search needs
+m7-feed-requires : tie.Need-m7-feed-requires
+m7-feed-requires c κs = search needs
 
-slice-aggregate-put-text : tie.Need-slice-aggregate-put-text
-slice-aggregate-put-text c = sym (length-take-le _ _ (omega arith))
+slice-aggregate-put-said : tie.Need-slice-aggregate-put-said
+slice-aggregate-put-said c = search needs
 
-put-text-requires : tie.Need-put-text-requires
-put-text-requires c κs = search needs
-
-same-length : tie.Need-same-length
-same-length c = search needs
-
-same-length-2 : tie.Need-same-length-2
-same-length-2 c = search needs
-
-same-length-3 : tie.Need-same-length-3
-same-length-3 c = search needs
+put-said-requires : tie.Need-put-said-requires
+put-said-requires c κs = search needs
 
 returns : tie.Need-returns
-returns c = search needs
+returns c = (record { output = replicate {A = ℕ} 1054 0; output′ = c .before .before .before .before .m7-feed .last .1 .1 .1 .1 .0; answer = c .before .before .before .before .m7-feed .result; sized = length-replicate {A = ℕ} 1054 0; fed = c .before .before .before .before .m7-feed .ensures; said = c .put-said .ensures .0 }, c .put-said .ensures .1)
 
 pub answer-line-spec : {M : Type 1} → statement M
 answer-line-spec =
     tie.close
     (tie.spec
-    slice-aggregate-fed-said
-    fed-said-requires
-    array-share-prefix-said
-    slice-aggregate-put-text
-    put-text-requires
-    same-length
-    same-length-2
-    same-length-3
+    slice-aggregate-m7-feed
+    slice-aggregate-m7-feed-2
+    m7-feed-requires
+    slice-aggregate-put-said
+    put-said-requires
     returns)

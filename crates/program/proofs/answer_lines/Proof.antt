@@ -1,6 +1,6 @@
-use Prim.Native.Nat.{ℕ}
-use lib.ListN.{replicate, length-replicate}
 use Rattle.program.proofs.Lines.{fresh-state, fresh-lines}
+use lib.ListN.{replicate, length-replicate}
+use Prim.Native.Nat.{ℕ}
 use borrow.Author.Needs.{needs}
 use Rattle.program.proofs.answer_lines.Statement.{statement}
 use Rattle.program.proofs.answer_lines.Tie as tie
@@ -14,23 +14,11 @@ m7-fresh-requires c κs = search needs
 slice-aggregate-each-line : tie.Need-slice-aggregate-each-line
 slice-aggregate-each-line c = search needs
 
-slice-aggregate-each-line-2 : tie.Need-slice-aggregate-each-line-2
-slice-aggregate-each-line-2 c = search needs
-
-slice-aggregate-each-line-3 : tie.Need-slice-aggregate-each-line-3
-slice-aggregate-each-line-3 c = search needs
-
-slice-aggregate-each-line-4 : tie.Need-slice-aggregate-each-line-4
-slice-aggregate-each-line-4 c = search needs
-
 each-line-requires : tie.Need-each-line-requires
 each-line-requires c κs = search needs
 
-same-length : tie.Need-same-length
-same-length c = search needs
-
 returns : tie.Need-returns
-returns c = fresh-lines (fresh-state (replicate {A = ℕ} 26236 0) (length-replicate {A = ℕ} 26236 0) (c .before .before .before .before .before .before .before .before .before .before .before .before .before .m7-fresh .ensures)) (c .before .before .before .before .before .before .each-line .ensures)
+returns c = fresh-lines (fresh-state (replicate {A = ℕ} 26236 0) (length-replicate {A = ℕ} 26236 0) (c .before .before .before .before .before .before .before .before .m7-fresh .ensures)) (c .before .each-line .ensures)
 
 pub answer-lines-spec : {M : Type 1} → statement M
 answer-lines-spec =
@@ -39,9 +27,5 @@ answer-lines-spec =
     slice-aggregate-m7-fresh
     m7-fresh-requires
     slice-aggregate-each-line
-    slice-aggregate-each-line-2
-    slice-aggregate-each-line-3
-    slice-aggregate-each-line-4
     each-line-requires
-    same-length
     returns)

@@ -1,7 +1,7 @@
-use mathlib.Core.Path.{refl}
-use native.Mathlib.Omega.{arith}
-use borrow.Author.Needs.{needs}
 use Rattle.program.proofs.Lines.{ran-lines, ran-refused}
+use native.Mathlib.Omega.{arith}
+use mathlib.Core.Path.{refl}
+use borrow.Author.Needs.{needs}
 use Rattle.program.proofs.read_and_answer.Statement.{statement}
 use Rattle.program.proofs.read_and_answer.Tie as tie
 
@@ -17,23 +17,14 @@ enum-told c = search needs
 answer-lines-requires : tie.Need-answer-lines-requires
 answer-lines-requires c κs = search needs
 
-same-length : tie.Need-same-length
-same-length c = search needs
-
 returns : tie.Need-returns
-returns c = (omega arith, ran-lines (c .before .before .before .before .before .before .before .before .before .before .before .before .pre .0) (c .before .before .before .before .before .before .before .before .read-parts .ensures) (c .before .before .before .before .enum-told .given .1) (c .before .before .answer-lines .ensures))
+returns c = ((omega arith, c .before .before .before .before .before .before .pre .1), ran-lines (c .before .before .before .before .before .before .pre .0) (c .before .before .before .before .read-parts .ensures) (c .before .before .enum-told .given .1) (c .answer-lines .ensures))
 
 refusal-said-requires : tie.Need-refusal-said-requires
 refusal-said-requires c κs = search needs
 
-same-length-2 : tie.Need-same-length-2
-same-length-2 c = search needs
-
-same-length-3 : tie.Need-same-length-3
-same-length-3 c = search needs
-
 returns-2 : tie.Need-returns-2
-returns-2 c = (c .before .before .refusal-said .ensures .0, ran-refused (c .before .before .before .before .before .before .before .before .before .before .before .before .before .pre .0) (c .before .before .before .before .before .before .before .before .before .read-parts .ensures) (c .before .before .before .before .before .parts .given .1) (c .before .before .refusal-said .ensures .1) refl)
+returns-2 c = (c .refusal-said .ensures .0, ran-refused (c .before .before .before .before .before .before .before .pre .0) (c .before .before .before .before .before .read-parts .ensures) (c .before .before .before .parts .given .1) (c .refusal-said .ensures .1) refl)
 
 pub read-and-answer-spec : {M : Type 1} → statement M
 read-and-answer-spec =
@@ -43,9 +34,6 @@ read-and-answer-spec =
     enum-known-parts
     enum-told
     answer-lines-requires
-    same-length
     returns
     refusal-said-requires
-    same-length-2
-    same-length-3
     returns-2)

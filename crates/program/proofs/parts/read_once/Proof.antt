@@ -1,7 +1,7 @@
 use Prim.Native.Nat.{_-_}
 use lib.ListN.{length}
-use borrow.Author.Needs.{needs}
 use borrow.Rule.Slice.PartMut.{take-put}
+use borrow.Author.Needs.{needs}
 use Rattle.program.proofs.parts.read_once.Statement.{statement}
 use Rattle.program.proofs.parts.read_once.Tie as tie
 
@@ -17,12 +17,6 @@ part-read-end c = search needs
 read-requires : tie.Need-read-requires
 read-requires c κs = search needs
 
-same-length : tie.Need-same-length
-same-length c = search needs
-
-returns : tie.Need-returns
-returns c = (search needs, take-put (c .before .before .before .before .before .before .args .done) (length (c .before .before .before .before .before .before .args .file .now) - c .before .before .before .before .before .before .args .done) (c .before .before .before .before .before .before .args .file .now) (c .before .before .before .read .last .1 .0) (c .before .before .before .before .before .before .pre))
-
 sub-count : tie.Need-sub-count
 sub-count c = search needs
 
@@ -35,11 +29,11 @@ part-count-end c = search needs
 count-requires : tie.Need-count-requires
 count-requires c κs = search needs
 
-same-length-2 : tie.Need-same-length-2
-same-length-2 c = search needs
+same-length : tie.Need-same-length
+same-length c = search needs
 
-returns-2 : tie.Need-returns-2
-returns-2 c = (search needs, take-put (c .before .before .before .before .before .before .before .before .before .args .done) (length (c .before .before .before .before .before .before .before .before .before .args .file .now) - c .before .before .before .before .before .before .before .before .before .args .done) (c .before .before .before .before .before .before .before .before .before .args .file .now) (c .before .before .before .before .before .before .read .last .1 .0) (c .before .before .before .before .before .before .before .before .before .pre))
+returns : tie.Need-returns
+returns c = (search needs, take-put (c .before .before .before .before .before .before .before .before .args .done) (length (c .before .before .before .before .before .before .before .before .args .file .now) - c .before .before .before .before .before .before .before .before .args .done) (c .before .before .before .before .before .before .before .before .args .file .now) (c .before .before .before .before .before .read .last .1 .0) (c .before .before .before .before .before .before .before .before .pre))
 
 pub read-once-spec : {M : Type 1} → statement M
 read-once-spec =
@@ -49,11 +43,9 @@ read-once-spec =
     part-read-start
     part-read-end
     read-requires
-    same-length
-    returns
     sub-count
     part-count-start
     part-count-end
     count-requires
-    same-length-2
-    returns-2)
+    same-length
+    returns)

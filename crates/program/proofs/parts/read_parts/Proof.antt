@@ -1,10 +1,10 @@
+use Rattle.program.proofs.Lines.{file-read, file-parts}
+use lib.ListN.{length-replicate}
 use Prim.Native.Nat.{ℕ}
+use Rattle.program.specs.Parts.{PartsRead, Refuses}
 use mathlib.Core.Path.{refl, sym}
 use native.Mathlib.Omega.{arith}
-use lib.ListN.{length-replicate}
 use lib.Seq.{length-take-le}
-use Rattle.program.specs.Parts.{PartsRead, Refuses}
-use Rattle.program.proofs.Lines.{file-read, file-refused}
 use borrow.Author.Needs.{needs}
 use Rattle.program.proofs.parts.read_parts.Statement.{statement}
 use Rattle.program.proofs.parts.read_parts.Tie as tie
@@ -28,19 +28,11 @@ slice-aggregate-m7-read c = sym (length-take-le _ _ (omega arith))
 m7-read-requires : tie.Need-m7-read-requires
 m7-read-requires c κs = search needs
 
-same-length : tie.Need-same-length
-same-length c = search needs
+parts-of-requires : tie.Need-parts-of-requires
+parts-of-requires c κs = search needs
 
 returns-2 : tie.Need-returns-2
-unfolding PartsRead
-returns-2 c = file-refused _ (c .if2 .taken) (file-read (c .before .before .before .before .before .before .before .before .before .find-file .last .0) (c .before .before .before .before .before .before .before .before .before .find-file .result .size) (omega (arith, c .before .before .before .before .before .before .before .before .before .find-file .ensures, length-replicate {A = ℕ} 32769 0)) _ refl (c .before .before .before .before .m7-read .ensures))
-
-same-length-2 : tie.Need-same-length-2
-same-length-2 c = search needs
-
-returns-3 : tie.Need-returns-3
-unfolding PartsRead
-returns-3 c = file-read (c .before .before .before .before .before .before .before .before .before .find-file .last .0) (c .before .before .before .before .before .before .before .before .before .find-file .result .size) (omega (arith, c .before .before .before .before .before .before .before .before .before .find-file .ensures, length-replicate {A = ℕ} 32769 0)) _ (sym (c .if2 .left)) (c .before .before .before .before .m7-read .ensures)
+returns-2 c = rw (c .parts-of .ensures) (file-parts _ (file-read (c .before .before .before .before .before .before .find-file .last .0) (c .before .before .before .before .before .before .find-file .result .size) (omega (arith, c .before .before .before .before .before .before .find-file .ensures, length-replicate {A = ℕ} 32769 0)) _ refl (c .before .m7-read .ensures)))
 
 pub read-parts-spec : {M : Type 1} → statement M
 read-parts-spec =
@@ -52,7 +44,5 @@ read-parts-spec =
     array-share-prefix-file
     slice-aggregate-m7-read
     m7-read-requires
-    same-length
-    returns-2
-    same-length-2
-    returns-3)
+    parts-of-requires
+    returns-2)

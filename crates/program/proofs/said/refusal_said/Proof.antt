@@ -1,6 +1,6 @@
+use Rattle.program.proofs.Laws.{refusal-parts}
 use native.Mathlib.Omega.{arith}
 use borrow.Author.Needs.{needs}
-use Rattle.program.proofs.Laws.{refusal-parts}
 use Rattle.program.proofs.said.refusal_said.Statement.{statement}
 use Rattle.program.proofs.said.refusal_said.Tie as tie
 
@@ -13,26 +13,11 @@ append-requires c κs = search needs
 number-said-requires : tie.Need-number-said-requires
 number-said-requires c κs = search needs
 
-slice-aggregate-append-2 : tie.Need-slice-aggregate-append-2
-slice-aggregate-append-2 c = search needs
-
-append-requires-2 : tie.Need-append-requires-2
-append-requires-2 c κs = search needs
-
 number-said-requires-2 : tie.Need-number-said-requires-2
 number-said-requires-2 c κs = search needs
 
-slice-aggregate-append-3 : tie.Need-slice-aggregate-append-3
-slice-aggregate-append-3 c = search needs
-
-append-requires-3 : tie.Need-append-requires-3
-append-requires-3 c κs = search needs
-
-same-length : tie.Need-same-length
-same-length c = search needs
-
 returns : tie.Need-returns
-returns c = (omega arith, refusal-parts (c .before .before .before .before .before .before .before .before .before .before .before .before .before .before .before .before .before .before .before .before .append .ensures .1) (c .before .before .before .before .before .before .before .before .before .before .before .before .before .before .before .before .number-said .ensures) (c .before .before .before .before .before .before .before .before .before .before .before .append2 .ensures .1) (c .before .before .before .before .before .before .before .number-said2 .ensures) (c .before .before .append3 .ensures .1))
+returns c = ((omega arith, c .number-said2 .ensures .room), refusal-parts (c .before .before .before .before .append .ensures .1) (c .before .before .number-said .ensures) (c .number-said2 .ensures))
 
 pub refusal-said-spec : {M : Type 1} → statement M
 refusal-said-spec =
@@ -41,10 +26,5 @@ refusal-said-spec =
     slice-aggregate-append
     append-requires
     number-said-requires
-    slice-aggregate-append-2
-    append-requires-2
     number-said-requires-2
-    slice-aggregate-append-3
-    append-requires-3
-    same-length
     returns)
