@@ -9,10 +9,10 @@ use Rattle.feeding.proofs.answers.keep.Statement.{statement}
 use Rattle.feeding.proofs.answers.keep.Tie as tie
 
 enum-told : tie.Need-enum-told
-enum-told c = c .match .keys1
+enum-told c = search needs
 
 enum-told-2 : tie.Need-enum-told-2
-enum-told-2 c = c .match .keys2
+enum-told-2 c = search needs
 
 returns : tie.Need-returns
 returns c = search needs
