@@ -101,8 +101,18 @@ kind-out zero false t e = refl
 kind-out (suc n) true t e = refl
 kind-out (suc n) false t e = absurd (false≢true (sym e))
 
+pub none-fits : (n : ℕ) → 0 ≤ n
+none-fits n = omega arith
+
 no-output : (t o o′ : List ℕ) → length o ≡ mostLineBytes → o′ ≡ padded (take 0 t) (length o) → o′ ≡ replicate mostLineBytes 0
 no-output t o o′ l e = let n : length o - 0 ≡ mostLineBytes = omega arith in e ∙ ap (λ (k : ℕ). replicate k 0) n
+
+module _ {b o z t : List ℕ} (y : Finished b o z t) where
+  pub state-fits : length z ≤ length b
+  state-fits = omega (arith, state-length (y .after), y .state)
+
+  pub short-fits : length t ≤ length o
+  short-fits = omega (arith, y .short, y .output)
 
 module _ {b b′ out₁ z t : List ℕ} (o : Bool) (y : Finished b out₁ z t) (e : b′ ≡ padded z (length b)) {flag : ℕ} (f : OfState z (λ st. flag ≡ st .nflag)) {h : Bool} (w : h ≡ withheldBy flag o) where
   kept : b′ ≡ z

@@ -202,7 +202,7 @@ module _ (l : List ℕ) (n : ℕ) (t b o : List ℕ) where
         by true p true q false s = no-state p ot q ob s (told₂ 2 (e ∙ rw (p, q, s) refl))
         by true p true q true s = absurd (let w : r ≡ 0 = e ∙ rw (p, q, s) refl in omega arith)
 
-    pub none-first : r < 1 → (sizes ≡ true) × (checks t ≡ true) × (stateChecks b ≡ true)
+    pub none-first : r ≤ 0 → (sizes ≡ true) × (checks t ≡ true) × (stateChecks b ≡ true)
     unfolding hostRefusal pick
     none-first h = by sizes refl (checks t) refl (stateChecks b) refl
       where

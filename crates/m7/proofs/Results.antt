@@ -5,9 +5,11 @@ use mathlib.Core.Bool.{true, false}
 use mathlib.Core.List.{List, []}
 use native.Mathlib.Omega.{arith}
 use borrow.Author.Tests.{eq-eqb, ne-eqb}
+use mir.Syntax.{w8}
+use mir.Val.{Fits}
 use lib.Dec.{eqb}
-use lib.ListN.{length, replicate, length-replicate}
-use Rattle.macros.specs.Bounds.{mostFileBytes, mostMacros}
+use lib.ListN.{length, getD, replicate, length-replicate}
+use Rattle.macros.specs.Bounds.{mostFileBytes, mostLineBytes, mostMacros}
 use Rattle.macros.specs.Refusals.{number, place, hostNumber, fileNumber}
 use Rattle.macros.specs.Macro.{Table, pick}
 use Rattle.macros.specs.Formed.{Octets}
@@ -23,6 +25,7 @@ use Rattle.tables.proofs.Basics.{clash, and-both}
 use Rattle.tables.proofs.Tables.{checkExact}
 use Rattle.lines.specs.State.{fresh}
 use Rattle.states.specs.Form.{stateBytes, stateForm}
+use Rattle.states.proofs.Held.{octets-of}
 use Rattle.scanning.specs.Scan.{faultOf}
 use Rattle.reading.specs.File.{Lent, Onto}
 use Rattle.scanning.specs.declared.Fault.{Fault}
@@ -43,6 +46,20 @@ use Rattle.m7.proofs.Places.{onto-place, extent, out-extent}
 
 gives : {w v : Result} {a : Answer} {b : List ℕ} → w ≡ v → a ≡ v .answer → b ≡ v .memory → Gives w a b
 gives e f g = record { answers = f ∙ sym (ap (λ (x : Result). x .answer) e); holds = g ∙ sym (ap (λ (x : Result). x .memory) e) }
+
+-- an answer without a place, or without a length
+pub no-place : 0 ≤ mostFileBytes
+no-place = omega arith
+
+pub no-size : 0 ≤ mostLineBytes
+no-size = omega arith
+
+-- the bytes of a slice
+pub octets-given : (t : List ℕ) → ((i : ℕ) → Fits w8 (getD t i 0)) → Octets t
+octets-given t h = octets-of t (λ i. omega (arith, h i))
+
+pub same-fits : {n m k : ℕ} → n ≡ k → m ≡ k → n ≤ m
+same-fits e f = omega arith
 
 -- READING
 

@@ -63,6 +63,12 @@ module _ {tb : List ℕ} {count : ℕ} {b t z tx : List ℕ} (y : Started tb cou
   pub state-fits : length b ≤ length z
   state-fits = omega (arith, state-length (y .state), y .after)
 
+  pub state-fits-in : {n : ℕ} → n ≡ length z → length b ≤ n
+  state-fits-in e = omega (arith, state-fits, e)
+
+  pub line-fits : {n : ℕ} → n ≡ length tx → length t ≤ n
+  line-fits e = omega (arith, y .short, y .text, e)
+
   same-state : {z₁ : List ℕ} → z₁ ≡ padded b (length z) → z₁ ≡ b
   same-state e = padded-whole b (length z) (state-length (y .state) ∙ sym (y .after)) e
 

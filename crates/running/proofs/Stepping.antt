@@ -5,6 +5,8 @@ use mathlib.Core.Path.{_≡_, refl, ap, sym, _∙_, subst}
 use mathlib.Core.Bool.{Bool, true, false}
 use mathlib.Core.List.{List}
 use native.Mathlib.Omega.{arith}
+use mir.Syntax.{w64}
+use mir.Val.{Fits}
 use lib.ListN.{length, getD, take, drop}
 use lib.Seq.{length-take-le}
 use Rattle.macros.specs.Bounds.{mostMacros, mostLineBytes}
@@ -42,11 +44,23 @@ slotPart tb k = take (1024 * k + 1024 - 1024 * k) (drop (1024 * k) tb)
 part-slot : (tb : List ℕ) (k : ℕ) → slotPart tb k ≡ take slotBytes (drop (slotBytes * k) tb)
 part-slot tb k = let e : 1024 * k + 1024 - 1024 * k ≡ 1024 = omega arith in rw e refl
 
+pub part-order : (k : ℕ) → 1024 * k ≤ 1024 * k + 1024
+part-order k = omega arith
+
 -- a pass's answer, known
 done-as : {b b′ t out out′ s mk mk′ : List ℕ} {r : Passed} → Passes s t b b′ out out′ mk mk′ r → (r₂ : Passed) → r ≡ r₂ → Passes s t b b′ out out′ mk mk′ r₂
 done-as p r₂ e = rw e at p
 
 module _ {tb kn b tx nw mk fl : List ℕ} {count budget : ℕ} {a : Stand} (y : Ready tb kn b tx nw mk fl count budget a) where
+  pub size-fits : a .size ≤ length tx
+  size-fits = omega (arith, y .size, y .text)
+
+  count-few : count ≤ mostMacros
+  count-few = omega (arith, y .table .counted, y .table .isTable .accepted .count)
+
+  pub due-lent : (a .due ≤ length fl) × (a .begun ≤ budget)
+  due-lent = (omega (arith, y .due, count-few, y .flags), y .begun)
+
   left-here : LineLeft b tx (a .size)
   left-here = record { state = y .state; size = y .size; bytes = y .bytes; laid = y .laid }
 
@@ -85,17 +99,26 @@ module _ {tb kn b tx nw mk fl : List ℕ} {count budget : ℕ} {a : Stand} (y : 
       opened : OpenBelow fl (a .due) (suc k)
       opened = d .1
 
-      pub room : a .begun < budget
+      room : a .begun < budget
       room = d .2
 
       in-use : k < count
       in-use = omega (arith, opened .below, y .due)
 
-      pub few : count ≤ mostMacros
-      few = omega (arith, y .table .counted, y .table .isTable .accepted .count)
+      few : count ≤ mostMacros
+      few = count-few
 
       pub in-table : 1024 * k + 1024 ≤ length tb
       in-table = omega (arith, in-use, few, table-size tb (y .table .macros) (y .table .isTable))
+
+      pub start-fits : Fits w64 (1024 * k)
+      start-fits = omega (arith, in-use, few)
+
+      pub end-fits : Fits w64 (1024 * k + 1024)
+      end-fits = omega (arith, in-use, few)
+
+      pub begun-fits : Fits w64 budget → Fits w64 (a .begun + 1)
+      begun-fits h = omega (arith, room, h)
 
       flag-there : k < length fl
       flag-there = omega (arith, in-use, few, y .flags)
@@ -267,6 +290,9 @@ module _ {tb tx nw fl : List ℕ} {count : ℕ} {r : Passed} {on : Stand} where
 module _ {tb kn b b′ tx tx′ nw′ mk′ fl fl′ : List ℕ} {count budget : ℕ} {a : Stand} {r : Next} (x : Steps tb kn b b′ tx tx′ nw′ mk′ fl fl′ count budget a r) where
   pub goes-on : {z : Stand} → r ≡ On z → GoesOn tb kn b b′ tx tx′ nw′ mk′ fl fl′ count budget a (On z)
   goes-on e = rw e at (x .goes)
+
+  pub falls : {z : Stand} → r ≡ On z → budget - z .begun < budget - a .begun
+  falls e = let g = goes-on e in omega (arith, g .0 .begun, g .1)
 
   pub comes-over : {z : Ended} → r ≡ Over z → {b₀ tx₀ fl₀ : List ℕ} {a₀ : Stand} → ((whole : Line) (ms : Table) → IsTable tb ms → length ms ≡ count → Stands whole ms budget b₀ tx₀ fl₀ a₀ → Stands whole ms budget b tx fl a)
       → Ends tb b₀ b′ tx₀ tx′ fl₀ count budget a₀ z

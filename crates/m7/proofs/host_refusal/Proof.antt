@@ -1,5 +1,4 @@
 use denote.Ref.{now}
-use borrow.Author.Needs.{needs}
 use borrow.Author.Tests.{not-true, not-false}
 use Rattle.m7.proofs.FeedResults.{due-table, due-state, due-output, due-none, due-other, due-nothing}
 use Rattle.m7.proofs.host_refusal.Statement.{statement}
@@ -15,13 +14,13 @@ returns-3 : tie.Need-returns-3
 returns-3 c = due-output (now (c .before .before .before .before .before .before .args .table)) (now (c .before .before .before .before .before .before .args .state)) (now (c .before .before .before .before .before .before .args .output)) (c .before .before .if1 .left) (c .before .if2 .left) (c .if3 .taken)
 
 is-table-requires : tie.Need-is-table-requires
-is-table-requires c κs = search needs
+is-table-requires c κs = tt
 
 returns-4 : tie.Need-returns-4
 returns-4 c = due-none (now (c .before .before .before .before .before .before .before .before .args .table)) (now (c .before .before .before .before .before .before .before .before .args .state)) (now (c .before .before .before .before .before .before .before .before .args .output)) (c .before .before .before .before .if1 .left) (c .before .before .before .if2 .left) (c .before .before .if3 .left) (c .before .is-table .ensures) (not-true _ (c .if4 .taken))
 
 is-state-requires : tie.Need-is-state-requires
-is-state-requires c κs = search needs
+is-state-requires c κs = tt
 
 returns-5 : tie.Need-returns-5
 returns-5 c = due-other (now (c .before .before .before .before .before .before .before .before .before .before .args .table)) (now (c .before .before .before .before .before .before .before .before .before .before .args .state)) (now (c .before .before .before .before .before .before .before .before .before .before .args .output)) (c .before .before .before .before .before .before .if1 .left) (c .before .before .before .before .before .if2 .left) (c .before .before .before .before .if3 .left) (c .before .before .before .is-table .ensures) (not-false _ (c .before .before .if4 .left)) (c .before .is-state .ensures) (not-true _ (c .if5 .taken))

@@ -1,65 +1,64 @@
-use native.Mathlib.Omega.{arith}
+use mathlib.Core.Path.{refl}
 use denote.Ref.{now}
-use Rattle.states.proofs.Held.{octets-of}
+use Rattle.m7.proofs.Results.{no-place, octets-given}
 use Rattle.m7.proofs.FeedResults.{refused-first, none-first, lent, is-small, is-fed}
-use borrow.Author.Needs.{needs}
 use Rattle.m7.proofs.m7_feed.Statement.{statement}
 use Rattle.m7.proofs.m7_feed.Tie as tie
 
 host-refusal-requires : tie.Need-host-refusal-requires
-host-refusal-requires c κs = search needs
+host-refusal-requires c κs = tt
 
 refusal-requires : tie.Need-refusal-requires
-refusal-requires c κs = search needs
+refusal-requires c κs = no-place
 
 same-length : tie.Need-same-length
-same-length c = search needs
+same-length c = refl
 
 same-length-2 : tie.Need-same-length-2
-same-length-2 c = search needs
+same-length-2 c = refl
 
 same-length-3 : tie.Need-same-length-3
-same-length-3 c = search needs
+same-length-3 c = refl
 
 returns : tie.Need-returns
 returns c =
     let a = c .before .before .before .before .before .before .before .before .before .before .args in
-    let ot = octets-of (now (a .table)) (λ i. omega (arith, c .before .before .before .before .before .before .before .before .before .slice-known .given i)) in
-    let ob = octets-of (now (a .state)) (λ i. omega (arith, c .before .before .before .before .before .before .before .before .slice-known2 .given i)) in
+    let ot = octets-given (now (a .table)) (c .before .before .before .before .before .before .before .before .before .slice-known .given) in
+    let ob = octets-given (now (a .state)) (c .before .before .before .before .before .before .before .before .slice-known2 .given) in
     refused-first (now (a .line)) (a .budget) (now (a .table)) (now (a .state)) (now (a .output)) (c .before .before .host-refusal .ensures) ot ob (c .before .if1 .taken) (c .refusal .ensures)
 
 feed-requires : tie.Need-feed-requires
 feed-requires c κs =
     let a = c .before .before .before .before .before .before .before .before .before .before .before .before .args in
-    let ot = octets-of (now (a .table)) (λ i. omega (arith, c .before .before .before .before .before .before .before .before .before .before .before .slice-known .given i)) in
-    let ob = octets-of (now (a .state)) (λ i. omega (arith, c .before .before .before .before .before .before .before .before .before .before .slice-known2 .given i)) in
-    let z = none-first (now (a .line)) (a .budget) (now (a .table)) (now (a .state)) (now (a .output)) (c .before .before .before .before .host-refusal .ensures) (omega (arith, c .before .before .before .if1 .left)) in
+    let ot = octets-given (now (a .table)) (c .before .before .before .before .before .before .before .before .before .before .before .slice-known .given) in
+    let ob = octets-given (now (a .state)) (c .before .before .before .before .before .before .before .before .before .before .slice-known2 .given) in
+    let z = none-first (now (a .line)) (a .budget) (now (a .table)) (now (a .state)) (now (a .output)) (c .before .before .before .before .host-refusal .ensures) (c .before .before .before .if1 .left) in
     lent (now (a .line)) (a .budget) (now (a .table)) (now (a .state)) (now (a .output)) (z .0) ot (z .1) ob (z .2)
 
 answer-of-requires : tie.Need-answer-of-requires
 answer-of-requires c κs =
     let a = c .before .before .before .before .before .before .before .before .before .before .before .before .before .before .before .before .before .before .before .args in
-    let ot = octets-of (now (a .table)) (λ i. omega (arith, c .before .before .before .before .before .before .before .before .before .before .before .before .before .before .before .before .before .before .slice-known .given i)) in
-    let ob = octets-of (now (a .state)) (λ i. omega (arith, c .before .before .before .before .before .before .before .before .before .before .before .before .before .before .before .before .before .slice-known2 .given i)) in
-    let z = none-first (now (a .line)) (a .budget) (now (a .table)) (now (a .state)) (now (a .output)) (c .before .before .before .before .before .before .before .before .before .before .before .host-refusal .ensures) (omega (arith, c .before .before .before .before .before .before .before .before .before .before .if1 .left)) in
-    let ol = octets-of (now (a .line)) (λ i. omega (arith, c .before .before .before .before .before .before .before .before .before .before .before .before .before .before .before .before .shared-slice-known .given i)) in
+    let ot = octets-given (now (a .table)) (c .before .before .before .before .before .before .before .before .before .before .before .before .before .before .before .before .before .before .slice-known .given) in
+    let ob = octets-given (now (a .state)) (c .before .before .before .before .before .before .before .before .before .before .before .before .before .before .before .before .before .slice-known2 .given) in
+    let z = none-first (now (a .line)) (a .budget) (now (a .table)) (now (a .state)) (now (a .output)) (c .before .before .before .before .before .before .before .before .before .before .before .host-refusal .ensures) (c .before .before .before .before .before .before .before .before .before .before .if1 .left) in
+    let ol = octets-given (now (a .line)) (c .before .before .before .before .before .before .before .before .before .before .before .before .before .before .before .before .shared-slice-known .given) in
     is-small (now (a .line)) (a .budget) (now (a .table)) (now (a .state)) (now (a .output)) (z .0) ot (z .1) ob (z .2) (c .before .before .before .before .before .before .feed .ensures) ol
 
 same-length-4 : tie.Need-same-length-4
-same-length-4 c = search needs
+same-length-4 c = c .before .before .before .before .before .before .before .feed .kept .0
 
 same-length-5 : tie.Need-same-length-5
-same-length-5 c = search needs
+same-length-5 c = c .before .before .before .before .before .before .before .feed .kept .1 .0
 
 same-length-6 : tie.Need-same-length-6
-same-length-6 c = search needs
+same-length-6 c = c .before .before .before .before .before .before .before .feed .kept .1 .1 .1 .1 .0
 
 returns-2 : tie.Need-returns-2
 returns-2 c =
     let a = c .before .before .before .before .before .before .before .before .before .before .before .before .before .before .before .before .before .before .before .before .args in
-    let ot = octets-of (now (a .table)) (λ i. omega (arith, c .before .before .before .before .before .before .before .before .before .before .before .before .before .before .before .before .before .before .before .slice-known .given i)) in
-    let ob = octets-of (now (a .state)) (λ i. omega (arith, c .before .before .before .before .before .before .before .before .before .before .before .before .before .before .before .before .before .before .slice-known2 .given i)) in
-    let z = none-first (now (a .line)) (a .budget) (now (a .table)) (now (a .state)) (now (a .output)) (c .before .before .before .before .before .before .before .before .before .before .before .before .host-refusal .ensures) (omega (arith, c .before .before .before .before .before .before .before .before .before .before .before .if1 .left)) in
+    let ot = octets-given (now (a .table)) (c .before .before .before .before .before .before .before .before .before .before .before .before .before .before .before .before .before .before .before .slice-known .given) in
+    let ob = octets-given (now (a .state)) (c .before .before .before .before .before .before .before .before .before .before .before .before .before .before .before .before .before .before .slice-known2 .given) in
+    let z = none-first (now (a .line)) (a .budget) (now (a .table)) (now (a .state)) (now (a .output)) (c .before .before .before .before .before .before .before .before .before .before .before .before .host-refusal .ensures) (c .before .before .before .before .before .before .before .before .before .before .before .if1 .left) in
     is-fed (now (a .line)) (a .budget) (now (a .table)) (now (a .state)) (now (a .output)) (z .0) ot (z .1) ob (z .2) (c .before .before .before .before .before .before .before .feed .ensures) (c .answer-of .ensures)
 
 pub m7-feed-spec : {M : Type 1} → statement M

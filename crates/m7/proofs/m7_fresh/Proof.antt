@@ -1,23 +1,23 @@
 use borrow.Author.Needs.{needs}
 use denote.Ref.{now}
-use Rattle.m7.proofs.Results.{fresh-other, fresh-stored}
+use Rattle.m7.proofs.Results.{no-place, fresh-other, fresh-stored}
 use Rattle.m7.proofs.m7_fresh.Statement.{statement}
 use Rattle.m7.proofs.m7_fresh.Tie as tie
 
 refusal-requires : tie.Need-refusal-requires
-refusal-requires c κs = search needs
+refusal-requires c κs = no-place
 
 returns : tie.Need-returns
 returns c = fresh-other (now (c .before .before .before .args .state)) (c .before .if1 .taken) (c .refusal .ensures)
 
 put-fresh-requires : tie.Need-put-fresh-requires
-put-fresh-requires c κs = search needs
+put-fresh-requires c κs = c .before .if1 .left
 
 taken-requires : tie.Need-taken-requires
 taken-requires c κs = search needs
 
 same-length : tie.Need-same-length
-same-length c = search needs
+same-length c = c .before .before .before .put-fresh .kept .0
 
 returns-2 : tie.Need-returns-2
 returns-2 c = fresh-stored (now (c .before .before .before .before .before .before .before .args .state)) (c .before .before .before .before .before .if1 .left) (c .before .before .before .put-fresh .ensures) (c .taken .ensures)

@@ -2,13 +2,12 @@ use Prim.Native.Nat.{ℕ}
 use mathlib.Core.Path.{refl, sym}
 use denote.Ref.{now}
 use lib.ListN.{length-replicate}
-use Rattle.m7.proofs.Results.{read-other}
-use borrow.Author.Needs.{needs}
+use Rattle.m7.proofs.Results.{no-place, read-other}
 use Rattle.m7.proofs.m7_read.Statement.{statement}
 use Rattle.m7.proofs.m7_read.Tie as tie
 
 refusal-requires : tie.Need-refusal-requires
-refusal-requires c κs = search needs
+refusal-requires c κs = no-place
 
 returns : tie.Need-returns
 returns c = read-other (now (c .before .before .before .before .args .file)) (now (c .before .before .before .before .args .table)) (c .before .if1 .taken) (c .refusal .ensures)
@@ -20,10 +19,10 @@ read-new-requires : tie.Need-read-new-requires
 read-new-requires c κs = (refl, c .before .before .if1 .left)
 
 same-length : tie.Need-same-length
-same-length c = search needs
+same-length c = c .before .before .before .read-new .kept .1 .1 .0
 
 returns-2 : tie.Need-returns-2
-returns-2 c = search needs
+returns-2 c = c .before .before .before .read-new .ensures
 
 pub m7-read-spec : {M : Type 1} → statement M
 m7-read-spec =

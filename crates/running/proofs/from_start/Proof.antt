@@ -2,12 +2,11 @@ use Prim.Native.Nat.{ℕ}
 use mathlib.Core.Path.{sym}
 use lib.ListN.{length-replicate}
 use Rattle.running.proofs.Starting.{ready-start, runs-start}
-use borrow.Author.Needs.{needs}
 use Rattle.running.proofs.from_start.Statement.{statement}
 use Rattle.running.proofs.from_start.Tie as tie
 
 kind-table-requires : tie.Need-kind-table-requires
-kind-table-requires c κs = search needs
+kind-table-requires c κs = tt
 
 slice-aggregate-all-passes : tie.Need-slice-aggregate-all-passes
 slice-aggregate-all-passes c = sym (length-replicate {A = ℕ} 1054 0)
@@ -22,10 +21,10 @@ all-passes-requires : tie.Need-all-passes-requires
 all-passes-requires c κs = ready-start (c .before .before .before .before .before .before .before .before .before .before .pre) (c .before .before .before .before .before .before .kind-table .ensures) (c .before .before .before .before .before .before .before .before .before .before .args .budget)
 
 same-length : tie.Need-same-length
-same-length c = search needs
+same-length c = c .before .before .before .before .before .before .before .all-passes .kept .1 .1 .1 .0
 
 same-length-2 : tie.Need-same-length-2
-same-length-2 c = search needs
+same-length-2 c = c .before .before .before .before .before .before .before .all-passes .kept .1 .1 .1 .1 .0
 
 returns : tie.Need-returns
 returns c = runs-start (c .before .before .before .before .before .before .before .all-passes .ensures)

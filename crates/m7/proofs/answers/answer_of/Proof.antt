@@ -1,47 +1,47 @@
 use native.Mathlib.Omega.{arith}
 use Rattle.lines.specs.Feeding.{numberOf, placeOf, kindNumber}
 use Rattle.m7.specs.Answering.{told}
+use Rattle.m7.proofs.Results.{no-place, no-size}
 use Rattle.m7.proofs.FeedResults.{told-as, small-as}
-use borrow.Author.Needs.{needs}
 use Rattle.m7.proofs.answers.answer_of.Statement.{statement}
 use Rattle.m7.proofs.answers.answer_of.Tie as tie
 
 enum-known-fed : tie.Need-enum-known-fed
-enum-known-fed c = search needs
+enum-known-fed c = c .match .keys1
 
 answer-requires : tie.Need-answer-requires
-answer-requires c κs = let s = small-as (c .before .fed .given .1) (c .before .before .before .pre) in (omega arith, s .passes, s .size)
+answer-requires c κs = let s = small-as (c .before .fed .given .1) (c .before .before .before .pre) in (no-place, s .passes, s .size)
 
 returns : tie.Need-returns
 unfolding told numberOf placeOf kindNumber
 returns c = told-as (c .before .before .fed .given .1) (c .answer .ensures)
 
 enum-known-fed-2 : tie.Need-enum-known-fed-2
-enum-known-fed-2 c = search needs
+enum-known-fed-2 c = c .match .keys2
 
 answer-requires-2 : tie.Need-answer-requires-2
-answer-requires-2 c κs = let s = small-as (c .before .fed2 .given .1) (c .before .before .before .pre) in (omega arith, s .passes, omega arith)
+answer-requires-2 c κs = let s = small-as (c .before .fed2 .given .1) (c .before .before .before .pre) in (no-place, s .passes, no-size)
 
 returns-2 : tie.Need-returns-2
 unfolding told numberOf placeOf kindNumber
 returns-2 c = told-as (c .before .before .fed2 .given .1) (c .answer2 .ensures)
 
 enum-known-fed-3 : tie.Need-enum-known-fed-3
-enum-known-fed-3 c = search needs
+enum-known-fed-3 c = c .match .keys3
 
 answer-requires-3 : tie.Need-answer-requires-3
-answer-requires-3 c κs = let s = small-as (c .before .fed3 .given .1) (c .before .before .before .pre) in (omega arith, s .passes, omega arith)
+answer-requires-3 c κs = let s = small-as (c .before .fed3 .given .1) (c .before .before .before .pre) in (no-place, s .passes, no-size)
 
 returns-3 : tie.Need-returns-3
 unfolding told numberOf placeOf kindNumber
 returns-3 c = told-as (c .before .before .fed3 .given .1) (c .answer3 .ensures)
 
 enum-known-fed-4 : tie.Need-enum-known-fed-4
-enum-known-fed-4 c = search needs
+enum-known-fed-4 c = c .match .keys4
 
 refused-requires : tie.Need-refused-requires
 unfolding placeOf
-refused-requires c κs = let s = small-as (c .before .fed4 .given .1) (c .before .before .before .pre) in (s .place, s .passes)
+refused-requires c κs = let s = small-as (c .before .fed4 .given .1) (c .before .before .before .pre) in (s .place, omega (arith, s .passes))
 
 returns-4 : tie.Need-returns-4
 unfolding told numberOf placeOf kindNumber

@@ -1,80 +1,79 @@
-use native.Mathlib.Omega.{arith}
 use Rattle.macros.specs.Refusals.{number, place, hostNumber, lineNumber, workNumber}
+use Rattle.m7.proofs.Results.{no-place, no-size}
 use Rattle.m7.proofs.FeedResults.{because, because-macro, because-work, macro-place}
-use borrow.Author.Needs.{needs}
 use Rattle.m7.proofs.answers.refused.Statement.{statement}
 use Rattle.m7.proofs.answers.refused.Tie as tie
 
 enum-told : tie.Need-enum-told
-enum-told c = search needs
+enum-told c = c .match .keys1
 
 answer-requires : tie.Need-answer-requires
-answer-requires c κs = search needs
+answer-requires c κs = (no-place, c .before .before .pre .1, no-size)
 
 returns : tie.Need-returns
 unfolding number place hostNumber
 returns c = because (c .before .enum-told .given .1) (c .answer .ensures)
 
 enum-told-2 : tie.Need-enum-told-2
-enum-told-2 c = search needs
+enum-told-2 c = c .match .keys2
 
 answer-requires-2 : tie.Need-answer-requires-2
-answer-requires-2 c κs = search needs
+answer-requires-2 c κs = (no-place, c .before .before .pre .1, no-size)
 
 returns-2 : tie.Need-returns-2
 unfolding number place lineNumber
 returns-2 c = because (c .before .enum-told2 .given .1) (c .answer2 .ensures)
 
 enum-told-3 : tie.Need-enum-told-3
-enum-told-3 c = search needs
+enum-told-3 c = c .match .keys3
 
 answer-requires-3 : tie.Need-answer-requires-3
-answer-requires-3 c κs = search needs
+answer-requires-3 c κs = (no-place, c .before .before .pre .1, no-size)
 
 returns-3 : tie.Need-returns-3
 unfolding number place lineNumber
 returns-3 c = because (c .before .enum-told3 .given .1) (c .answer3 .ensures)
 
 enum-told-4 : tie.Need-enum-told-4
-enum-told-4 c = search needs
+enum-told-4 c = c .match .keys4
 
 answer-requires-4 : tie.Need-answer-requires-4
-answer-requires-4 c κs = search needs
+answer-requires-4 c κs = (no-place, c .before .before .pre .1, no-size)
 
 returns-4 : tie.Need-returns-4
 unfolding number place lineNumber
 returns-4 c = because (c .before .enum-told4 .given .1) (c .answer4 .ensures)
 
 enum-known-w : tie.Need-enum-known-w
-enum-known-w c = search needs
+enum-known-w c = c .match .keys5
 
 file-number-requires : tie.Need-file-number-requires
-file-number-requires c κs = search needs
+file-number-requires c κs = tt
 
 answer-requires-5 : tie.Need-answer-requires-5
-answer-requires-5 c κs = (macro-place (c .before .before .w .given .1) (c .before .before .before .before .pre .0), c .before .before .before .before .pre .1, omega arith)
+answer-requires-5 c κs = (macro-place (c .before .before .w .given .1) (c .before .before .before .before .pre .0), c .before .before .before .before .pre .1, no-size)
 
 returns-5 : tie.Need-returns-5
 returns-5 c = because-macro (c .before .before .before .w .given .1) (c .before .file-number .ensures) (c .answer5 .ensures)
 
 enum-told-5 : tie.Need-enum-told-5
-enum-told-5 c = search needs
+enum-told-5 c = c .match .keys6
 
 answer-requires-6 : tie.Need-answer-requires-6
-answer-requires-6 c κs = search needs
+answer-requires-6 c κs = (no-place, c .before .before .pre .1, no-size)
 
 returns-6 : tie.Need-returns-6
 unfolding number place workNumber
 returns-6 c = because (c .before .enum-told5 .given .1) (c .answer6 .ensures)
 
 enum-known-w-2 : tie.Need-enum-known-w-2
-enum-known-w-2 c = search needs
+enum-known-w-2 c = c .match .keys7
 
 work-number-requires : tie.Need-work-number-requires
-work-number-requires c κs = search needs
+work-number-requires c κs = tt
 
 answer-requires-7 : tie.Need-answer-requires-7
-answer-requires-7 c κs = search needs
+answer-requires-7 c κs = (no-place, c .before .before .before .before .pre .1, no-size)
 
 returns-7 : tie.Need-returns-7
 returns-7 c = because-work (c .before .before .before .w2 .given .1) (c .before .work-number .ensures) (c .answer7 .ensures)

@@ -6,13 +6,13 @@ use Rattle.running.proofs.passes.after_pass.Statement.{statement}
 use Rattle.running.proofs.passes.after_pass.Tie as tie
 
 enum-known-passed : tie.Need-enum-known-passed
-enum-known-passed c = search needs
+enum-known-passed c = c .match .keys1
 
 enum-told : tie.Need-enum-told
-enum-told c = search needs
+enum-told c = c .match .keys2
 
 ended-by-requires : tie.Need-ended-by-requires
-ended-by-requires c κs = search needs
+ended-by-requires c κs = tt
 
 returns : tie.Need-returns
 returns c = after-refused (c .before .enum-told .given .1) (c .ended-by .ensures)
@@ -27,16 +27,16 @@ mul-close : tie.Need-mul-close
 mul-close c = search needs
 
 shared-slice-read-close : tie.Need-shared-slice-read-close
-shared-slice-read-close c = search needs
+shared-slice-read-close c = c .before .before .before .before .before .before .before .before .before .before .before .before .before .before .before .pre .slot
 
 close-requires : tie.Need-close-requires
-close-requires c κs = search needs
+close-requires c κs = c .before .before .before .before .before .before .before .before .before .before .before .before .before .before .before .pre .flag
 
 same-length : tie.Need-same-length
-same-length c = search needs
+same-length c = c .before .before .before .before .before .before .before .lay-out .kept .0
 
 same-length-2 : tie.Need-same-length-2
-same-length-2 c = search needs
+same-length-2 c = c .before .before .close .kept .0
 
 returns-2 : tie.Need-returns-2
 returns-2 c = after-some (c .before .before .before .before .before .before .before .before .before .before .before .before .passed .given .1) (c .before .before .before .before .before .before .before .before .before .before .if1 .taken) (c .before .before .before .before .before .before .before .lay-out .ensures) (c .before .before .close .ensures)

@@ -1,12 +1,11 @@
 use Prim.Native.Nat.{_-_}
 use mathlib.Core.Path.{_≡_, refl, _∙_}
-use native.Mathlib.Omega.{arith}
 use lib.ListN.{length}
 use Rattle.macros.specs.Macro.{Table}
 use Rattle.lines.specs.Line.{Line}
 use Rattle.memories.specs.Memory.{IsTable}
 use Rattle.running.specs.Passing.{Stands, Ready}
-use Rattle.running.proofs.Stepping.{goes-on, comes-over}
+use Rattle.running.proofs.Stepping.{goes-on, falls, comes-over}
 use Rattle.running.proofs.passes.all_passes.Statement.{statement}
 use Rattle.running.proofs.passes.all_passes.Tie as tie
 
@@ -26,7 +25,7 @@ enum-known-next : tie.Need-enum-known-next Inv-loop μ-loop
 enum-known-next c = c .match .keys1
 
 loop-less : tie.Need-loop-less Inv-loop μ-loop
-loop-less c = omega (arith, goes-on (c .before .before .before .before .before .before .before .before .before .before .before .before .before .step .ensures) (c .before .next .given .1) .0 .begun, goes-on (c .before .before .before .before .before .before .before .before .before .before .before .before .before .step .ensures) (c .before .next .given .1) .1)
+loop-less c = falls (c .before .before .before .before .before .before .before .before .before .before .before .before .before .step .ensures) (c .before .next .given .1)
 
 loop-again : tie.Need-loop-again Inv-loop μ-loop
 loop-again c = let g = goes-on (c .before .before .before .before .before .before .before .before .before .before .before .before .before .step .ensures) (c .before .next .given .1) in (g .0, (c .before .before .before .before .before .before .before .before .before .before .before .before .before .step .kept .1 .1 .1 .0 ∙ c .before .before .before .before .before .before .before .before .before .before .before .before .before .before .before .before .before .before .before .loop .inv .1 .0, c .before .before .before .before .before .before .before .before .before .before .before .before .before .step .kept .1 .1 .1 .1 .0 ∙ c .before .before .before .before .before .before .before .before .before .before .before .before .before .before .before .before .before .before .before .loop .inv .1 .1, c .before .before .before .before .before .before .before .before .before .before .before .before .before .step .kept .1 .1 .1 .1 .1 .0 ∙ c .before .before .before .before .before .before .before .before .before .before .before .before .before .before .before .before .before .before .before .loop .inv .1 .2, c .before .before .before .before .before .before .before .before .before .before .before .before .before .step .kept .1 .1 .1 .1 .1 .1 .0 ∙ c .before .before .before .before .before .before .before .before .before .before .before .before .before .before .before .before .before .before .before .loop .inv .1 .3, c .before .before .before .before .before .before .before .before .before .before .before .before .before .step .kept .1 .1 .1 .1 .1 .1 .1 .0 ∙ c .before .before .before .before .before .before .before .before .before .before .before .before .before .before .before .before .before .before .before .loop .inv .1 .4), λ whole ms h l s. g .2 whole ms h l (c .before .before .before .before .before .before .before .before .before .before .before .before .before .before .before .before .before .before .before .loop .inv .2 whole ms h l s))

@@ -5,7 +5,7 @@ use Rattle.running.proofs.passes.next_due.Statement.{statement}
 use Rattle.running.proofs.passes.next_due.Tie as tie
 
 is-control-requires : tie.Need-is-control-requires
-is-control-requires c κs = search needs
+is-control-requires c κs = tt
 
 returns : tie.Need-returns
 returns c = due-control (c .before .is-control .ensures) (c .if1 .taken)
