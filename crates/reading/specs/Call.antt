@@ -173,6 +173,12 @@ TextFrom s a p old out n (NoEnd f q) = (q ≤ length s) × ((pl : Place) (i : �
 unfoldable pub padding : ℕ → List ℕ
 padding k = pick (eqb (k % 2) 0) [] (0 ∷ [])
 
+-- around a text from n + 4 up to e: first its padding, then its length, then the item of the letter i with a move of the code m
+abbrev pub PutStore : List ℕ → List ℕ → ℕ → ℕ → ℕ → ℕ → ℕ → Type 0
+PutStore old out n e i m r =
+    (r ≡ e + length (padding (e - (n + 4)))) × (padded : List ℕ) × (sized : List ℕ) × (length padded ≡ length old) × (length sized ≡ length old)
+    × Wrote old padded e (padding (e - (n + 4))) × Wrote padded sized (n + 2) (43 ∷ (e - (n + 4)) ∷ []) × Wrote sized out n ((72 + m) ∷ i ∷ [])
+
 -- behind the `:` of the letter i, whose move has the code m
 abbrev pub StoreFrom : List ℕ → ℕ → ℕ → List ℕ → List ℕ → ℕ → ℕ → ℕ → Ended → Type 0
 StoreFrom s a p old out n i m r = (v : Move) → m ≡ moveCode v → (cmd : Bool) (k : ℕ) → Ends s a p old out n 4 cmd k (λ pl. callText pl i v []) r

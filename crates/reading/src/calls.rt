@@ -25,7 +25,7 @@ ghost use Rattle.macros.specs.Read.{isSign};
 ghost use Rattle.tables.specs.Form.{four};
 ghost use Rattle.scanning.specs.Scan.{Reached, Here};
 ghost use Rattle.items.specs.Items.{Wrote};
-ghost use Rattle.reading.specs.Call.{CalledFrom, NamedFrom, Naming, TagNaming, Texting, TextFrom, SetFrom, TagFrom, StoreFrom, Unclosed, Asks, Starts, signsIn, markOf, signCode, padding, nextName, nextEnd, numberEnd, nameEnd};
+ghost use Rattle.reading.specs.Call.{CalledFrom, NamedFrom, Naming, TagNaming, Texting, TextFrom, SetFrom, TagFrom, StoreFrom, PutStore, Unclosed, Asks, Starts, signsIn, markOf, signCode, padding, nextName, nextEnd, numberEnd, nameEnd};
 
 // REFUSALS HANDED ON
 
@@ -295,6 +295,17 @@ fn pad(out: &mut [u8], n: usize, e: usize) -> usize
     e + 1
 }
 
+// Behind the text from n + 4 to e its zero, before it its length and the item of the letter i with the move m.
+fn put_store(out: &mut [u8], n: usize, e: usize, i: u8, m: u8) -> usize
+    requires { ⌜ (n + 4 ≤ e) × (e ≤ n + 54) × (e < length (now out)) × (m ≤ 4) ⌝ }
+    ensures { λ r. ⌜ PutStore (now (out .entry)) (now (out .exit)) n e i m r ⌝ }
+{
+    let end = pad(out, n + 4, e);
+    put_item(out, n + 2, 43, (e - (n + 4)) as u8);
+    put_item(out, n, 72 + m, i);
+    end
+}
+
 // Behind the `:` of the letter i with the move m. The text's length is stored when it is known.
 fn text_call(s: &[u8], out: &mut [u8], a: usize, at: usize, n: usize, i: u8, m: u8) -> Ended
     requires { ⌜ Reached (now s) a at × (n + 4 + 2 * (a + 513 - at) ≤ length (now out)) × (m ≤ 4) ⌝ }
@@ -311,9 +322,7 @@ fn text_call(s: &[u8], out: &mut [u8], a: usize, at: usize, n: usize, i: u8, m: 
     if b != b')' {
         return Ended::Refused(wrong_byte(b), z);
     }
-    let end = pad(out, n + 4, e);
-    put_item(out, n + 2, 43, (e - (n + 4)) as u8);
-    put_item(out, n, 72 + m, i);
+    let end = put_store(out, n, e, i, m);
     Ended::Upto(z + 1, end)
 }
 
