@@ -26,7 +26,7 @@ use Rattle.tables.specs.Form.{callItems, moveCode, four}
 use Rattle.scanning.specs.Scan.{run, Here, Calls, Reached, faultOf, wrongCall}
 use Rattle.scanning.specs.Number.{Counts, Digits, Kept, Behind, most}
 use Rattle.items.specs.Items.{Wrote}
-use Rattle.reading.specs.Call.{Names, Letter, Naming, Comes, Called, Ends, Sets, SetFrom, TagFrom, nextEnd, numberEnd, nameEnd}
+use Rattle.reading.specs.Call.{Names, Letter, Naming, Comes, Called, Ends, Sets, SetFrom, TagFrom, TagNaming, TagLetter, Unclosed, nextEnd, numberEnd, nameEnd, nextName}
 use Rattle.scanning.specs.declared.Fault.{Fault}
 use Rattle.scanning.specs.declared.Fault.the-variants.{BadCall}
 use Rattle.scanning.specs.declared.Next.{Next}
@@ -125,6 +125,9 @@ pub within-over : (t w : ℕ) → t < w → within 1 t w ≡ false
 unfolding within
 within-over t w h = simp (lt-leb _ _ h, and-false)
 
+pub unfit : (t v w : ℕ) → v ≡ most w → ((v < 1) ⊎ (t < v)) → within 1 t w ≡ false
+unfit t v w e x = ⊎-elim (λ h. within-zero t w (most-zero w v e h)) (λ h. within-over t w (most-over w v t e h)) x
+
 pub wrong-close : faultOf BadCall ≡ wrongCall 41
 unfolding wrongCall breaks among pick
 wrong-close = refl
@@ -156,7 +159,7 @@ module _ (s : List ℕ) (a p : ℕ) (old out : List ℕ) (n code i top : ℕ) {r
         → Comes s a cmd k (λ pl. calling pl (ph none)) p (λ pl. calling pl (ph (set-byte .4 .value))) q
     comes ph c g cmd k pl u t ms = set-byte .4 .answer (λ o. calling pl (ph o)) (g .eats pl) ms
 
-    pub set-wrong : (f : Fault) → (b ≡ 41 → ⊥) → faultOf f ≡ wrongCall b → SetFrom s a p old out n code i top (NoEnd f q)
+    set-wrong : (f : Fault) → (b ≡ 41 → ⊥) → faultOf f ≡ wrongCall b → SetFrom s a p old out n code i top (NoEnd f q)
     set-wrong f h j ph c g cmd k =
         ends-wrong s a p old out n 4 cmd k (λ pl. calling pl (ph none)) (ph (set-byte .4 .value)) (comes ph c g cmd k) (set-byte .1) f (set-byte .2 .1 refl)
         (g .others cmd (set-byte .4 .value) b (set-byte .2 .0) h) j
@@ -165,7 +168,7 @@ module _ (s : List ℕ) (a p : ℕ) (old out : List ℕ) (n code i top : ℕ) {r
       at-close : Here s a q 41
       at-close = rw h at (set-byte .1)
 
-      pub set-empty : m ≡ false → SetFrom s a p old out n code i top (NoEnd BadCall q)
+      set-empty : m ≡ false → SetFrom s a p old out n code i top (NoEnd BadCall q)
       unfolding closing
       set-empty j ph c g cmd k = by (set-byte .4 .value) (set-byte .4 .kept) (comes ph c g cmd k)
         where
@@ -185,12 +188,12 @@ module _ (s : List ℕ) (a p : ℕ) (old out : List ℕ) (n code i top : ℕ) {r
         number none t ph c g cmd k l e′ f = absurd (true≢false (sym j ∙ t .1))
         number (some w) t ph c g cmd k l e′ f = f w (t .0) l (g .closes cmd (some w))
 
-        pub set-unfit : ((w : ℕ) → v ≡ most w → within 1 top w ≡ false) → SetFrom s a p old out n code i top (NoEnd BadCall q)
+        set-unfit : ((w : ℕ) → v ≡ most w → within 1 top w ≡ false) → SetFrom s a p old out n code i top (NoEnd BadCall q)
         set-unfit z ph c g cmd k =
             number (set-byte .4 .value) (set-byte .4 .kept) ph c g cmd k (comes ph c g cmd k) (NoEnd BadCall q) (λ w t l f.
             ends-unfit s a p old out n 4 cmd k (λ pl. calling pl (ph none)) (ph (some w)) l at-close (c w) f (g .fits k w ∙ z w t))
 
-        pub set-done : {mid : List ℕ} → 1 ≤ v → v ≤ top → top ≤ 999999999 → Wrote old mid n (code ∷ i ∷ []) → Wrote mid out (n + 2) (four v)
+        set-done : {mid : List ℕ} → 1 ≤ v → v ≤ top → top ≤ 999999999 → Wrote old mid n (code ∷ i ∷ []) → Wrote mid out (n + 2) (four v)
             → SetFrom s a p old out n code i top (Upto (q + 1) (n + 6))
         set-done {mid} lo hi lim w₁ w₂ ph c g cmd k =
             number (set-byte .4 .value) (set-byte .4 .kept) ph c g cmd k (comes ph c g cmd k) (Upto (q + 1) (n + 6)) (λ w t l f.
@@ -200,6 +203,22 @@ module _ (s : List ℕ) (a p : ℕ) (old out : List ℕ) (n code i top : ℕ) {r
             (rw (g .items w, same) (wrote-more {l = code ∷ i ∷ []} w₁ w₂))
             (rw (g .items w) (set-size n code i w))
             (omega (arith, set-byte .0)) (set-byte .0))
+
+    -- the `)` of a number out of range is a wrong byte too
+    late : (f : Fault) → b ≡ 41 → faultOf f ≡ wrongCall b → SetFrom s a p old out n code i top (NoEnd BadCall q) → SetFrom s a p old out n code i top (NoEnd f q)
+    late f h j x ph c g cmd k = let z = x ph c g cmd k in (z .0, λ pl u t ms. z .1 pl u t ms ∙ ap (λ d. refusedAt d q) (wrong-close ∙ (ap wrongCall (sym h) ∙ sym j)))
+
+    pub set-refused : {w : Bool} → Unclosed b 41 m v top w → w ≡ true → (f : Fault) → faultOf f ≡ wrongCall b → SetFrom s a p old out n code i top (NoEnd f q)
+    set-refused {w} x e′ f j =
+        let z : Unclosed b 41 m v top true = rw e′ at x in
+        ⊎-elim (λ h. set-wrong f h j)
+        (λ h. late f (h .0) j (⊎-elim (λ l. set-empty (h .0) l) (λ l. set-unfit (h .0) (l .0) (λ o k. unfit top v o k (l .1))) (h .1))) z
+
+    pub set-stored : {w : Bool} {mid : List ℕ} → Unclosed b 41 m v top w → w ≡ false → top ≤ 999999999 → Wrote old mid n (code ∷ i ∷ []) → Wrote mid out (n + 2) (four v)
+        → SetFrom s a p old out n code i top (Upto (q + 1) (n + 6))
+    set-stored {w} x e′ lim w₁ w₂ =
+        let z : Unclosed b 41 m v top false = rw e′ at x in
+        set-done (z .0) (z .1) (z .2) (z .3) lim w₁ w₂
 
 -- A TAG'S NUMBER, ITS COMMA AND LETTER
 
@@ -273,56 +292,86 @@ tag-items : (w i : ℕ) (v : Move) → callItems (storeTag w i v) ≡ (64 + move
 unfolding callItems
 tag-items w i v = refl
 
-module _ {s : List ℕ} {a p b : ℕ} (old out : List ℕ) (n v k : ℕ) (x : Here s a p b) where
-  pub tag-wrong : (f : Fault) → (b ≡ 32 → ⊥) → digit b ≡ false → (b ≡ 44 → ⊥) → faultOf f ≡ wrongCall b → TagFrom s a p old out n v k (NoEnd f p)
-  tag-wrong f g h e i w j cmd =
-      ends-wrong s a p old out n 0 cmd k (λ pl. calling pl (tagged w)) (tagged w) (λ pl u t ms. refl) x f g (tag-stray cmd w b h e) i
+module _ {s : List ℕ} {a p b : ℕ} (x : Here s a p b) where
+  pub tag-wrong : (f : Fault) → (b ≡ 32 → ⊥) → digit b ≡ false → (b ≡ 44 → ⊥) → faultOf f ≡ wrongCall b → TagNaming s a p (NoName f p)
+  tag-wrong f g h e i =
+      let t = x .stands in
+      (omega (arith, t .there), λ w pl ms. here-wrong pl (tagged w) ms x f g (tag-stray (isCommand pl) w b h e) i)
 
   module _ (e : b ≡ 44) {r : Next} (y : Calls s a (p + 1) r) where
-    at-comma : (w : ℕ) (cmd : Bool) → Comes s a cmd k (λ pl. calling pl (tagged w)) p (λ pl. calling pl (comma w)) (p + 1)
-    at-comma w cmd pl u t ms = here-into pl (tagged w) ms x (comma w) (tag-comma (isCommand pl) w b e)
+    at-comma : (w : ℕ) (pl : Place) (ms : List Macro) → run s a ms false p (calling pl (tagged w)) ≡ run s a ms false (p + 1) (calling pl (comma w))
+    at-comma w pl ms = here-into pl (tagged w) ms x (comma w) (tag-comma (isCommand pl) w b e)
 
-    pub tag-none : {f : Fault} {q : ℕ} {z : Ended} → r ≡ NoByte f q → z ≡ nextEnd r → TagFrom s a p old out n v k z
-    tag-none i j w h cmd = ends-none s a p old out n 0 cmd k (λ pl. calling pl (tagged w)) (comma w) (at-comma w cmd) y i j
+    pub tag-none : {f : Fault} {q : ℕ} {z : Name} → r ≡ NoByte f q → z ≡ nextName r → TagNaming s a p z
+    tag-none {f} {q} i j =
+        let z : Calls s a (p + 1) (NoByte f q) = rw i at y in
+        rw (j ∙ ap nextName i) (z .found, λ w pl ms. at-comma w pl ms ∙ call-none pl (comma w) ms z)
 
     module _ {c q : ℕ} (i : r ≡ Byte c q) where
       pub tag-byte : Calls s a (p + 1) (Byte c q)
       tag-byte = rw i at y
 
-      behind : (w : ℕ) (cmd : Bool) → Comes s a cmd k (λ pl. calling pl (tagged w)) p (λ pl. calling pl (comma w)) q
-      behind w cmd pl u t ms = at-comma w cmd pl u t ms ∙ call-next pl (comma w) ms tag-byte
+      behind : (w : ℕ) (pl : Place) (ms : List Macro) → run s a ms false p (calling pl (tagged w)) ≡ run s a ms false q (calling pl (comma w))
+      behind w pl ms = at-comma w pl ms ∙ call-next pl (comma w) ms tag-byte
 
-      module _ {r′ : Name} (z : Naming s a q c true r′) where
-        pub tag-noname : {f : Fault} {u : ℕ} {o : Ended} → r′ ≡ NoName f u → o ≡ nameEnd r′ → TagFrom s a p old out n v k o
-        tag-noname {f} {u} j h =
-            let l : Naming s a q c true (NoName f u) = rw j at z in
-            rw (h ∙ ap nameEnd j) (λ w m cmd. (l .0, λ pl g t ms. behind w cmd pl g t ms ∙ l .1 pl (comma w) (tagSigned w) (tagNamed w) (names-comma (isCommand pl) c w) ms))
+      pub tag-named : (w : Name) → Naming s a q c true w → TagNaming s a p w
+      tag-named (GotName i m d u) z =
+          let f = tag-byte .found in
+          record {
+            move = z .move;
+            code = z .code;
+            here = z .here;
+            solid = z .solid;
+            further = omega (arith, f .0, z .further);
+            last = z .last;
+            answer = λ w pl ms. behind w pl ms ∙ z .answer pl (comma w) (tagSigned w) (tagNamed w) (names-comma (isCommand pl) c w) ms;
+          }
+      tag-named (NoName f u) z = (z .0, λ w pl ms. behind w pl ms ∙ z .1 pl (comma w) (tagSigned w) (tagNamed w) (names-comma (isCommand pl) c w) ms)
 
-        module _ {i′ m d u : ℕ} (j : r′ ≡ GotName i′ m d u) where
-          pub tag-name : Letter s a q c true i′ m d u
-          tag-name = rw j at z
+module _ (s : List ℕ) (a p : ℕ) (old out : List ℕ) (n v k : ℕ) {r : Name} (z : TagNaming s a p r) where
+  pub tag-noname : {f : Fault} {u : ℕ} {o : Ended} → r ≡ NoName f u → o ≡ nameEnd r → TagFrom s a p old out n v k o
+  tag-noname {f} {u} j h =
+      let l : TagNaming s a p (NoName f u) = rw j at z in
+      rw (h ∙ ap nameEnd j) (λ w m cmd. (l .0, λ pl g t ms. l .1 w pl ms))
 
-          named-tag : (w : ℕ) (cmd : Bool) → Comes s a cmd k (λ pl. calling pl (tagged w)) p (λ pl. calling pl (tagNamed w i′ (tag-name .move))) u
-          named-tag w cmd pl g t ms = behind w cmd pl g t ms ∙ tag-name .answer pl (comma w) (tagSigned w) (tagNamed w) (names-comma (isCommand pl) c w) ms
+  module _ {i m d u : ℕ} (j : r ≡ GotName i m d u) where
+    pub tag-letter : TagLetter s a p i m d u
+    tag-letter = rw j at z
 
-          pub tag-open : (f : Fault) → (d ≡ 41 → ⊥) → faultOf f ≡ wrongCall d → TagFrom s a p old out n v k (NoEnd f u)
-          tag-open f g h w l cmd =
-              ends-wrong s a p old out n 0 cmd k (λ pl. calling pl (tagged w)) (tagNamed w i′ (tag-name .move)) (named-tag w cmd) (tag-name .here) f (tag-name .solid)
-              (tag-unclosed cmd w i′ d (tag-name .move) g (joined (isSign d) (isStill (tag-name .move)) (tag-name .last))) h
+    named-tag : (w : ℕ) (cmd : Bool) → Comes s a cmd k (λ pl. calling pl (tagged w)) p (λ pl. calling pl (tagNamed w i (tag-letter .move))) u
+    named-tag w cmd pl g t ms = tag-letter .answer w pl ms
 
-          pub tag-unfit : d ≡ 41 → ((w : ℕ) → v ≡ most w → within 1 k w ≡ false) → TagFrom s a p old out n v k (NoEnd BadCall u)
-          tag-unfit g h w l cmd =
-              ends-unfit s a p old out n 0 cmd k (λ pl. calling pl (tagged w)) (tagNamed w i′ (tag-name .move)) (named-tag w cmd) (tag-name .here)
-              (storeTag w i′ (tag-name .move)) (tag-close cmd w i′ d (tag-name .move) g) (tag-fits k w i′ (tag-name .move) ∙ h w l)
+    tag-open : (f : Fault) → (d ≡ 41 → ⊥) → faultOf f ≡ wrongCall d → TagFrom s a p old out n v k (NoEnd f u)
+    tag-open f g h w l cmd =
+        ends-wrong s a p old out n 0 cmd k (λ pl. calling pl (tagged w)) (tagNamed w i (tag-letter .move)) (named-tag w cmd) (tag-letter .here) f (tag-letter .solid)
+        (tag-unclosed cmd w i d (tag-letter .move) g (joined (isSign d) (isStill (tag-letter .move)) (tag-letter .last))) h
 
-          pub tag-done : {mid : List ℕ} → d ≡ 41 → 1 ≤ v → v ≤ k → k ≤ 99 → Wrote old mid n ((64 + m) ∷ i′ ∷ []) → Wrote mid out (n + 2) (42 ∷ v ∷ [])
-              → TagFrom s a p old out n v k (Upto (u + 1) (n + 4))
-          tag-done g lo hi lim w₁ w₂ w l cmd =
-              let same : w ≡ v = most-same w v l (omega arith) in
-              let t = tag-name in
-              let f = tag-byte .found in
-              ends-closed s a p old out n 0 cmd k (λ pl. calling pl (tagged w)) (tagNamed w i′ (t .move)) (named-tag w cmd) (t .here)
-              (storeTag w i′ (t .move)) (tag-close cmd w i′ d (t .move) g) (tag-fits k w i′ (t .move) ∙ within-yes k w (omega arith) (omega arith))
-              (rw (tag-items w i′ (t .move), ← t .code, same) (wrote-more {l = (64 + m) ∷ i′ ∷ []} w₁ w₂))
-              (rw (tag-items w i′ (t .move)) refl)
-              (omega (arith, f .0, t .further)) (omega (arith, f .0, t .further))
+    tag-unfit : d ≡ 41 → ((w : ℕ) → v ≡ most w → within 1 k w ≡ false) → (f : Fault) → faultOf f ≡ wrongCall d → TagFrom s a p old out n v k (NoEnd f u)
+    tag-unfit g h f j w l cmd =
+        let y =
+        ends-unfit s a p old out n 0 cmd k (λ pl. calling pl (tagged w)) (tagNamed w i (tag-letter .move)) (named-tag w cmd) (tag-letter .here)
+        (storeTag w i (tag-letter .move)) (tag-close cmd w i d (tag-letter .move) g) (tag-fits k w i (tag-letter .move) ∙ h w l)
+        in
+        (y .0, λ pl x t ms. y .1 pl x t ms ∙ ap (λ c. refusedAt c u) (wrong-close ∙ (ap wrongCall (sym g) ∙ sym j)))
+
+    pub tag-refused : {w : Bool} → Unclosed d 41 true v k w → w ≡ true → (f : Fault) → faultOf f ≡ wrongCall d → TagFrom s a p old out n v k (NoEnd f u)
+    tag-refused {w} x e f j =
+        let y : Unclosed d 41 true v k true = rw e at x in
+        ⊎-elim (λ h. tag-open f h j) (λ h. ⊎-elim (λ l. absurd (true≢false l)) (λ l. tag-unfit (h .0) (λ o c. unfit k v o c (l .1)) f j) (h .1)) y
+
+    pub tag-few : {w : Bool} → Unclosed d 41 true v k w → w ≡ false → v ≤ k
+    tag-few {w} x e = let y : Unclosed d 41 true v k false = rw e at x in y .3
+
+    pub tag-done : {w : Bool} {mid : List ℕ} → Unclosed d 41 true v k w → w ≡ false → k ≤ 99 → Wrote old mid n ((64 + m) ∷ i ∷ []) → Wrote mid out (n + 2) (42 ∷ v ∷ [])
+        → TagFrom s a p old out n v k (Upto (u + 1) (n + 4))
+    tag-done {w} x e lim w₁ w₂ o l cmd =
+        let y : Unclosed d 41 true v k false = rw e at x in
+        let lo = y .2 in
+        let hi = y .3 in
+        let same : o ≡ v = most-same o v l (omega (arith, hi)) in
+        let t = tag-letter in
+        ends-closed s a p old out n 0 cmd k (λ pl. calling pl (tagged o)) (tagNamed o i (t .move)) (named-tag o cmd) (t .here)
+        (storeTag o i (t .move)) (tag-close cmd o i d (t .move) (y .0)) (tag-fits k o i (t .move) ∙ within-yes k o (omega (arith, lo)) (omega (arith, hi)))
+        (rw (tag-items o i (t .move), ← t .code, same) (wrote-more {l = (64 + m) ∷ i ∷ []} w₁ w₂))
+        (rw (tag-items o i (t .move)) refl)
+        (omega (arith, t .further)) (omega (arith, t .further))

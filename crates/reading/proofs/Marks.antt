@@ -9,12 +9,12 @@ use native.Mathlib.Omega.{arith}
 use lib.Dec.{eqb}
 use lib.ListN.{length}
 use borrow.Author.Tests.{ne-eqb}
-use Rattle.macros.specs.Macro.{Macro, Mark, Move, Call, Sign, pick, within, lower, digit, among}
+use Rattle.macros.specs.Macro.{Macro, Mark, Move, Call, Sign, pick, within, lower, digit}
 use Rattle.macros.specs.Macro.Mark.{stack, counter}
 use Rattle.macros.specs.Macro.Move.{still, before, after}
 use Rattle.macros.specs.Macro.Call.{insert, setTo, setIncrement}
 use Rattle.macros.specs.Formed.{numberFits, limit}
-use Rattle.macros.specs.Read.{Part, Place, Phase, callByte, isCommand, isSign, isStill, breaks, numberEnd as closing}
+use Rattle.macros.specs.Read.{Part, Place, Phase, callByte, isCommand, isSign, isStill, numberEnd as closing}
 use Rattle.macros.specs.Read.Part.{calling, callText}
 use Rattle.macros.specs.Read.Phase.{begun, signed, named, equals, increment, tagged}
 use Rattle.macros.specs.Read.Turn.{into, textOf, closed, wrong}
@@ -22,21 +22,22 @@ use Rattle.tables.specs.Form.{callItems, moveCode}
 use Rattle.scanning.specs.Scan.{run, Here, Calls, faultOf, wrongCall}
 use Rattle.scanning.specs.Number.{Counts, Digits, Kept, most}
 use Rattle.items.specs.Items.{Wrote}
-use Rattle.reading.specs.Call.{Names, Letter, Naming, Comes, Ends, CalledFrom, Sets, SetFrom, TagFrom, StoreFrom, nextEnd, numberEnd, nameEnd}
+use Rattle.reading.specs.Call.{Names, Letter, Naming, Comes, Ends, CalledFrom, NamedFrom, Sets, SetFrom, TagFrom, StoreFrom, Asks, Starts, signsIn, markOf, nextEnd, numberEnd, nameEnd}
 use Rattle.scanning.specs.declared.Fault.{Fault}
-use Rattle.scanning.specs.declared.Fault.the-variants.{BadCall}
 use Rattle.scanning.specs.declared.Next.{Next}
 use Rattle.scanning.specs.declared.Next.the-variants.{Byte, Refused as NoByte}
 use Rattle.scanning.specs.declared.Number.{Number}
 use Rattle.scanning.specs.declared.Number.the-variants.{Got, Refused as NoNumber}
 use Rattle.reading.specs.declared.Name.{Name}
 use Rattle.reading.specs.declared.Name.the-variants.{Got as GotName, Refused as NoName}
+use Rattle.reading.specs.declared.Tail.{Tail}
+use Rattle.reading.specs.declared.Tail.the-variants.{Text, Set, Insert, Wrong}
 use Rattle.reading.specs.declared.Ended.{Ended}
 use Rattle.reading.specs.declared.Ended.the-variants.{Upto, Refused as NoEnd}
 use Rattle.scanning.proofs.Laws.{here-on}
 use Rattle.scanning.proofs.Numbers.{tagState, eats-tagged, eats-equals, eats-increment}
 use Rattle.reading.proofs.Naming.{turn-text, call-next, here-into, code-none, code-some}
-use Rattle.reading.proofs.Ending.{ends-from, ends-none, ends-wrong, ends-closed, joined}
+use Rattle.reading.proofs.Ending.{ends-from, ends-none, ends-wrong, ends-closed, joined, names-stack, names-counter}
 
 -- BYTES BEHIND A LETTER
 
@@ -97,18 +98,6 @@ pub counter-strange : (cmd : Bool) (i c : ℕ) (v : Move) → (c ≡ 44 → ⊥)
     → callByte cmd (named counter i v) c ≡ wrong
 unfolding callByte pick
 counter-strange cmd i c v e f g h = simp (ne-eqb _ _ e, ne-eqb _ _ f, ne-eqb _ _ g, joined-late (isSign c) (isStill v) (not cmd) h)
-
-pub wrong-41 : {c : ℕ} → c ≡ 41 → faultOf BadCall ≡ wrongCall c
-unfolding wrongCall breaks among pick
-wrong-41 e = rw e refl
-
-pub wrong-44 : {c : ℕ} → c ≡ 44 → faultOf BadCall ≡ wrongCall c
-unfolding wrongCall breaks among pick
-wrong-44 e = rw e refl
-
-pub wrong-61 : {c : ℕ} → c ≡ 61 → faultOf BadCall ≡ wrongCall c
-unfolding wrongCall breaks among pick
-wrong-61 e = rw e refl
 
 -- NUMBERS
 
@@ -172,20 +161,21 @@ module _ (s : List ℕ) (a p : ℕ) (old out : List ℕ) (n : ℕ) (cmd : Bool) 
       by (some x) h g =
           ends-from s a p q old out n 0 0 cmd k (λ pl. calling pl (begun stack)) (λ pl. calling pl (tagged x)) w (y .0) (omega arith) g (t x (h .0) cmd)
 
--- behind spaces and skips alone
-pub stack-begun : (s : List ℕ) (a p : ℕ) (cmd : Bool) (k : ℕ) {v : ℕ} {m : Bool} {b q : ℕ} → Counts s a p true (Got v m b q) → m ≡ false
-    → Comes s a cmd k (λ pl. calling pl (begun stack)) p (λ pl. calling pl (begun stack)) q
-stack-begun s a p cmd k {v} {m} {b} {q} y j = by (y .4 .value) (y .4 .kept) (λ pl u g ms. y .4 .answer (tagState pl) (eats-tagged pl) ms)
-  where
-    by : (o : Option ℕ) → Kept o v m → Comes s a cmd k (λ pl. calling pl (begun stack)) p (λ pl. tagState pl o) q
-        → Comes s a cmd k (λ pl. calling pl (begun stack)) p (λ pl. calling pl (begun stack)) q
-    by none h g = g
-    by (some x) h g = absurd (true≢false (sym (h .1) ∙ j))
+  -- behind spaces and skips alone
+  pub stack-begun : {v : ℕ} {m : Bool} {b q : ℕ} → Counts s a p true (Got v m b q) → m ≡ false → (w : Ended) → NamedFrom s a q old out n stack cmd w → CalledFrom s a p old out n stack cmd k w
+  stack-begun {v} {m} {b} {q} y j w t = by (y .4 .value) (y .4 .kept) (λ pl u g ms. y .4 .answer (tagState pl) (eats-tagged pl) ms)
+    where
+      by : (o : Option ℕ) → Kept o v m → Comes s a cmd k (λ pl. calling pl (begun stack)) p (λ pl. tagState pl o) q → CalledFrom s a p old out n stack cmd k w
+      by none h g = ends-from s a p q old out n 0 0 cmd k (λ pl. calling pl (begun stack)) (λ pl. calling pl (begun stack)) w (y .0) (omega arith) g (t k)
+      by (some x) h g = absurd (true≢false (sym (h .1) ∙ j))
 
 -- A LETTER AND WHAT FOLLOWS
 
 pub letter-at : (s : List ℕ) (a q b : ℕ) (sg : Bool) {r : Name} {i m c u : ℕ} → Naming s a q b sg r → r ≡ GotName i m c u → Letter s a q b sg i m c u
 letter-at s a q b sg z e = rw e at z
+
+pub signed-at : (s : List ℕ) (a p b : ℕ) {x y : Bool} → x ≡ y → (r : Name) → Naming s a p b x r → Naming s a p b y r
+signed-at s a p b e r z = rw e at z
 
 insert-fits : (k : ℕ) (mk : Mark) (i : ℕ) (v : Move) → numberFits k (insert mk i v) ≡ true
 unfolding numberFits
@@ -199,51 +189,63 @@ pub insert-counter : (i : ℕ) (v : Move) → callItems (insert counter i v) ≡
 unfolding callItems
 insert-counter i v = refl
 
-module _ (s : List ℕ) (a p : ℕ) (old out : List ℕ) (n : ℕ) (cmd : Bool) (k : ℕ) (mk : Mark) (sg : Bool) {q b : ℕ} (l : p ≤ q)
-    (g : Comes s a cmd k (λ pl. calling pl (begun mk)) p (λ pl. calling pl (begun mk)) q) (nm : Names cmd sg b (begun mk) (signed mk) (named mk)) where
-  pub mark-noname : {r : Name} {f : Fault} {u : ℕ} {w : Ended} → Naming s a q b sg r → r ≡ NoName f u → w ≡ nameEnd r → CalledFrom s a p old out n mk cmd k w
+pub names-of : (c cmd : Bool) (b : ℕ) → Starts c b → Names cmd (signsIn c cmd) b (begun (markOf c)) (signed (markOf c)) (named (markOf c))
+names-of true cmd b h = names-counter cmd b
+names-of false cmd b h = names-stack cmd b (h refl)
+
+module _ (s : List ℕ) (a p : ℕ) (old out : List ℕ) (n : ℕ) (cmd : Bool) (mk : Mark) (sg : Bool) {b : ℕ} (nm : Names cmd sg b (begun mk) (signed mk) (named mk)) where
+  pub mark-noname : {r : Name} {f : Fault} {u : ℕ} {w : Ended} → Naming s a p b sg r → r ≡ NoName f u → w ≡ nameEnd r → NamedFrom s a p old out n mk cmd w
   mark-noname {r} {f} {u} z e i =
-      let t : Naming s a q b sg (NoName f u) = rw e at z in
-      rw (i ∙ ap nameEnd e) (t .0, λ pl x y ms. g pl x y ms ∙ t .1 pl (begun mk) (signed mk) (named mk) (rw x nm) ms)
+      let t : Naming s a p b sg (NoName f u) = rw e at z in
+      rw (i ∙ ap nameEnd e) (λ k. (t .0, λ pl x y ms. t .1 pl (begun mk) (signed mk) (named mk) (rw x nm) ms))
 
-  module _ {i m c u : ℕ} (t : Letter s a q b sg i m c u) where
-    mark-named : Comes s a cmd k (λ pl. calling pl (begun mk)) p (λ pl. calling pl (named mk i (t .move))) u
-    mark-named pl x y ms = g pl x y ms ∙ t .answer pl (begun mk) (signed mk) (named mk) (rw x nm) ms
+  mark-named : {i m c u : ℕ} (t : Letter s a p b sg i m c u) (k : ℕ) → Comes s a cmd k (λ pl. calling pl (begun mk)) p (λ pl. calling pl (named mk i (t .move))) u
+  mark-named t k pl x y ms = t .answer pl (begun mk) (signed mk) (named mk) (rw x nm) ms
 
-    pub mark-wrong : (f : Fault) → callByte cmd (named mk i (t .move)) c ≡ wrong → faultOf f ≡ wrongCall c → CalledFrom s a p old out n mk cmd k (NoEnd f u)
-    mark-wrong f h j =
-        ends-wrong s a p old out n 0 cmd k (λ pl. calling pl (begun mk)) (named mk i (t .move)) mark-named (t .here) f (t .solid) h j
+  module _ {i m c u : ℕ} (t : Letter s a p b sg i m c u) {r : Tail} (x : Asks mk cmd sg c m r) where
+    pub mark-wrong : r ≡ Wrong → (f : Fault) → faultOf f ≡ wrongCall c → NamedFrom s a p old out n mk cmd (NoEnd f u)
+    mark-wrong e f j k =
+        let h : Asks mk cmd sg c m Wrong = rw e at x in
+        ends-wrong s a p old out n 0 cmd k (λ pl. calling pl (begun mk)) (named mk i (t .move)) (mark-named t k) (t .here) f (t .solid) (h i (t .move) (t .code) (t .last)) j
 
-    pub mark-set : (code top : ℕ) (ph : Option ℕ → Phase) (d : ℕ → Call) → Sets code i top ph d → callByte cmd (named mk i (t .move)) c ≡ into (ph none)
-        → (w : Ended) → SetFrom s a (u + 1) old out n code i top w → CalledFrom s a p old out n mk cmd k w
-    mark-set code top ph d e h w y =
-        ends-from s a p (u + 1) old out n 0 4 cmd k (λ pl. calling pl (begun mk)) (λ pl. calling pl (ph none)) w
+    pub mark-top : {code top : ℕ} → r ≡ Set code top → top ≤ 999999999
+    mark-top {code} {top} e = let h : Asks mk cmd sg c m (Set code top) = rw e at x in h .0
+
+    pub mark-set : {code top : ℕ} → r ≡ Set code top → (w : Ended) → SetFrom s a (u + 1) old out n code i top w → NamedFrom s a p old out n mk cmd w
+    mark-set {code} {top} e w y k =
+        let h : Asks mk cmd sg c m (Set code top) = rw e at x in
+        let g = h .1 i (t .move) (t .code) in
+        ends-from s a p (u + 1) old out n 0 4 cmd k (λ pl. calling pl (begun mk)) (λ pl. calling pl ((g .0) none)) w
         (omega (arith, t .further)) (omega (arith, t .further))
-        (λ pl x v ms. mark-named pl x v ms ∙ here-into pl (named mk i (t .move)) ms (t .here) (ph none) (rw x h)) (y ph d e cmd k)
+        (λ pl z v ms. mark-named t k pl z v ms ∙ here-into pl (named mk i (t .move)) ms (t .here) ((g .0) none) (rw z (g .3))) (y (g .0) (g .1) (g .2) cmd k)
 
-    pub mark-text : callByte cmd (named mk i (t .move)) c ≡ textOf i (t .move)
-        → (w : Ended) → StoreFrom s a (u + 1) old out n i m w → CalledFrom s a p old out n mk cmd k w
-    mark-text h w y =
+    pub mark-text : r ≡ Text → (w : Ended) → StoreFrom s a (u + 1) old out n i m w → NamedFrom s a p old out n mk cmd w
+    mark-text e w y k =
+        let h : Asks mk cmd sg c m Text = rw e at x in
         ends-from s a p (u + 1) old out n 0 4 cmd k (λ pl. calling pl (begun mk)) (λ pl. callText pl i (t .move) []) w
         (omega (arith, t .further)) (omega (arith, t .further))
-        (λ pl x v ms. mark-named pl x v ms ∙ here-on (t .here) ms _ _ (turn-text pl (named mk i (t .move)) i (t .move) c (rw x h)))
+        (λ pl z v ms. mark-named t k pl z v ms ∙ here-on (t .here) ms _ _ (turn-text pl (named mk i (t .move)) i (t .move) c (rw z (h i (t .move) (t .code)))))
         (y (t .move) (t .code) cmd k)
 
-    pub mark-insert : (base : ℕ) → callByte cmd (named mk i (t .move)) c ≡ closed (insert mk i (t .move))
-        → callItems (insert mk i (t .move)) ≡ (base + moveCode (t .move)) ∷ i ∷ [] → Wrote old out n ((base + m) ∷ i ∷ [])
-        → CalledFrom s a p old out n mk cmd k (Upto (u + 1) (n + 2))
-    mark-insert base h j w =
-        ends-closed s a p old out n 0 cmd k (λ pl. calling pl (begun mk)) (named mk i (t .move)) mark-named (t .here) (insert mk i (t .move))
-        h (insert-fits k mk i (t .move)) (rw (j, ← t .code) w) (rw j refl) (omega (arith, t .further)) (omega (arith, t .further))
+    pub mark-insert : {code : ℕ} → r ≡ Insert code → Wrote old out n (code ∷ i ∷ []) → NamedFrom s a p old out n mk cmd (Upto (u + 1) (n + 2))
+    mark-insert {code} e w k =
+        let h : Asks mk cmd sg c m (Insert code) = rw e at x in
+        let g = h i (t .move) (t .code) in
+        ends-closed s a p old out n 0 cmd k (λ pl. calling pl (begun mk)) (named mk i (t .move)) (mark-named t k) (t .here) (insert mk i (t .move))
+        (g .0) (insert-fits k mk i (t .move)) (rw (g .1) w) (rw (g .1) refl) (omega (arith, t .further)) (omega (arith, t .further))
 
 -- THE FIRST BYTE OF A COUNTER'S CALL
 
-pub counter-none : (s : List ℕ) (a p : ℕ) (old out : List ℕ) (n : ℕ) (cmd : Bool) (k : ℕ) {r : Next} {f : Fault} {q : ℕ} {w : Ended} → Calls s a p r → r ≡ NoByte f q → w ≡ nextEnd r
-    → CalledFrom s a p old out n counter cmd k w
-counter-none s a p old out n cmd k y e i = ends-none s a p old out n 0 cmd k (λ pl. calling pl (begun counter)) (begun counter) (λ pl u t ms. refl) y e i
+module _ (s : List ℕ) (a p : ℕ) (old out : List ℕ) (n : ℕ) (cmd : Bool) {r : Next} (y : Calls s a p r) where
+  pub counter-none : {f : Fault} {q : ℕ} {w : Ended} → r ≡ NoByte f q → w ≡ nextEnd r → NamedFrom s a p old out n counter cmd w
+  counter-none e i k = ends-none s a p old out n 0 cmd k (λ pl. calling pl (begun counter)) (begun counter) (λ pl u t ms. refl) y e i
 
-pub byte-at : (s : List ℕ) (a p : ℕ) {r : Next} {b q : ℕ} → Calls s a p r → r ≡ Byte b q → Calls s a p (Byte b q)
-byte-at s a p y e = rw e at y
+  module _ {b q : ℕ} (e : r ≡ Byte b q) where
+    pub counter-byte : Calls s a p (Byte b q)
+    counter-byte = rw e at y
 
-pub counter-begun : (s : List ℕ) (a p : ℕ) (cmd : Bool) (k : ℕ) {b q : ℕ} → Calls s a p (Byte b q) → Comes s a cmd k (λ pl. calling pl (begun counter)) p (λ pl. calling pl (begun counter)) q
-counter-begun s a p cmd k y pl u t ms = call-next pl (begun counter) ms y
+    pub counter-begun : (w : Ended) → NamedFrom s a q old out n counter cmd w → NamedFrom s a p old out n counter cmd w
+    counter-begun w t k =
+        let f = counter-byte .found in
+        ends-from s a p q old out n 0 0 cmd k (λ pl. calling pl (begun counter)) (λ pl. calling pl (begun counter)) w (f .0) (omega arith)
+        (λ pl u g ms. call-next pl (begun counter) ms counter-byte) (t k)

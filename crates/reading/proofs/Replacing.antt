@@ -4,6 +4,7 @@ use mathlib.Core.Path.{_≡_, refl, ap, sym, _∙_}
 use mathlib.Core.Bool.{Bool, true, false, _||_, true≢false}
 use mathlib.Core.List.{List, [], _∷_, _++_, reverse, append-assoc, append-nil, reverse-append}
 use mathlib.Core.Option.{Option, none, some}
+use mathlib.Core.Logic.{⊎-elim}
 use Prim.Native.Nat.{ℕ, _+_, _-_, _*_, _≤_, _<_}
 use native.Mathlib.Omega.{arith}
 use lib.Dec.{eqb}
@@ -23,8 +24,8 @@ use Rattle.tables.specs.Form.{replacementItems, actionItems}
 use Rattle.scanning.specs.Scan.{run, At, Here, Passes, Stays, Reached, faultOf}
 use Rattle.scanning.specs.Number.{Counts, Digits, Kept, most}
 use Rattle.items.specs.Items.{Wrote}
-use Rattle.reading.specs.Call.{CalledFrom, markOf, nextEnd, numberEnd}
-use Rattle.reading.specs.Action.{Acts, ActionFrom, EscapeFrom, Replaced, ReplacedFrom, wrongTag}
+use Rattle.reading.specs.Call.{CalledFrom, Unclosed, markOf, nextEnd, numberEnd}
+use Rattle.reading.specs.Action.{Acts, ActionFrom, EscapeFrom, Replaced, ReplacedFrom, IsMark, wrongTag}
 use Rattle.scanning.specs.declared.Fault.{Fault}
 use Rattle.scanning.specs.declared.Fault.the-variants.{Incomplete, BadCall}
 use Rattle.scanning.specs.declared.Next.{Next}
@@ -36,7 +37,7 @@ use Rattle.reading.specs.declared.Ended.the-variants.{Upto, Refused as N
 use Rattle.scanning.proofs.Laws.{here-on, here-stop, here-same, at-on, reached-behind, reached-at}
 use Rattle.scanning.proofs.Numbers.{eats-tag}
 use Rattle.items.proofs.Writing.{wrote-none, wrote-more}
-use Rattle.reading.proofs.Ending.{most-same, within-yes}
+use Rattle.reading.proofs.Ending.{most-same, within-yes, unfit}
 
 -- ACTIONS ONE BEHIND ANOTHER
 
@@ -141,6 +142,12 @@ tag-items n = refl
 
 -- A LITERAL
 
+pub here-mark : {s : List ℕ} {a p b : ℕ} {w : Bool} → IsMark b w → w ≡ true → Here s a p b → Here s a p (markByte (markOf (eqb b 35)))
+here-mark {s} {a} {p} {b} {w} x e y = let z : IsMark b true = rw e at x in rw z y
+
+pub no-mark : {b : ℕ} {w : Bool} → IsMark b w → w ≡ false → (b ≡ 38 → ⊥) × (b ≡ 35 → ⊥)
+no-mark {b} {w} x e = rw e at x
+
 module _ {s : List ℕ} {a p b : ℕ} (old out : List ℕ) (n k : ℕ) (x : Here s a p b) (e : b ≡ 39 → ⊥) where
   pub action-break : breaks b ≡ true → ActionFrom s a p old out n k (NoEnd Incomplete p)
   action-break g =
@@ -230,6 +237,10 @@ tag-stray : (o : Option ℕ) (f : Front) (l : List Action) (b : ℕ) → digit b
 unfolding partByte tagByte wrongTag
 tag-stray o f l b h e = simp (h, ne-eqb _ _ e) (stray _ (tagEnd o f l) (eqb b 59 || eqb b 10))
 
+wrong-brace : faultOf BadCall ≡ wrongTag 125
+unfolding wrongTag pick
+wrong-brace = refl
+
 digit-brace : digit 125 ≡ false
 unfolding digit within
 digit-brace = refl
@@ -265,7 +276,7 @@ module _ (s : List ℕ) (a p : ℕ) (old out : List ℕ) (n k : ℕ) (x : Here s
     in-file : q ≤ length s
     in-file = let t = y .1 .stands in omega (arith, t .there)
 
-    pub brace-wrong : (f : Fault) → (b ≡ 125 → ⊥) → faultOf f ≡ wrongTag b → ActionFrom s a p old out n k (NoEnd f q)
+    brace-wrong : (f : Fault) → (b ≡ 125 → ⊥) → faultOf f ≡ wrongTag b → ActionFrom s a p old out n k (NoEnd f q)
     brace-wrong f h i =
         (in-file, λ g l u ms. comes g l ms ∙ (here-stop (y .1) ms (tagNumber (y .4 .value) g l) (wrongTag b) (tag-stray (y .4 .value) g l b (y .2 .0) h) ∙ rw i refl))
 
@@ -273,7 +284,7 @@ module _ (s : List ℕ) (a p : ℕ) (old out : List ℕ) (n k : ℕ) (x : Here s
       at-brace : Here s a q 125
       at-brace = rw h at (y .1)
 
-      pub brace-empty : m ≡ false → ActionFrom s a p old out n k (NoEnd BadCall q)
+      brace-empty : m ≡ false → ActionFrom s a p old out n k (NoEnd BadCall q)
       brace-empty j = by (y .4 .value) (y .4 .kept) comes
         where
           by : (o : Option ℕ) → Kept o v m → ((f : Front) (l : List Action) (ms : List Macro) → run s a ms false p (replacement none f l) ≡ run s a ms false q (tagNumber o f l))
@@ -282,7 +293,7 @@ module _ (s : List ℕ) (a p : ℕ) (old out : List ℕ) (n k : ℕ) (x : Here s
           by (some w) t g = absurd (true≢false (sym (t .1) ∙ j))
 
       module _ (j : m ≡ true) where
-        pub brace-unfit : ((w : ℕ) → v ≡ most w → within 1 k w ≡ false) → ActionFrom s a p old out n k (NoEnd BadCall q)
+        brace-unfit : ((w : ℕ) → v ≡ most w → within 1 k w ≡ false) → ActionFrom s a p old out n k (NoEnd BadCall q)
         brace-unfit z = by (y .4 .value) (y .4 .kept) comes
           where
             by : (o : Option ℕ) → Kept o v m → ((f : Front) (l : List Action) (ms : List Macro) → run s a ms false p (replacement none f l) ≡ run s a ms false q (tagNumber o f l))
@@ -290,7 +301,7 @@ module _ (s : List ℕ) (a p : ℕ) (old out : List ℕ) (n k : ℕ) (x : Here s
             by none t g = absurd (true≢false (sym j ∙ t .1))
             by (some w) t g = (in-file, λ f l u ms. g f l ms ∙ here-stop at-brace ms (tagNumber (some w) f l) badCall (tag-no w f l (rw u (z w (t .0)))))
 
-        pub brace-done : 1 ≤ v → v ≤ k → k ≤ 99 → Wrote old out n (41 ∷ v ∷ []) → ActionFrom s a p old out n k (Upto (q + 1) (n + 2))
+        brace-done : 1 ≤ v → v ≤ k → k ≤ 99 → Wrote old out n (41 ∷ v ∷ []) → ActionFrom s a p old out n k (Upto (q + 1) (n + 2))
         brace-done lo hi lim c = by (y .4 .value) (y .4 .kept) comes
           where
             by : (o : Option ℕ) → Kept o v m → ((f : Front) (l : List Action) (ms : List Macro) → run s a ms false p (replacement none f l) ≡ run s a ms false q (tagNumber o f l))
@@ -303,6 +314,24 @@ module _ (s : List ℕ) (a p : ℕ) (old out : List ℕ) (n k : ℕ) (x : Here s
                       (λ f l u ms. g f l ms
                       ∙ here-on at-brace ms (tagNumber (some w) f l) (replacement none f (tag w ∷ l)) (tag-yes w f l (rw u (within-yes k w (omega arith) (omega arith))))),
                 )
+
+    -- the `}` of a number out of range is a wrong byte too
+    late : (f : Fault) → b ≡ 125 → faultOf f ≡ wrongTag b → ActionFrom s a p old out n k (NoEnd BadCall q) → ActionFrom s a p old out n k (NoEnd f q)
+    late f h j x = (x .0, λ g l u ms. x .1 g l u ms ∙ ap (λ d. refusedAt d q) (wrong-brace ∙ (ap wrongTag (sym h) ∙ sym j)))
+
+    pub brace-refused : {w : Bool} → Unclosed b 125 m v k w → w ≡ true → (f : Fault) → faultOf f ≡ wrongTag b → ActionFrom s a p old out n k (NoEnd f q)
+    brace-refused {w} x e f j =
+        let z : Unclosed b 125 m v k true = rw e at x in
+        ⊎-elim (λ h. brace-wrong f h j)
+        (λ h. late f (h .0) j (⊎-elim (λ l. brace-empty (h .0) l) (λ l. brace-unfit (h .0) (l .0) (λ o c. unfit k v o c (l .1))) (h .1))) z
+
+    pub brace-few : {w : Bool} → Unclosed b 125 m v k w → w ≡ false → v ≤ k
+    brace-few {w} x e = let z : Unclosed b 125 m v k false = rw e at x in z .3
+
+    pub brace-stored : {w : Bool} → Unclosed b 125 m v k w → w ≡ false → k ≤ 99 → Wrote old out n (41 ∷ v ∷ []) → ActionFrom s a p old out n k (Upto (q + 1) (n + 2))
+    brace-stored {w} x e lim c =
+        let z : Unclosed b 125 m v k false = rw e at x in
+        brace-done (z .0) (z .1) (z .2) (z .3) lim c
 
 -- THE WHOLE REPLACEMENT
 

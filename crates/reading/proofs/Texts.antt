@@ -21,7 +21,7 @@ use Rattle.macros.specs.Read.Read.{refusedAt}
 use Rattle.tables.specs.Form.{callItems, moveCode, evened}
 use Rattle.scanning.specs.Scan.{run, At, Here, Passes, Stays, Calls, Reached, faultOf, wrongCall}
 use Rattle.items.specs.Items.{Wrote}
-use Rattle.reading.specs.Call.{Comes, Ends, Texting, TextRead, TextFrom, StoreFrom, padding, nextEnd}
+use Rattle.reading.specs.Call.{Comes, Ends, Texting, TextRead, TextFrom, StoreFrom, PutStore, padding, nextEnd}
 use Rattle.scanning.specs.declared.Fault.{Fault}
 use Rattle.scanning.specs.declared.Fault.the-variants.{Incomplete, BadCall}
 use Rattle.scanning.specs.declared.Next.{Next}
@@ -256,7 +256,7 @@ module _ (s : List ℕ) (a p : ℕ) (old mid : List ℕ) (n i m : ℕ) {r : Ende
         at-end : (v : Move) (cmd : Bool) (k : ℕ) → Comes s a cmd k (λ pl. callText pl i v []) p (λ pl. calling pl (texted i v (store-text .text))) u
         at-end v cmd k pl x t ms = comes v cmd k pl x t ms ∙ store-byte .answer (calling pl (texted i v (store-text .text))) ms (call-skips pl _) (space-call pl _)
 
-        pub store-done : {mid₂ mid₃ out : List ℕ} {e′ : ℕ} → b ≡ 41 → n + 4 ≤ length old → n + 4 ≤ length mid₂ → n + 4 ≤ length mid₃
+        store-done : {mid₂ mid₃ out : List ℕ} {e′ : ℕ} → b ≡ 41 → n + 4 ≤ length old → n + 4 ≤ length mid₂ → n + 4 ≤ length mid₃
             → Wrote mid mid₂ e (padding (e - (n + 4))) → e′ ≡ e + length (padding (e - (n + 4)))
             → Wrote mid₂ mid₃ (n + 2) (43 ∷ (e - (n + 4)) ∷ []) → Wrote mid₃ out n ((72 + m) ∷ i ∷ []) → StoreFrom s a p old out n i m (Upto (u + 1) e′)
         store-done {mid₂} {mid₃} {out} {e′} h l₀ l₂ l₃ w₁ g w₂ w₃ v c cmd k =
@@ -276,3 +276,6 @@ module _ (s : List ℕ) (a p : ℕ) (old mid : List ℕ) (n i m : ℕ) {r : Ende
             (rw (store-items i v (reverse (t .text)), ← c) whole)
             (rw (store-items i v (reverse (t .text))) (omega (arith, sized, long, t .used, g)))
             (omega (arith, g, t .used, t .room, f .0, padding-most (e - (n + 4)))) (omega (arith, t .room, f .0))
+
+        pub store-put : {out : List ℕ} {e′ : ℕ} → b ≡ 41 → n + 4 ≤ length old → length mid ≡ length old → PutStore mid out n e i m e′ → StoreFrom s a p old out n i m (Upto (u + 1) e′)
+        store-put h l g w = store-done h l (omega (arith, w .3)) (omega (arith, w .4)) (w .5) (w .0) (w .6) (w .7)

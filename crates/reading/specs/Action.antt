@@ -8,7 +8,7 @@ use lib.Dec.{eqb}
 use lib.ListN.{length}
 use Rattle.macros.specs.Refusals.{FileRefusal}
 use Rattle.macros.specs.Refusals.FileRefusal.{incomplete, badCall}
-use Rattle.macros.specs.Macro.{Macro, Piece, Call, Action, Symbol, pick, tags}
+use Rattle.macros.specs.Macro.{Macro, Piece, Call, Action, Symbol, pick, tags, markByte}
 use Rattle.macros.specs.Macro.Symbol.{equal, less}
 use Rattle.macros.specs.Read.{Part, Front}
 use Rattle.macros.specs.Read.Part.{awaitSymbol, awaitQuote, replacement, commands}
@@ -16,6 +16,7 @@ use Rattle.macros.specs.Read.Read.{refusedAt}
 use Rattle.tables.specs.Form.{replacementItems, callsItems}
 use Rattle.scanning.specs.Scan.{faultOf, run, Reached, Here}
 use Rattle.items.specs.Items.{Wrote}
+use Rattle.reading.specs.Call.{markOf}
 use Rattle.scanning.specs.declared.Next.{Next}
 use Rattle.scanning.specs.declared.Next.the-variants.{Byte, Refused as NoByte}
 use Rattle.reading.specs.declared.Ended.{Ended}
@@ -37,7 +38,17 @@ abbrev pub QuoteAt : List ℕ → ℕ → ℕ → Next → Type 0
 QuoteAt s a p (Byte b q) = (p ≤ q) × Here s a q b × ((f : Front) (ms : List Macro) → run s a ms false p (awaitQuote f) ≡ run s a ms false (q + 1) (replacement none f []))
 QuoteAt s a p (NoByte f q) = (q ≤ length s) × ((g : Front) (ms : List Macro) → run s a ms false p (awaitQuote g) ≡ refusedAt (faultOf f) q)
 
+-- what looking for both says: the symbol is the byte b, and the quote stands at q
+abbrev pub FrontAt : List ℕ → ℕ → ℕ → Next → Type 0
+FrontAt s a p (Byte b q) = (p < q) × Reached s a (q + 1) × ((ps : List Piece) (ms : List Macro) → run s a ms false p (awaitSymbol ps) ≡ run s a ms false (q + 1) (replacement none (record { pieces = ps; symbol = symbolOf b }) []))
+FrontAt s a p (NoByte f q) = (q ≤ length s) × ((ps : List Piece) (ms : List Macro) → run s a ms false p (awaitSymbol ps) ≡ refusedAt (faultOf f) q)
+
 -- REPLACEMENT
+
+-- that a byte is `&` or `#`
+abbrev pub IsMark : ℕ → Bool → Type 0
+IsMark b true = markByte (markOf (eqb b 35)) ≡ b
+IsMark b false = (b ≡ 38 → ⊥) × (b ≡ 35 → ⊥)
 
 -- what a byte other than a digit or `}` shows in `{n}`
 unfoldable pub wrongTag : ℕ → FileRefusal

@@ -1,19 +1,21 @@
 -- Calls: what reading one says of the machine, at every place where it may stand.
 use Prim.Native.Nat.{ℕ, _+_, _-_, _*_, _%_, _≤_, _<_}
 use mathlib.Core.Path.{_≡_}
-use mathlib.Core.Bool.{Bool, true, false, _&&_}
+use mathlib.Core.Bool.{Bool, true, false, not, _&&_}
 use mathlib.Core.List.{List, [], _∷_, reverse}
 use mathlib.Core.Option.{Option, none, some}
+use mathlib.Core.Logic.{_⊎_}
 use lib.Dec.{eqb}
 use lib.ListN.{length}
 use Rattle.macros.specs.Macro.{Macro, Mark, Sign, Move, Call, pick, within, lower, digit, tags}
 use Rattle.macros.specs.Macro.Mark.{stack, counter}
 use Rattle.macros.specs.Macro.Move.{still, before, after}
+use Rattle.macros.specs.Macro.Call.{insert}
 use Rattle.macros.specs.Formed.{numberFits}
 use Rattle.macros.specs.Read.{Part, Place, Phase, Turn, callByte, isCommand, frontOf, placed, isSign, signOf, isStill, numberEnd as closing}
 use Rattle.macros.specs.Read.Part.{calling, callText}
-use Rattle.macros.specs.Read.Phase.{begun, tagged, texted}
-use Rattle.macros.specs.Read.Turn.{into, wrong}
+use Rattle.macros.specs.Read.Phase.{begun, named, tagged, tagNamed, texted}
+use Rattle.macros.specs.Read.Turn.{into, textOf, closed, wrong}
 use Rattle.macros.specs.Read.Read.{refusedAt}
 use Rattle.tables.specs.Form.{callItems, moveCode, four}
 use Rattle.scanning.specs.Scan.{faultOf, run, Reached, Here}
@@ -27,6 +29,8 @@ use Rattle.scanning.specs.declared.Number.{Number}
 use Rattle.scanning.specs.declared.Number.the-variants.{Got, Refused as NoNumber}
 use Rattle.reading.specs.declared.Name.{Name}
 use Rattle.reading.specs.declared.Name.the-variants.{Got as GotName, Refused as NoName}
+use Rattle.reading.specs.declared.Tail.{Tail}
+use Rattle.reading.specs.declared.Tail.the-variants.{Text, Set, Insert, Wrong}
 use Rattle.reading.specs.declared.Ended.{Ended}
 use Rattle.reading.specs.declared.Ended.the-variants.{Upto, Refused as NoEnd}
 
@@ -64,6 +68,26 @@ abbrev pub Naming : List ℕ → ℕ → ℕ → ℕ → Bool → Name → Type 
 Naming s a p b sg (GotName i m c q) = Letter s a p b sg i m c q
 Naming s a p b sg (NoName f q) = (q ≤ length s) × ((pl : Place) (start : Phase) (sgn : Sign → Phase) (nam : ℕ → Move → Phase) → Names (isCommand pl) sg b start sgn nam → (ms : List Macro) → run s a ms false p (calling pl start) ≡ refusedAt (faultOf f) q)
 
+-- whether a letter may have a sign: not as a command of a counter
+abbrev pub signsIn : Bool → Bool → Bool
+signsIn true cmd = not cmd
+signsIn false cmd = true
+
+-- the letter i with a move of the code m behind a tag's number and its comma, read from the comma at p on, and the byte d behind them at q
+pub record TagLetter (s : List ℕ) (a p i m d q : ℕ) : Type 0 where
+  pub move : Move
+  pub code : m ≡ moveCode move
+  pub here : Here s a q d
+  pub solid : d ≡ 32 → ⊥
+  pub further : p + 1 < q
+  pub last : isStill move ≡ true → (isSign d && true) ≡ false
+  pub answer : (w : ℕ) (pl : Place) (ms : List Macro) → run s a ms false p (calling pl (tagged w)) ≡ run s a ms false q (calling pl (tagNamed w i move))
+
+-- what reading them says
+abbrev pub TagNaming : List ℕ → ℕ → ℕ → Name → Type 0
+TagNaming s a p (GotName i m d q) = TagLetter s a p i m d q
+TagNaming s a p (NoName f q) = (q ≤ length s) × ((w : ℕ) (pl : Place) (ms : List Macro) → run s a ms false p (calling pl (tagged w)) ≡ refusedAt (faultOf f) q)
+
 -- THE ENDS OF CALLS
 
 -- the machine comes from p in the state F to q in the state G, at every place of a replacement or, if cmd, of a command, behind a pattern of k tags
@@ -89,9 +113,13 @@ Ends s a p old out n x cmd k F (NoEnd f q) = (q ≤ length s) × ((pl : Place) �
 abbrev pub CalledFrom : List ℕ → ℕ → ℕ → List ℕ → List ℕ → ℕ → Mark → Bool → ℕ → Ended → Type 0
 CalledFrom s a p old out n m cmd k r = Ends s a p old out n 0 cmd k (λ pl. calling pl (begun m)) r
 
--- a counter's knows no tags
-abbrev pub CounterFrom : List ℕ → ℕ → ℕ → List ℕ → List ℕ → ℕ → Bool → Ended → Type 0
-CounterFrom s a p old out n cmd r = (k : ℕ) → CalledFrom s a p old out n counter cmd k r
+-- one that begins with a letter knows no tags
+abbrev pub NamedFrom : List ℕ → ℕ → ℕ → List ℕ → List ℕ → ℕ → Mark → Bool → Ended → Type 0
+NamedFrom s a p old out n m cmd r = (k : ℕ) → CalledFrom s a p old out n m cmd k r
+
+-- that a byte is none that the number of a stack's tag could begin with
+abbrev pub Starts : Bool → ℕ → Type 0
+Starts c b = c ≡ false → digit b ≡ false
 
 -- phases that take a number of at most top and a `)`: their calls
 pub record Sets (code i top : ℕ) (ph : Option ℕ → Phase) (c : ℕ → Call) : Type 0 where
@@ -103,6 +131,18 @@ pub record Sets (code i top : ℕ) (ph : Option ℕ → Phase) (c : ℕ → Call
 
 abbrev pub SetFrom : List ℕ → ℕ → ℕ → List ℕ → List ℕ → ℕ → ℕ → ℕ → ℕ → Ended → Type 0
 SetFrom s a p old out n code i top r = (ph : Option ℕ → Phase) (c : ℕ → Call) → Sets code i top ph c → (cmd : Bool) (k : ℕ) → Ends s a p old out n 4 cmd k (λ pl. calling pl (ph none)) r
+
+-- what the byte c behind a letter with a move of the code m asks for, where sg says whether a sign may stand
+abbrev pub Asks : Mark → Bool → Bool → ℕ → ℕ → Tail → Type 0
+Asks mk cmd sg c m Text = (i : ℕ) (v : Move) → m ≡ moveCode v → callByte cmd (named mk i v) c ≡ textOf i v
+Asks mk cmd sg c m (Set code top) = (top ≤ 999999999) × ((i : ℕ) (v : Move) → m ≡ moveCode v → (ph : Option ℕ → Phase) × (d : ℕ → Call) × Sets code i top ph d × (callByte cmd (named mk i v) c ≡ into (ph none)))
+Asks mk cmd sg c m (Insert code) = (i : ℕ) (v : Move) → m ≡ moveCode v → (callByte cmd (named mk i v) c ≡ closed (insert mk i v)) × (callItems (insert mk i v) ≡ code ∷ i ∷ [])
+Asks mk cmd sg c m Wrong = (i : ℕ) (v : Move) → m ≡ moveCode v → (isStill v ≡ true → (isSign c && sg) ≡ false) → callByte cmd (named mk i v) c ≡ wrong
+
+-- that a number, which has a digit if m, is not closed by z, or is none from 1 to top
+abbrev pub Unclosed : ℕ → ℕ → Bool → ℕ → ℕ → Bool → Type 0
+Unclosed b z m v top true = (b ≡ z → ⊥) ⊎ ((b ≡ z) × ((m ≡ false) ⊎ ((m ≡ true) × ((v < 1) ⊎ (top < v)))))
+Unclosed b z m v top false = (b ≡ z) × (m ≡ true) × (1 ≤ v) × (v ≤ top)
 
 -- behind a tag's number w, of which v is kept
 abbrev pub TagFrom : List ℕ → ℕ → ℕ → List ℕ → List ℕ → ℕ → ℕ → ℕ → Ended → Type 0
@@ -132,6 +172,12 @@ TextFrom s a p old out n (NoEnd f q) = (q ≤ length s) × ((pl : Place) (i : �
 -- behind a text of k bytes
 unfoldable pub padding : ℕ → List ℕ
 padding k = pick (eqb (k % 2) 0) [] (0 ∷ [])
+
+-- around a text from n + 4 up to e: first its padding, then its length, then the item of the letter i with a move of the code m
+abbrev pub PutStore : List ℕ → List ℕ → ℕ → ℕ → ℕ → ℕ → ℕ → Type 0
+PutStore old out n e i m r =
+    (r ≡ e + length (padding (e - (n + 4)))) × (padded : List ℕ) × (sized : List ℕ) × (length padded ≡ length old) × (length sized ≡ length old)
+    × Wrote old padded e (padding (e - (n + 4))) × Wrote padded sized (n + 2) (43 ∷ (e - (n + 4)) ∷ []) × Wrote sized out n ((72 + m) ∷ i ∷ [])
 
 -- behind the `:` of the letter i, whose move has the code m
 abbrev pub StoreFrom : List ℕ → ℕ → ℕ → List ℕ → List ℕ → ℕ → ℕ → ℕ → Ended → Type 0

@@ -2,20 +2,22 @@
 use Prim.Native.Nat.{ℕ, _+_, _-_, _*_, _≤_, _<_}
 use mathlib.Core.Path.{_≡_}
 use mathlib.Core.Bool.{Bool, false, not, _&&_}
-use mathlib.Core.List.{List, _∷_, _++_, reverse}
+use mathlib.Core.List.{List, [], _∷_, _++_, reverse}
 use mathlib.Core.Option.{none, some}
 use lib.Dec.{eqb}
 use lib.ListN.{length, getD, take, drop, replicate}
 use Rattle.macros.specs.Bounds.{mostMacros, mostTags}
 use Rattle.macros.specs.Refusals.FileRefusal.{incomplete}
-use Rattle.macros.specs.Macro.{Macro, Table, pick}
-use Rattle.macros.specs.Read.{Read, readFrom, firstZero, readOnto}
+use Rattle.macros.specs.Macro.{Macro, Table, Action, Call, pick, tags}
+use Rattle.macros.specs.Read.{Read, Front, readFrom, firstZero, readOnto}
+use Rattle.macros.specs.Read.Part.{replacement as parting}
 use Rattle.macros.specs.Read.Reader.{between}
 use Rattle.macros.specs.Read.Read.{refusedAt, table}
 use Rattle.macros.specs.Accepted.{Accepted}
-use Rattle.tables.specs.Form.{slotBytes, bodyBytes, two, header, body, slots, form}
-use Rattle.scanning.specs.Scan.{faultOf}
+use Rattle.tables.specs.Form.{slotBytes, bodyBytes, two, symbolCode, replacementItems, callsItems, header, body, slots, form}
+use Rattle.scanning.specs.Scan.{faultOf, run}
 use Rattle.items.specs.Items.{Wrote}
+use Rattle.reading.specs.Action.{symbolOf}
 use Rattle.scanning.specs.declared.Fault.the-variants.{Incomplete}
 use Rattle.scanning.specs.declared.Next.{Next}
 use Rattle.scanning.specs.declared.Next.the-variants.{Byte, Refused as NoByte}
@@ -59,6 +61,32 @@ pub record Macroed (s : List ℕ) (a q : ℕ) (old out : List ℕ) (h : Head) : 
 abbrev pub MacroFrom : List ℕ → ℕ → List ℕ → List ℕ → Built → Type 0
 MacroFrom s a old out (Made q h) = Macroed s a q old out h
 MacroFrom s a old out (NoMacro f q) = (q ≤ length s) × ((ms : List Macro) → length ms < mostMacros → readFrom a (between false ms) (drop a s) ≡ refusedAt (faultOf f) q)
+
+-- what was read
+abbrev pub wholeOf : Front → List Action → List Call → Macro
+wholeOf f l cs = record { pattern = reverse (f .pieces); symbol = f .symbol; replacement = reverse l; commands = reverse cs }
+
+-- behind a pattern of k tags, whose items end at i, and the symbol b: the replacement and the commands read from p up to q, behind the `;`; their items are written from i on
+pub record Parted (s : List ℕ) (a p : ℕ) (old out : List ℕ) (b i k q : ℕ) (h : Head) : Type 0 where
+  -- newest first
+  pub actions : List Action
+  pub calls : List Call
+  pub symbol : h .symbol ≡ symbolCode (symbolOf b)
+  pub tagged : h .tags ≡ k
+  pub first : h .pattern ≡ i
+  pub second : h .replacement ≡ length (replacementItems (reverse actions))
+  pub third : h .commands ≡ length (callsItems (reverse calls))
+  pub wrote : Wrote old out i (replacementItems (reverse actions) ++ callsItems (reverse calls))
+  pub room : h .replacement + h .commands + 2 ≤ 2 * (q - p)
+  pub further : p < q
+  pub reached : q ≤ length s
+  pub counted : q ≤ a + 512
+  pub answer : (f : Front) → tags (f .pieces) ≡ k → (ms : List Macro) → run s a ms false p (parting none f []) ≡ readFrom q (between false (wholeOf f actions calls ∷ ms)) (drop q s)
+
+-- what reading them says
+abbrev pub PartsFrom : List ℕ → ℕ → ℕ → List ℕ → List ℕ → ℕ → ℕ → ℕ → Built → Type 0
+PartsFrom s a p old out b i k (Made q h) = Parted s a p old out b i k q h
+PartsFrom s a p old out b i k (NoMacro f q) = (q ≤ length s) × ((g : Front) → tags (g .pieces) ≡ k → (ms : List Macro) → run s a ms false p (parting none g []) ≡ refusedAt (faultOf f) q)
 
 -- the slot of a head and the bytes that the items are in
 abbrev pub slotOf : Head → List ℕ → List ℕ

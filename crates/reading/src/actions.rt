@@ -3,6 +3,7 @@ use crate::Ended;
 use crate::calls::call;
 use crate::calls::next_end;
 use crate::calls::number_end;
+use crate::calls::unclosed;
 use items::put_item;
 use letters::escaped_byte;
 use letters::is_break;
@@ -19,12 +20,12 @@ ghost use lib.ListN.{length};
 ghost use Rattle.macros.specs.Macro.{markByte};
 ghost use Rattle.scanning.specs.Scan.{Reached, Here, faultOf};
 ghost use Rattle.reading.specs.Call.{markOf};
-ghost use Rattle.reading.specs.Action.{SymbolAt, QuoteAt, ActionFrom, EscapeFrom, ReplacedFrom, CommandFrom, CommandsFrom, wrongTag};
+ghost use Rattle.reading.specs.Action.{SymbolAt, QuoteAt, FrontAt, IsMark, ActionFrom, EscapeFrom, ReplacedFrom, CommandFrom, CommandsFrom, wrongTag};
 
 // BETWEEN PATTERN AND REPLACEMENT: "other text is ignored, but a `'` or `;` out of turn is 12"
 
 // The symbol, `=` or `<`, with its place.
-pub(crate) fn find_symbol(s: &[u8], a: usize, first: usize) -> Next
+fn find_symbol(s: &[u8], a: usize, first: usize) -> Next
     requires { ⌜ Reached (now s) a first ⌝ }
     ensures { λ r. ⌜ SymbolAt (now (s .entry)) a first r ⌝ }
 {
@@ -51,7 +52,7 @@ pub(crate) fn find_symbol(s: &[u8], a: usize, first: usize) -> Next
 }
 
 // The replacement's first quote with its place.
-pub(crate) fn find_quote(s: &[u8], a: usize, first: usize) -> Next
+fn find_quote(s: &[u8], a: usize, first: usize) -> Next
     requires { ⌜ Reached (now s) a first ⌝ }
     ensures { λ r. ⌜ QuoteAt (now (s .entry)) a first r ⌝ }
 {
@@ -71,7 +72,35 @@ pub(crate) fn find_quote(s: &[u8], a: usize, first: usize) -> Next
     }
 }
 
+// The symbol, with the place of the replacement's first quote.
+pub(crate) fn find_replacement(s: &[u8], a: usize, first: usize) -> Next
+    requires { ⌜ Reached (now s) a first ⌝ }
+    ensures { λ r. ⌜ FrontAt (now (s .entry)) a first r ⌝ }
+{
+    let sign = find_symbol(s, a, first);
+    let Next::Byte(b, y) = sign else {
+        return sign;
+    };
+    let quote = find_quote(s, a, y + 1);
+    let Next::Byte(_, z) = quote else {
+        return quote;
+    };
+    Next::Byte(b, z)
+}
+
 // REPLACEMENT
+
+fn is_mark(b: u8) -> bool
+    ensures { λ r. ⌜ IsMark b r ⌝ }
+{
+    if b == b'&' {
+        return true;
+    }
+    if b == b'#' {
+        return true;
+    }
+    false
+}
 
 fn mark_byte(counter: bool) -> u8
     ensures { λ r. ⌜ r ≡ markByte (markOf counter) ⌝ }
@@ -119,7 +148,7 @@ fn tag_fault(b: u8) -> Fault
     Fault::BadCall
 }
 
-// `{n}`, whose `{` stands at a place: 16 at the `}` if the pattern has no such tag.
+// `{n}`, whose `{` stands at a place: if the pattern has no such tag, the `}` is a wrong byte, 16.
 fn tag_part(s: &[u8], out: &mut [u8], a: usize, at: usize, n: usize, tags: usize) -> Ended
     requires { ⌜ Here (now s) a at 123 × (n + 2 * (a + 513 - at) ≤ length (now out)) × (tags ≤ 99) ⌝ }
     ensures { λ r. ⌜ ActionFrom (now (s .entry)) a at (now (out .entry)) (now (out .exit)) n tags r ⌝ }
@@ -128,17 +157,8 @@ fn tag_part(s: &[u8], out: &mut [u8], a: usize, at: usize, n: usize, tags: usize
     let Number::Got(v, some, b, q) = number else {
         return number_end(number);
     };
-    if b != b'}' {
+    if unclosed(b, b'}', some, v, tags as u64) {
         return Ended::Refused(tag_fault(b), q);
-    }
-    if !some {
-        return Ended::Refused(Fault::BadCall, q);
-    }
-    if v < 1 {
-        return Ended::Refused(Fault::BadCall, q);
-    }
-    if (tags as u64) < v {
-        return Ended::Refused(Fault::BadCall, q);
     }
     put_item(out, n, 41, v as u8);
     Ended::Upto(q + 1, n + 2)
@@ -168,11 +188,8 @@ fn action(s: &[u8], out: &mut [u8], a: usize, at: usize, b: u8, n: usize, tags: 
     if b == b'{' {
         return tag_part(s, out, a, at, n, tags);
     }
-    if b == b'&' {
-        return marked(s, out, a, at, n, false, tags);
-    }
-    if b == b'#' {
-        return marked(s, out, a, at, n, true, tags);
+    if is_mark(b) {
+        return marked(s, out, a, at, n, b == b'#', tags);
     }
     if is_break(b) {
         return Ended::Refused(Fault::Incomplete, at);
@@ -245,11 +262,8 @@ fn command(s: &[u8], out: &mut [u8], a: usize, at: usize, b: u8, n: usize, tags:
     if b == b'\'' {
         return Ended::Refused(Fault::Incomplete, at);
     }
-    if b == b'&' {
-        return marked_command(s, out, a, at, n, false, tags);
-    }
-    if b == b'#' {
-        return marked_command(s, out, a, at, n, true, tags);
+    if is_mark(b) {
+        return marked_command(s, out, a, at, n, b == b'#', tags);
     }
     Ended::Upto(at + 1, n)
 }

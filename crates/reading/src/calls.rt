@@ -1,6 +1,7 @@
 // Calls of a replacement and of commands, from behind their `&(` or `#(` to behind their `)`.
 use crate::Ended;
 use crate::Name;
+use crate::Tail;
 use items::put_item;
 use letters::escaped_byte;
 use letters::is_break;
@@ -24,7 +25,7 @@ ghost use Rattle.macros.specs.Read.{isSign};
 ghost use Rattle.tables.specs.Form.{four};
 ghost use Rattle.scanning.specs.Scan.{Reached, Here};
 ghost use Rattle.items.specs.Items.{Wrote};
-ghost use Rattle.reading.specs.Call.{CalledFrom, CounterFrom, Naming, Texting, TextFrom, SetFrom, TagFrom, StoreFrom, markOf, signCode, padding, nextName, nextEnd, numberEnd, nameEnd};
+ghost use Rattle.reading.specs.Call.{CalledFrom, NamedFrom, Naming, TagNaming, Texting, TextFrom, SetFrom, TagFrom, StoreFrom, PutStore, Unclosed, Asks, Starts, signsIn, markOf, signCode, padding, nextName, nextEnd, numberEnd, nameEnd};
 
 // REFUSALS HANDED ON
 
@@ -148,7 +149,26 @@ fn put_number(out: &mut [u8], n: usize, v: u64)
     put_item(out, n + 2, low_byte(v / 65536), low_byte(v / 16777216));
 }
 
-// A number, at most `top`, behind the `=` or `,` of the letter i, and its `)`: 16 there if it is out of range.
+// Whether a number, which may have no digit, is not closed by `close`, or is none from 1 to `top`.
+pub(crate) fn unclosed(b: u8, close: u8, some: bool, v: u64, top: u64) -> bool
+    ensures { λ r. ⌜ Unclosed b close some v top r ⌝ }
+{
+    if b != close {
+        return true;
+    }
+    if !some {
+        return true;
+    }
+    if v < 1 {
+        return true;
+    }
+    if top < v {
+        return true;
+    }
+    false
+}
+
+// A number, at most `top`, behind the `=` or `,` of the letter i, and its `)`: if it is out of range, the `)` is a wrong byte, 16.
 fn set_call(
     s: &[u8],
     out: &mut [u8],
@@ -166,24 +186,30 @@ fn set_call(
     let Number::Got(v, some, b, q) = number else {
         return number_end(number);
     };
-    if b != b')' {
+    if unclosed(b, b')', some, v, top) {
         return Ended::Refused(wrong_byte(b), q);
-    }
-    if !some {
-        return Ended::Refused(Fault::BadCall, q);
-    }
-    if v < 1 {
-        return Ended::Refused(Fault::BadCall, q);
-    }
-    if top < v {
-        return Ended::Refused(Fault::BadCall, q);
     }
     put_item(out, n, code, i);
     put_number(out, n + 2, v);
     Ended::Upto(q + 1, n + 6)
 }
 
-// Behind a tag's number v, whose next byte is b: 16 at the `)` if the pattern has no such tag.
+// The `,` behind a tag's number, which must be the byte b, and the letter behind it.
+fn tag_name(s: &[u8], a: usize, at: usize, b: u8) -> Name
+    requires { ⌜ Here (now s) a at b × (b ≡ 32 → ⊥) × (digit b ≡ false) ⌝ }
+    ensures { λ r. ⌜ TagNaming (now (s .entry)) a at r ⌝ }
+{
+    if b != b',' {
+        return Name::Refused(wrong_byte(b), at);
+    }
+    let next = call_byte(s, a, at + 1);
+    let Next::Byte(c, q) = next else {
+        return next_name(next);
+    };
+    name(s, a, q, c, true)
+}
+
+// Behind a tag's number v, whose next byte is b: if the pattern has no such tag, the `)` is a wrong byte, 16.
 fn tag_call(
     s: &[u8],
     out: &mut [u8],
@@ -197,25 +223,12 @@ fn tag_call(
     requires { ⌜ Here (now s) a at b × (b ≡ 32 → ⊥) × (digit b ≡ false) × (n + 2 * (a + 513 - at) ≤ length (now out)) × (tags ≤ 99) ⌝ }
     ensures { λ r. ⌜ TagFrom (now (s .entry)) a at (now (out .entry)) (now (out .exit)) n v tags r ⌝ }
 {
-    if b != b',' {
-        return Ended::Refused(wrong_byte(b), at);
-    }
-    let next = call_byte(s, a, at + 1);
-    let Next::Byte(c, q) = next else {
-        return next_end(next);
-    };
-    let named = name(s, a, q, c, true);
+    let named = tag_name(s, a, at, b);
     let Name::Got(i, m, d, z) = named else {
         return name_end(named);
     };
-    if d != b')' {
+    if unclosed(d, b')', true, v, tags as u64) {
         return Ended::Refused(wrong_byte(d), z);
-    }
-    if v < 1 {
-        return Ended::Refused(Fault::BadCall, z);
-    }
-    if (tags as u64) < v {
-        return Ended::Refused(Fault::BadCall, z);
     }
     put_item(out, n, 64 + m, i);
     put_item(out, n + 2, 42, v as u8);
@@ -282,6 +295,17 @@ fn pad(out: &mut [u8], n: usize, e: usize) -> usize
     e + 1
 }
 
+// Behind the text from n + 4 to e its zero, before it its length and the item of the letter i with the move m.
+fn put_store(out: &mut [u8], n: usize, e: usize, i: u8, m: u8) -> usize
+    requires { ⌜ (n + 4 ≤ e) × (e ≤ n + 54) × (e < length (now out)) × (m ≤ 4) ⌝ }
+    ensures { λ r. ⌜ PutStore (now (out .entry)) (now (out .exit)) n e i m r ⌝ }
+{
+    let end = pad(out, n + 4, e);
+    put_item(out, n + 2, 43, (e - (n + 4)) as u8);
+    put_item(out, n, 72 + m, i);
+    end
+}
+
 // Behind the `:` of the letter i with the move m. The text's length is stored when it is known.
 fn text_call(s: &[u8], out: &mut [u8], a: usize, at: usize, n: usize, i: u8, m: u8) -> Ended
     requires { ⌜ Reached (now s) a at × (n + 4 + 2 * (a + 513 - at) ≤ length (now out)) × (m ≤ 4) ⌝ }
@@ -298,13 +322,110 @@ fn text_call(s: &[u8], out: &mut [u8], a: usize, at: usize, n: usize, i: u8, m: 
     if b != b')' {
         return Ended::Refused(wrong_byte(b), z);
     }
-    let end = pad(out, n + 4, e);
-    put_item(out, n + 2, 43, (e - (n + 4)) as u8);
-    put_item(out, n, 72 + m, i);
+    let end = put_store(out, n, e, i, m);
     Ended::Upto(z + 1, end)
 }
 
 // CALLS
+
+// What the byte c behind a letter with the move m asks for in `&(..)`.
+fn stack_tail(c: u8, m: u8, cmd: bool) -> Tail
+    requires { ⌜ m ≤ 4 ⌝ }
+    ensures { λ r. ⌜ Asks (markOf false) cmd (signsIn false cmd) c m r ⌝ }
+{
+    if c == b':' {
+        return Tail::Text;
+    }
+    if c == b'=' {
+        if 0 < m {
+            return Tail::Wrong;
+        }
+        return Tail::Set(80, 20);
+    }
+    if c != b')' {
+        return Tail::Wrong;
+    }
+    if cmd {
+        return Tail::Wrong;
+    }
+    Tail::Insert(48 + m)
+}
+
+// The same in `#(..)`.
+fn counter_tail(c: u8, m: u8, cmd: bool) -> Tail
+    requires { ⌜ m ≤ 4 ⌝ }
+    ensures { λ r. ⌜ Asks (markOf true) cmd (signsIn true cmd) c m r ⌝ }
+{
+    if c == b',' {
+        if 0 < m {
+            return Tail::Wrong;
+        }
+        return Tail::Set(96, 999999999);
+    }
+    if c == b'=' {
+        if 0 < m {
+            return Tail::Wrong;
+        }
+        return Tail::Set(88, 999999999);
+    }
+    if c != b')' {
+        return Tail::Wrong;
+    }
+    if cmd {
+        return Tail::Wrong;
+    }
+    Tail::Insert(56 + m)
+}
+
+fn tail(c: u8, m: u8, counter: bool, cmd: bool) -> Tail
+    requires { ⌜ m ≤ 4 ⌝ }
+    ensures { λ r. ⌜ Asks (markOf counter) cmd (signsIn counter cmd) c m r ⌝ }
+{
+    if counter {
+        return counter_tail(c, m, cmd);
+    }
+    stack_tail(c, m, cmd)
+}
+
+// Whether a letter may have a sign: not as a command of a counter.
+fn signs_in(counter: bool, cmd: bool) -> bool
+    ensures { λ r. ⌜ r ≡ signsIn counter cmd ⌝ }
+{
+    if counter {
+        return !cmd;
+    }
+    true
+}
+
+// A call from its letter on, whose first byte is b.
+fn named_call(
+    s: &[u8],
+    out: &mut [u8],
+    a: usize,
+    at: usize,
+    b: u8,
+    n: usize,
+    counter: bool,
+    cmd: bool,
+) -> Ended
+    requires { ⌜ Here (now s) a at b × (b ≡ 32 → ⊥) × Starts counter b × (n + 2 * (a + 513 - at) ≤ length (now out)) ⌝ }
+    ensures { λ r. ⌜ NamedFrom (now (s .entry)) a at (now (out .entry)) (now (out .exit)) n (markOf counter) cmd r ⌝ }
+{
+    let named = name(s, a, at, b, signs_in(counter, cmd));
+    let Name::Got(i, m, c, z) = named else {
+        return name_end(named);
+    };
+    let asked = tail(c, m, counter, cmd);
+    match asked {
+        Tail::Text => text_call(s, out, a, z + 1, n, i, m),
+        Tail::Set(code, top) => set_call(s, out, a, z + 1, n, code, i, top),
+        Tail::Insert(code) => {
+            put_item(out, n, code, i);
+            Ended::Upto(z + 1, n + 2)
+        }
+        Tail::Wrong => Ended::Refused(wrong_byte(c), z),
+    }
+}
 
 fn stack_call(
     s: &[u8],
@@ -325,61 +446,18 @@ fn stack_call(
     if some {
         return tag_call(s, out, a, q, b, n, v, tags);
     }
-    let named = name(s, a, q, b, true);
-    let Name::Got(i, m, c, z) = named else {
-        return name_end(named);
-    };
-    if c == b':' {
-        return text_call(s, out, a, z + 1, n, i, m);
-    }
-    if c == b'=' {
-        if 0 < m {
-            return Ended::Refused(Fault::BadCall, z);
-        }
-        return set_call(s, out, a, z + 1, n, 80, i, 20);
-    }
-    if c != b')' {
-        return Ended::Refused(wrong_byte(c), z);
-    }
-    if cmd {
-        return Ended::Refused(Fault::BadCall, z);
-    }
-    put_item(out, n, 48 + m, i);
-    Ended::Upto(z + 1, n + 2)
+    named_call(s, out, a, q, b, n, false, cmd)
 }
 
 fn counter_call(s: &[u8], out: &mut [u8], a: usize, at: usize, n: usize, cmd: bool) -> Ended
     requires { ⌜ Reached (now s) a at × (n + 2 * (a + 513 - at) ≤ length (now out)) ⌝ }
-    ensures { λ r. ⌜ CounterFrom (now (s .entry)) a at (now (out .entry)) (now (out .exit)) n cmd r ⌝ }
+    ensures { λ r. ⌜ NamedFrom (now (s .entry)) a at (now (out .entry)) (now (out .exit)) n (markOf true) cmd r ⌝ }
 {
     let next = call_byte(s, a, at);
     let Next::Byte(b, q) = next else {
         return next_end(next);
     };
-    let named = name(s, a, q, b, !cmd);
-    let Name::Got(i, m, c, z) = named else {
-        return name_end(named);
-    };
-    if c == b',' {
-        if 0 < m {
-            return Ended::Refused(Fault::BadCall, z);
-        }
-        return set_call(s, out, a, z + 1, n, 96, i, 999999999);
-    }
-    if c == b'=' {
-        if 0 < m {
-            return Ended::Refused(Fault::BadCall, z);
-        }
-        return set_call(s, out, a, z + 1, n, 88, i, 999999999);
-    }
-    if c != b')' {
-        return Ended::Refused(wrong_byte(c), z);
-    }
-    if cmd {
-        return Ended::Refused(Fault::BadCall, z);
-    }
-    put_item(out, n, 56 + m, i);
-    Ended::Upto(z + 1, n + 2)
+    named_call(s, out, a, q, b, n, true, cmd)
 }
 
 // One call behind its `&(` or, if counter, `#(`, in a replacement or, if cmd, as a command.

@@ -9,8 +9,7 @@ use crate::Reading;
 use crate::SLOT_BYTES;
 use crate::Seek;
 use crate::actions::commands;
-use crate::actions::find_quote;
-use crate::actions::find_symbol;
+use crate::actions::find_replacement;
 use crate::actions::replacement;
 use crate::slots::store;
 use items::clear;
@@ -20,12 +19,13 @@ use scanning::Fault;
 use scanning::MOST_MACRO_BYTES;
 use scanning::Next;
 ghost use mathlib.Core.Path.{_≡_};
-ghost use Prim.Native.Nat.{_≤_, _<_};
+ghost use Prim.Native.Nat.{_≤_, _<_, _*_, _+_, _-_};
 ghost use lib.ListN.{length, getD};
-ghost use Rattle.macros.specs.Bounds.{mostMacros};
+ghost use Rattle.macros.specs.Bounds.{mostMacros, mostTags};
 ghost use Rattle.tables.specs.Form.{slotBytes, tableBytes, symbolCode};
+ghost use Rattle.scanning.specs.Scan.{Reached};
 ghost use Rattle.reading.specs.Action.{symbolOf};
-ghost use Rattle.reading.specs.File.{MacroFrom, noPattern, noNext, noEnd, opens, turned, Seeks, ZeroAt, AddsFrom, noQuote, noMacro, tableOf, Lent, Onto};
+ghost use Rattle.reading.specs.File.{MacroFrom, PartsFrom, noPattern, noNext, noEnd, opens, turned, Seeks, ZeroAt, AddsFrom, noQuote, noMacro, tableOf, Lent, Onto};
 
 fn symbol_code(b: u8) -> u8
     ensures { λ r. ⌜ r ≡ symbolCode (symbolOf b) ⌝ }
@@ -36,24 +36,12 @@ fn symbol_code(b: u8) -> u8
     1
 }
 
-// The macro whose first quote stands at a; its items are written from 0 on.
-fn one_macro(s: &[u8], out: &mut [u8], a: usize) -> Built
-    requires { ⌜ (a < length (now s)) × (getD (now s) a 0 ≡ 39) × (slotBytes ≤ length (now out)) ⌝ }
-    ensures { λ r. ⌜ MacroFrom (now (s .entry)) a (now (out .entry)) (now (out .exit)) r ⌝ }
+// The replacement and the commands from `at` on, behind a pattern of so many tags, whose items end at i, and the symbol b.
+fn parts(s: &[u8], out: &mut [u8], a: usize, at: usize, b: u8, i: usize, tags: usize) -> Built
+    requires { ⌜ Reached (now s) a at × (i + 2 * (a + 513 - at) ≤ length (now out)) × (tags ≤ mostTags) ⌝ }
+    ensures { λ r. ⌜ PartsFrom (now (s .entry)) a at (now (out .entry)) (now (out .exit)) b i tags r ⌝ }
 {
-    let first = whole(s, out, a);
-    let Whole::Pattern(p, tags, i) = first else {
-        return no_pattern(first);
-    };
-    let sign = find_symbol(s, a, p);
-    let Next::Byte(b, y) = sign else {
-        return no_next(sign);
-    };
-    let quote = find_quote(s, a, y + 1);
-    let Next::Byte(_, z) = quote else {
-        return no_next(quote);
-    };
-    let second = replacement(s, out, a, z + 1, i, tags);
+    let second = replacement(s, out, a, at, i, tags);
     let Ended::Upto(v, j) = second else {
         return no_end(second);
     };
@@ -72,6 +60,22 @@ fn one_macro(s: &[u8], out: &mut [u8], a: usize) -> Built
         commands: k - j,
     };
     Built::Made(q + 1, head)
+}
+
+// The macro whose first quote stands at a; its items are written from 0 on.
+fn one_macro(s: &[u8], out: &mut [u8], a: usize) -> Built
+    requires { ⌜ (a < length (now s)) × (getD (now s) a 0 ≡ 39) × (slotBytes ≤ length (now out)) ⌝ }
+    ensures { λ r. ⌜ MacroFrom (now (s .entry)) a (now (out .entry)) (now (out .exit)) r ⌝ }
+{
+    let first = whole(s, out, a);
+    let Whole::Pattern(p, tags, i) = first else {
+        return no_pattern(first);
+    };
+    let quote = find_replacement(s, a, p);
+    let Next::Byte(b, z) = quote else {
+        return no_next(quote);
+    };
+    parts(s, out, a, z + 1, b, i, tags)
 }
 
 // BETWEEN MACROS: "Before a pattern only `'` and `/` count."

@@ -22,6 +22,14 @@ pub(crate) enum Name {
     Refused(Fault, usize),
 }
 
+// What the byte behind a call's letter asks for: a text; a number of at most so much, for the item of this code; the item of this code; nothing.
+pub(crate) enum Tail {
+    Text,
+    Set(u8, u64),
+    Insert(u8),
+    Wrong,
+}
+
 // The place behind what was read, and the end of the items written; or a refusal with its place.
 pub(crate) enum Ended {
     Upto(usize, usize),

@@ -8,7 +8,7 @@ ghost use lib.ListN.{length, take};
 ghost use Rattle.macros.specs.Bounds.{mostTags};
 ghost use Rattle.tables.specs.Form.{slotBytes, bodyBytes, two};
 ghost use Rattle.items.specs.Items.{Wrote};
-ghost use Rattle.reading.specs.File.{usedBytes, slotOf};
+ghost use Rattle.reading.specs.File.{headBytes, usedBytes, slotOf};
 
 // A number of two bytes, low byte first.
 fn put_two(out: &mut [u8], n: usize, v: usize)
@@ -30,19 +30,24 @@ fn copy_in(out: &mut [u8], n: usize, from: &[u8], k: usize)
     }
 }
 
+// A slot's first bytes.
+fn put_head(table: &mut [u8], base: usize, head: Head)
+    requires { ⌜ (base + slotBytes ≤ length (now table)) × (usedBytes head ≤ bodyBytes) × (head .tags ≤ mostTags) ⌝ }
+    ensures { λ _. ⌜ Wrote (now (table .entry)) (now (table .exit)) base (headBytes head) ⌝ }
+{
+    put_item(table, base, head.symbol, head.tags as u8);
+    put_two(table, base + 2, head.pattern);
+    put_two(table, base + 4, head.replacement);
+    put_two(table, base + 6, head.commands);
+}
+
 // A slot: its head, the items of the macro, and zeros.
 pub(crate) fn store(table: &mut [u8], base: usize, body: &[u8], head: Head)
     requires { ⌜ (base + slotBytes ≤ length (now table)) × (usedBytes head ≤ length (now body)) × (usedBytes head ≤ bodyBytes) × (head .tags ≤ mostTags) ⌝ }
     ensures { λ _. ⌜ Wrote (now (table .entry)) (now (table .exit)) base (slotOf head (now (body .entry))) ⌝ }
 {
-    let first = head.pattern;
-    let second = head.replacement;
-    let third = head.commands;
-    let used = first + second + third;
-    put_item(table, base, head.symbol, head.tags as u8);
-    put_two(table, base + 2, first);
-    put_two(table, base + 4, second);
-    put_two(table, base + 6, third);
+    let used = head.pattern + head.replacement + head.commands;
+    put_head(table, base, head);
     copy_in(table, base + 8, body, used);
     clear(table, base + 8 + used, SLOT_BYTES - 8 - used);
 }

@@ -1,6 +1,6 @@
+use Rattle.reading.proofs.Texts.{store-fault, store-text, store-none, store-byte, store-wrong, store-put}
 use native.Mathlib.Omega.{arith}
 use denote.Ref.{now}
-use Rattle.reading.proofs.Texts.{store-fault, store-text, store-none, store-byte, store-wrong, store-done}
 use borrow.Author.Needs.{needs}
 use Rattle.reading.proofs.calls.text_call.Statement.{statement}
 use Rattle.reading.proofs.calls.text_call.Tie as tie
@@ -21,10 +21,18 @@ same-length : tie.Need-same-length
 same-length c = search needs
 
 returns : tie.Need-returns
-returns c = let args = c .before .before .before .before .before .before .before .before .args in let put-text = c .before .before .before .before .put-text in store-fault (now (args .s)) (args .a) (args .at) (now (args .out)) (put-text .last .1 .0) (args .n) (args .i) (args .m) (put-text .ensures) ((c .enum-told) .given .1)
+returns c =
+    let args = c .before .before .before .before .before .before .before .before .args in
+    let put-text = c .before .before .before .before .put-text in
+    let enum-told = c .enum-told in
+    store-fault (now (args .s)) (args .a) (args .at) (now (args .out)) (put-text .last .1 .0) (args .n) (args .i) (args .m) (put-text .ensures) (enum-told .given .1)
 
 call-byte-requires : tie.Need-call-byte-requires
-call-byte-requires c κs = let args = c .before .before .before .before .before .before .before .before .before .args in let put-text = c .before .before .before .before .before .put-text in let text = c .before .text in store-text (now (args .s)) (args .a) (args .at) (now (args .out)) (put-text .last .1 .0) (args .n) (args .i) (args .m) (put-text .ensures) (text .given .1) .reached
+call-byte-requires c κs =
+    let args = c .before .before .before .before .before .before .before .before .before .args in
+    let put-text = c .before .before .before .before .before .put-text in
+    let text = c .before .text in
+    store-text (now (args .s)) (args .a) (args .at) (now (args .out)) (put-text .last .1 .0) (args .n) (args .i) (args .m) (put-text .ensures) (text .given .1) .reached
 
 enum-known-next : tie.Need-enum-known-next
 enum-known-next c = c .match2 .keys1
@@ -39,7 +47,14 @@ same-length-2 : tie.Need-same-length-2
 same-length-2 c = search needs
 
 returns-2 : tie.Need-returns-2
-returns-2 c = let args = c .before .before .before .before .before .before .before .before .before .before .before .before .before .args in let put-text = c .before .before .before .before .before .before .before .before .before .put-text in let text = c .before .before .before .before .before .text in let call-byte = c .before .before .before .call-byte in let enum-told2 = c .before .enum-told2 in store-none (now (args .s)) (args .a) (args .at) (now (args .out)) (put-text .last .1 .0) (args .n) (args .i) (args .m) (put-text .ensures) (text .given .1) (call-byte .ensures) (enum-told2 .given .1) ((c .next-end) .ensures)
+returns-2 c =
+    let args = c .before .before .before .before .before .before .before .before .before .before .before .before .before .args in
+    let put-text = c .before .before .before .before .before .before .before .before .before .put-text in
+    let text = c .before .before .before .before .before .text in
+    let call-byte = c .before .before .before .call-byte in
+    let enum-told2 = c .before .enum-told2 in
+    let next-end = c .next-end in
+    store-none (now (args .s)) (args .a) (args .at) (now (args .out)) (put-text .last .1 .0) (args .n) (args .i) (args .m) (put-text .ensures) (text .given .1) (call-byte .ensures) (enum-told2 .given .1) (next-end .ensures)
 
 wrong-byte-requires : tie.Need-wrong-byte-requires
 wrong-byte-requires c κs = tt
@@ -48,43 +63,47 @@ same-length-3 : tie.Need-same-length-3
 same-length-3 c = search needs
 
 returns-3 : tie.Need-returns-3
-returns-3 c = let args = c .before .before .before .before .before .before .before .before .before .before .before .before .before .before .before .args in let put-text = c .before .before .before .before .before .before .before .before .before .before .before .put-text in let text = c .before .before .before .before .before .before .before .text in let call-byte = c .before .before .before .before .before .call-byte in let next = c .before .before .before .next in let if1 = c .before .if1 in store-wrong (now (args .s)) (args .a) (args .at) (now (args .out)) (put-text .last .1 .0) (args .n) (args .i) (args .m) (put-text .ensures) (text .given .1) (call-byte .ensures) (next .given .1) ((c .wrong-byte) .result) (if1 .taken) ((c .wrong-byte) .ensures)
+returns-3 c =
+    let args = c .before .before .before .before .before .before .before .before .before .before .before .before .before .before .before .args in
+    let put-text = c .before .before .before .before .before .before .before .before .before .before .before .put-text in
+    let text = c .before .before .before .before .before .before .before .text in
+    let call-byte = c .before .before .before .before .before .call-byte in
+    let next = c .before .before .before .next in
+    let wrong-byte = c .wrong-byte in
+    let if1 = c .before .if1 in
+    store-wrong (now (args .s)) (args .a) (args .at) (now (args .out)) (put-text .last .1 .0) (args .n) (args .i) (args .m) (put-text .ensures) (text .given .1) (call-byte .ensures) (next .given .1) (wrong-byte .result) (if1 .taken) (wrong-byte .ensures)
 
-add-pad : tie.Need-add-pad
-add-pad c = omega arith
+put-store-requires : tie.Need-put-store-requires
+put-store-requires c κs =
+    let args = c .before .before .before .before .before .before .before .before .before .before .before .before .before .before .before .args in
+    let put-text = c .before .before .before .before .before .before .before .before .before .before .before .put-text in
+    let text = c .before .before .before .before .before .before .before .text in
+    let pre = c .before .before .before .before .before .before .before .before .before .before .before .before .before .before .before .pre in
+    let t = store-text (now (args .s)) (args .a) (args .at) (now (args .out)) (put-text .last .1 .0) (args .n) (args .i) (args .m) (put-text .ensures) (text .given .1) in (omega (arith, t .used), omega (arith, t .used, t .short), omega (arith, t .used, t .room, t .reached .2, put-text .kept .1 .0, pre .1), pre .2)
 
-pad-requires : tie.Need-pad-requires
-pad-requires c κs = let args = c .before .before .before .before .before .before .before .before .before .before .before .before .before .before .before .args in let put-text = c .before .before .before .before .before .before .before .before .before .before .before .put-text in let text = c .before .before .before .before .before .before .before .text in let pre = c .before .before .before .before .before .before .before .before .before .before .before .before .before .before .before .pre in let t = store-text (now (args .s)) (args .a) (args .at) (now (args .out)) (put-text .last .1 .0) (args .n) (args .i) (args .m) (put-text .ensures) (text .given .1) in (omega (arith, t .used), omega (arith, t .used, t .room, t .reached .2, pre .1, put-text .kept .1 .0))
-
-add-put-item : tie.Need-add-put-item
-add-put-item c = omega arith
-
-add-put-item-2 : tie.Need-add-put-item-2
-add-put-item-2 c = omega arith
-
-sub-put-item : tie.Need-sub-put-item
-sub-put-item c = let args = c .before .before .before .before .before .before .before .before .before .before .before .before .before .before .before .before .before .before .before .args in let put-text = c .before .before .before .before .before .before .before .before .before .before .before .before .before .before .before .put-text in let text = c .before .before .before .before .before .before .before .before .before .before .before .text in let t = store-text (now (args .s)) (args .a) (args .at) (now (args .out)) (put-text .last .1 .0) (args .n) (args .i) (args .m) (put-text .ensures) (text .given .1) in omega (arith, t .used)
-
-cast-put-item : tie.Need-cast-put-item
-cast-put-item c = let args = c .before .before .before .before .before .before .before .before .before .before .before .before .before .before .before .before .before .before .before .args in let put-text = c .before .before .before .before .before .before .before .before .before .before .before .before .before .before .before .put-text in let text = c .before .before .before .before .before .before .before .before .before .before .before .text in let t = store-text (now (args .s)) (args .a) (args .at) (now (args .out)) (put-text .last .1 .0) (args .n) (args .i) (args .m) (put-text .ensures) (text .given .1) in omega (arith, t .used, t .short)
-
-put-item-requires : tie.Need-put-item-requires
-put-item-requires c κs = omega arith
-
-add-put-item-3 : tie.Need-add-put-item-3
-add-put-item-3 c = omega arith
-
-put-item-requires-2 : tie.Need-put-item-requires-2
-put-item-requires-2 c κs = omega arith
-
-add-t26 : tie.Need-add-t26
-add-t26 c = let args = c .before .before .before .before .before .before .before .before .before .before .before .before .before .before .before .before .before .before .before .before .before .before .before .before .before .before .args in let put-text = c .before .before .before .before .before .before .before .before .before .before .before .before .before .before .before .before .before .before .before .before .before .before .put-text in let text = c .before .before .before .before .before .before .before .before .before .before .before .before .before .before .before .before .before .before .text in let call-byte = c .before .before .before .before .before .before .before .before .before .before .before .before .before .before .before .before .call-byte in let next = c .before .before .before .before .before .before .before .before .before .before .before .before .before .before .next in let x = store-byte (now (args .s)) (args .a) (args .at) (now (args .out)) (put-text .last .1 .0) (args .n) (args .i) (args .m) (put-text .ensures) (text .given .1) (call-byte .ensures) (next .given .1) .found .1 .stands in omega (arith, x .there, (c .before .before .before .before .before .before .before .before .before .before .before .before .before .before .before .before .before .before .before .before .before .before .before .before .before .before))
+add-t17 : tie.Need-add-t17
+add-t17 c =
+    let args = c .before .before .before .before .before .before .before .before .before .before .before .before .before .before .before .before .before .before .args in
+    let put-text = c .before .before .before .before .before .before .before .before .before .before .before .before .before .before .put-text in
+    let text = c .before .before .before .before .before .before .before .before .before .before .text in
+    let call-byte = c .before .before .before .before .before .before .before .before .call-byte in
+    let next = c .before .before .before .before .before .before .next in
+    let f = store-byte (now (args .s)) (args .a) (args .at) (now (args .out)) (put-text .last .1 .0) (args .n) (args .i) (args .m) (put-text .ensures) (text .given .1) (call-byte .ensures) (next .given .1) .found in let x = f .1 .stands in omega (arith, x .there, (c .before .before .before .before .before .before .before .before .before .before .before .before .before .before .before .before .before .before))
 
 same-length-4 : tie.Need-same-length-4
 same-length-4 c = search needs
 
 returns-4 : tie.Need-returns-4
-returns-4 c = let args = c .before .before .before .before .before .before .before .before .before .before .before .before .before .before .before .before .before .before .before .before .before .before .before .before .before .before .args in let put-text = c .before .before .before .before .before .before .before .before .before .before .before .before .before .before .before .before .before .before .before .before .before .before .put-text in let text = c .before .before .before .before .before .before .before .before .before .before .before .before .before .before .before .before .before .before .text in let call-byte = c .before .before .before .before .before .before .before .before .before .before .before .before .before .before .before .before .call-byte in let next = c .before .before .before .before .before .before .before .before .before .before .before .before .before .before .next in let if1 = c .before .before .before .before .before .before .before .before .before .before .before .before .if1 in let pre = c .before .before .before .before .before .before .before .before .before .before .before .before .before .before .before .before .before .before .before .before .before .before .before .before .before .before .pre in let pad = c .before .before .before .before .before .before .before .before .before .before .pad in let put-item = c .before .before .before .before .before .before .put-item in let put-item2 = c .before .before .put-item2 in store-done (now (args .s)) (args .a) (args .at) (now (args .out)) (put-text .last .1 .0) (args .n) (args .i) (args .m) (put-text .ensures) (text .given .1) (call-byte .ensures) (next .given .1) (if1 .left) (omega (arith, pre .1)) (omega (arith, pre .1, put-text .kept .1 .0, pad .kept .0)) (omega (arith, pre .1, put-text .kept .1 .0, pad .kept .0, put-item .kept .0)) (pad .ensures .0) (pad .ensures .1) (put-item .ensures) (put-item2 .ensures)
+returns-4 c =
+    let args = c .before .before .before .before .before .before .before .before .before .before .before .before .before .before .before .before .before .before .args in
+    let put-text = c .before .before .before .before .before .before .before .before .before .before .before .before .before .before .put-text in
+    let text = c .before .before .before .before .before .before .before .before .before .before .text in
+    let call-byte = c .before .before .before .before .before .before .before .before .call-byte in
+    let next = c .before .before .before .before .before .before .next in
+    let if1 = c .before .before .before .before .if1 in
+    let pre = c .before .before .before .before .before .before .before .before .before .before .before .before .before .before .before .before .before .before .pre in
+    let put-store = c .before .before .put-store in
+    store-put (now (args .s)) (args .a) (args .at) (now (args .out)) (put-text .last .1 .0) (args .n) (args .i) (args .m) (put-text .ensures) (text .given .1) (call-byte .ensures) (next .given .1) (if1 .left) (omega (arith, pre .1)) (put-text .kept .1 .0) (put-store .ensures)
 
 pub text-call-spec : {M : Type 1} → statement M
 text-call-spec =
@@ -105,15 +124,7 @@ text-call-spec =
     wrong-byte-requires
     same-length-3
     returns-3
-    add-pad
-    pad-requires
-    add-put-item
-    add-put-item-2
-    sub-put-item
-    cast-put-item
-    put-item-requires
-    add-put-item-3
-    put-item-requires-2
-    add-t26
+    put-store-requires
+    add-t17
     same-length-4
     returns-4)

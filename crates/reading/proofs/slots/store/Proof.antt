@@ -1,57 +1,35 @@
-use native.Mathlib.Omega.{arith}
-use borrow.Author.Needs.{needs}
-use denote.Ref.{now}
 use Rattle.reading.proofs.Storing.{stored}
+use denote.Ref.{now}
+use borrow.Author.Needs.{needs}
 use Rattle.reading.proofs.slots.store.Statement.{statement}
 use Rattle.reading.proofs.slots.store.Tie as tie
 
 add-used : tie.Need-add-used
-add-used c = omega arith
+add-used c = search needs
 
 add-used-2 : tie.Need-add-used-2
-add-used-2 c = omega arith
+add-used-2 c = search needs
 
-cast-put-item : tie.Need-cast-put-item
-cast-put-item c = omega arith
-
-put-item-requires : tie.Need-put-item-requires
-put-item-requires c κs = omega arith
-
-add-put-two : tie.Need-add-put-two
-add-put-two c = omega arith
-
-put-two-requires : tie.Need-put-two-requires
-put-two-requires c κs = search needs
-
-add-put-two-2 : tie.Need-add-put-two-2
-add-put-two-2 c = omega arith
-
-put-two-requires-2 : tie.Need-put-two-requires-2
-put-two-requires-2 c κs = search needs
-
-add-put-two-3 : tie.Need-add-put-two-3
-add-put-two-3 c = omega arith
-
-put-two-requires-3 : tie.Need-put-two-requires-3
-put-two-requires-3 c κs = search needs
+put-head-requires : tie.Need-put-head-requires
+put-head-requires c κs = search needs
 
 add-copy-in : tie.Need-add-copy-in
-add-copy-in c = omega arith
+add-copy-in c = search needs
 
 copy-in-requires : tie.Need-copy-in-requires
 copy-in-requires c κs = search needs
 
 add-clear : tie.Need-add-clear
-add-clear c = omega arith
+add-clear c = search needs
 
 add-clear-2 : tie.Need-add-clear-2
-add-clear-2 c = omega arith
+add-clear-2 c = search needs
 
 sub-clear : tie.Need-sub-clear
-sub-clear c = omega arith
+sub-clear c = search needs
 
 sub-clear-2 : tie.Need-sub-clear-2
-sub-clear-2 c = omega arith
+sub-clear-2 c = search needs
 
 clear-requires : tie.Need-clear-requires
 clear-requires c κs = search needs
@@ -61,8 +39,12 @@ same-length c = search needs
 
 returns : tie.Need-returns
 returns c =
-    let args = c .before .before .before .before .before .before .before .before .before .before .before .before .before .before .before .before .before .before .before .before .before .before .before .before .before .before .before .args in
-    stored (args .head) (now (args .body)) (c .before .before .before .before .before .before .before .before .before .before .before .before .before .before .before .before .before .before .before .before .before .before .before .before .before .before .before .pre .1) (c .before .before .before .before .before .before .before .before .before .before .before .before .before .before .before .before .before .before .before .before .before .before .put-item .ensures) (c .before .before .before .before .before .before .before .before .before .before .before .before .before .before .before .before .before .before .put-two .ensures) (c .before .before .before .before .before .before .before .before .before .before .before .before .before .before .put-two2 .ensures) (c .before .before .before .before .before .before .before .before .before .before .put-two3 .ensures) (c .before .before .before .before .before .before .copy-in .ensures) (c .before .before .clear .ensures)
+    let args = c .before .before .before .before .before .before .before .before .before .before .before .before .before .before .before .before .args in
+    let pre = c .before .before .before .before .before .before .before .before .before .before .before .before .before .before .before .before .pre in
+    let put-head = c .before .before .before .before .before .before .before .before .before .before .put-head in
+    let copy-in = c .before .before .before .before .before .before .copy-in in
+    let clear = c .before .before .clear in
+    stored (args .head) (now (args .body)) (pre .1) (put-head .ensures) (copy-in .ensures) (clear .ensures)
 
 pub store-spec : {M : Type 1} → statement M
 store-spec =
@@ -70,14 +52,7 @@ store-spec =
     (tie.spec
     add-used
     add-used-2
-    cast-put-item
-    put-item-requires
-    add-put-two
-    put-two-requires
-    add-put-two-2
-    put-two-requires-2
-    add-put-two-3
-    put-two-requires-3
+    put-head-requires
     add-copy-in
     copy-in-requires
     add-clear
