@@ -22,16 +22,17 @@ fn access(tag: &[u8], t: &[u8], state: &mut [u8], base: usize, text: &mut [u8], 
     ensures { λ r. ⌜ Does (accessIn (now (tag .entry)) (now (t .entry))) base (now (text .entry)) (now (state .entry)) k (now (text .exit)) (now (state .exit)) r ⌝ }
 {
     let code = t[0];
+    let i = t[1];
     if code < 64 {
         return insert(tag, t, state, base, text, k);
     }
     if code < 72 {
-        return store(state, t[1], tag, k);
+        return store(state, i, tag, k);
     }
     if code < 80 {
-        return store(state, t[1], text_in(t), k);
+        return store(state, i, text_in(t), k);
     }
-    set(state, code, t[1], number_in(t), k)
+    set(state, code, i, number_in(t), k)
 }
 
 // "the pointer moves before or after the access"; the counter likewise.
