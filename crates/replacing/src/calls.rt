@@ -1,7 +1,6 @@
 // What a call changes (01, part 4): pointers, counters and entries. The answer hands on k, the bytes of the text so far.
 use crate::Fault;
 use crate::Outcome;
-use crate::texts::is_value;
 use crate::texts::is_within;
 use states::increment;
 use states::pointer;
@@ -89,7 +88,7 @@ pub(crate) fn shift(state: &mut [u8], code: u8, i: u8, first: u8, done: Outcome)
     let m = move_of(code);
     let up = m == first;
     if up | (m == first + 1) {
-        if is_value(code) {
+        if is_within(56, 63, code) {
             return move_value(state, i, up, k);
         }
         return move_pointer(state, i, up, k);

@@ -68,13 +68,6 @@ pub(crate) fn is_within(a: u8, z: u8, b: u8) -> bool
     (a <= b) & (b <= z)
 }
 
-// Whether a call's code is of a counter that it inserts.
-pub(crate) fn is_value(code: u8) -> bool
-    ensures { λ r. ⌜ r ≡ within 56 63 code ⌝ }
-{
-    (56 <= code) & (code <= 63)
-}
-
 // `#(i)`.
 fn put_value(v: u32, base: usize, text: &mut [u8], k: usize) -> Outcome
     requires { ⌜ (v ≤ mostCounter) × Room (now text) base k ⌝ }
@@ -113,7 +106,7 @@ pub(crate) fn insert<'a>(
     if code == 40 {
         return put(text, base, k, &t[1..2]);
     }
-    if is_value(code) {
+    if is_within(56, 63, code) {
         return put_value(value(state, i), base, text, k);
     }
     put(text, base, k, part(tag, state, code, i))

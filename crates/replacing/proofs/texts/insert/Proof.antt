@@ -31,11 +31,11 @@ same-length c = search needs
 returns : tie.Need-returns
 returns c = inserts-does (c .before .before .before .before .before .before .before .before .before .before .before .before .args .tag .now) (c .before .before .before .before .before .before .before .before .before .before .before .before .args .t .now) (c .before .before .put .ensures) (c .before .before .before .before .before .before .before .before .before .before .before .before .pre .1) (λ st h. byte-is (c .before .before .before .before .before .before .before .before .before .before .before .before .args .tag .now) (c .before .before .before .before .before .before .before .before .before .before .before .before .args .t .now) (omega (arith, some-size (c .before .before .before .before .before .before .before .before .before .before .before .before .args .t .now), c .before .before .before .before .before .before .before .before .before .before .before .before .pre .0 .held)) (c .before .before .before .before .before .if1 .taken) st)
 
-is-value-requires : tie.Need-is-value-requires
-is-value-requires c κs = search needs
+is-within-requires : tie.Need-is-within-requires
+is-within-requires c κs = search needs
 
 value-requires : tie.Need-value-requires
-value-requires c κs = (c .before .before .before .before .before .before .before .before .before .pre .1, c .before .before .before .before .before .before .before .before .before .pre .0 .letter (c .before .before .if1 .left) (not-tag (c .before .is-value .ensures) (c .if2 .taken)))
+value-requires c κs = (c .before .before .before .before .before .before .before .before .before .pre .1, c .before .before .before .before .before .before .before .before .before .pre .0 .letter (c .before .before .if1 .left) (not-tag (c .before .is-within .ensures) (c .if2 .taken)))
 
 put-value-requires : tie.Need-put-value-requires
 put-value-requires c κs = (value-small (c .before .before .before .before .before .before .before .before .before .before .before .args .state .now) (getD (c .before .before .before .before .before .before .before .before .before .before .before .args .t .now) 1 0) 0 (c .before .before .before .before .before .before .before .before .before .before .before .pre .1) (c .before .value .ensures), c .before .before .before .before .before .before .before .before .before .before .before .pre .2)
@@ -44,7 +44,7 @@ same-length-2 : tie.Need-same-length-2
 same-length-2 c = search needs
 
 returns-2 : tie.Need-returns-2
-returns-2 c = inserts-does (c .before .before .before .before .before .before .before .before .before .before .before .before .before .before .args .tag .now) (c .before .before .before .before .before .before .before .before .before .before .before .before .before .before .args .t .now) (c .before .before .put-value .ensures) (c .before .before .before .before .before .before .before .before .before .before .before .before .before .before .pre .1) (λ st h. value-is (c .before .before .before .before .before .before .before .before .before .before .before .before .before .before .args .tag .now) (c .before .before .before .before .before .before .before .before .before .before .before .before .before .before .args .t .now) (c .before .before .before .before .before .before .is-value .ensures) (c .before .before .before .before .before .if2 .taken) st (c .before .before .before .before .value .ensures st h))
+returns-2 c = inserts-does (c .before .before .before .before .before .before .before .before .before .before .before .before .before .before .args .tag .now) (c .before .before .before .before .before .before .before .before .before .before .before .before .before .before .args .t .now) (c .before .before .put-value .ensures) (c .before .before .before .before .before .before .before .before .before .before .before .before .before .before .pre .1) (λ st h. value-is (c .before .before .before .before .before .before .before .before .before .before .before .before .before .before .args .tag .now) (c .before .before .before .before .before .before .before .before .before .before .before .before .before .before .args .t .now) (c .before .before .before .before .before .before .is-within .ensures) (c .before .before .before .before .before .if2 .taken) st (c .before .before .before .before .value .ensures st h))
 
 part-requires : tie.Need-part-requires
 part-requires c κs = (c .before .before .before .before .before .before .before .before .before .before .pre .1, λ f. c .before .before .before .before .before .before .before .before .before .before .pre .0 .letter (c .before .before .before .if1 .left) f)
@@ -56,7 +56,7 @@ same-length-3 : tie.Need-same-length-3
 same-length-3 c = search needs
 
 returns-3 : tie.Need-returns-3
-returns-3 c = inserts-does (c .before .before .before .before .before .before .before .before .before .before .before .before .before .before .args .tag .now) (c .before .before .before .before .before .before .before .before .before .before .before .before .before .before .args .t .now) (c .before .before .put2 .ensures) (c .before .before .before .before .before .before .before .before .before .before .before .before .before .before .pre .1) (λ st h. part-is (c .before .before .before .before .before .before .before .before .before .before .before .before .before .before .args .tag .now) (c .before .before .before .before .before .before .before .before .before .before .before .before .before .before .args .t .now) (c .before .before .before .before .before .before .before .if1 .left) (c .before .before .before .before .before .before .is-value .ensures) (c .before .before .before .before .before .if2 .left) st (c .before .before .before .part .ensures st h))
+returns-3 c = inserts-does (c .before .before .before .before .before .before .before .before .before .before .before .before .before .before .args .tag .now) (c .before .before .before .before .before .before .before .before .before .before .before .before .before .before .args .t .now) (c .before .before .put2 .ensures) (c .before .before .before .before .before .before .before .before .before .before .before .before .before .before .pre .1) (λ st h. part-is (c .before .before .before .before .before .before .before .before .before .before .before .before .before .before .args .tag .now) (c .before .before .before .before .before .before .before .before .before .before .before .before .before .before .args .t .now) (c .before .before .before .before .before .before .before .if1 .left) (c .before .before .before .before .before .before .is-within .ensures) (c .before .before .before .before .before .if2 .left) st (c .before .before .before .part .ensures st h))
 
 pub insert-spec : {M : Type 1} → statement M
 insert-spec =
@@ -70,7 +70,7 @@ insert-spec =
     put-requires
     same-length
     returns
-    is-value-requires
+    is-within-requires
     value-requires
     put-value-requires
     same-length-2
