@@ -1,25 +1,24 @@
 -- Each way through the code's step against the definition's. Assumes nothing.
 use Prim.Native.Nat.{ℕ, zero, suc, _+_, _-_, _/_, _%_, _≤_, _<_}
 use mathlib.Core.Path.{_≡_, refl, sym, ap, _∙_}
-use mathlib.Core.Bool.{Bool, true, false, _&&_}
+use mathlib.Core.Bool.{Bool, true, false, _&&_, _||_}
 use mathlib.Core.List.{[]}
 use mathlib.Core.Option.{Option, none, some}
 use native.Mathlib.Numerals.{add-one}
-use native.Mathlib.Nat.{add-zero, add-assoc}
 use native.Mathlib.Omega.{arith}
 use borrow.Author.Tests.{eq-eqb, ne-eqb, lt-ltb, le-ltb, le-leb, lt-leb}
-use lib.Dec.{eqb}
+use lib.Dec.{eqb, leb}
 use Rattle.macros.specs.Macro.{Closure, PatternUnit, pick, within, lower}
 use Rattle.macros.specs.Macro.Mark.{stack, counter}
 use Rattle.macros.specs.Macro.PatternUnit.{literal, kind, class, callOf}
 use Rattle.tables.specs.Walk.{given, bit}
 use Rattle.tables.specs.PatternWalk.{Joint, Inside, PatternSpot, closureOf, closureLength, closureJoint, unitOf, literalLength, literalJoint, opening, elementAt, elementStep, signStep, pieceStep}
-use Rattle.tables.specs.PatternWalk.{owed, someMember, memberLength, memberSpot, memberStep}
+use Rattle.tables.specs.PatternWalk.{owed, atStart, behindSingle, someMember, memberLength, memberSpot, memberStep}
 use Rattle.tables.specs.PatternWalk.Joint.{loose}
 use Rattle.tables.specs.PatternWalk.Inside.{atBracket, atTilde}
 use Rattle.tables.specs.PatternWalk.PatternSpot.{behindPiece, inClass, inRange}
 use Rattle.tables.specs.PatternWalk.PatternState.{patternAt}
-use Rattle.checking.specs.PatternCode.{closedJoint, ended}
+use Rattle.checking.specs.PatternCode.{insideOf, closedJoint, ended}
 
 -- CLOSURES
 
@@ -97,15 +96,22 @@ module _ (n t d e o : ℕ) (neg : Bool) where
   unfolding given elementStep
   class-not k h = simp (ne-eqb o 0 (λ p. omega arith))
 
-  pub class-other : (k : Option Closure) → neg ≡ true → o ≤ 0 → ended (λ j. inClass j atTilde) (n + 3) t d e loose k ≡ elementStep n t d e loose (given (eqb o 0) (class neg [])) k
+  class-other : (k : Option Closure) → neg ≡ true → o ≤ 0 → ended (λ j. inClass j atTilde) (n + 2 + 1) t d e loose k ≡ elementStep n t d e loose (given (eqb o 0) (class neg [])) k
   unfolding given ended elementStep elementAt opening bit
   class-other none p h = rw (eq-eqb o 0 (omega arith))
-  class-other (some k) p h = rw (p, eq-eqb o 0 (omega arith), add-assoc n 2 1)
+  class-other (some k) p h = rw (p, eq-eqb o 0 (omega arith))
 
-  pub class-plain : (k : Option Closure) → neg ≡ false → o ≤ 0 → ended (λ j. inClass j atBracket) (n + 2) t d e loose k ≡ elementStep n t d e loose (given (eqb o 0) (class neg [])) k
+  class-plain : (k : Option Closure) → neg ≡ false → o ≤ 0 → ended (λ j. inClass j atBracket) (n + 2 + 0) t d e loose k ≡ elementStep n t d e loose (given (eqb o 0) (class neg [])) k
   unfolding given ended elementStep elementAt opening bit
   class-plain none p h = rw (eq-eqb o 0 (omega arith))
-  class-plain (some k) p h = rw (p, eq-eqb o 0 (omega arith), add-zero (n + 2))
+  class-plain (some k) p h = rw (p, eq-eqb o 0 (omega arith))
+
+pub class-into : (n t d e o w : ℕ) (k : Option Closure) → w ≤ 1 → o ≤ 0
+    → ended (λ j. inClass j (insideOf w)) (n + 2 + w) t d e loose k ≡ elementStep n t d e loose (given (eqb o 0) (class (eqb w 1) [])) k
+unfolding insideOf pick
+class-into n t d e o zero k l h = class-plain n t d e o false k refl h
+class-into n t d e o (suc zero) k l h = class-other n t d e o true k refl h
+class-into n t d e o (suc (suc w)) k l h = absurd (omega arith)
 
 class-joint : (n t d e : ℕ) (j : Joint) (k : Option Closure) (ok neg : Bool) → elementStep n t d e loose (given ok (class neg [])) k ≡ elementStep n t d e j (given ok (class neg [])) k
 unfolding given elementStep elementAt
@@ -174,6 +180,41 @@ module _ (n t d e : ℕ) (j : Joint) (c o : ℕ) where
   piece-sign h g = simp (lt-ltb c 8 (omega arith), eq-eqb o 0 (omega arith))
 
 -- MEMBERS
+
+past : (w m : ℕ) → m < 4 → eqb (suc (suc (suc (suc w)))) m ≡ false
+past w m h = ne-eqb (suc (suc (suc (suc w)))) m (λ p. omega arith)
+
+pub inside-start : (w : ℕ) → eqb w 0 ≡ atStart (insideOf w)
+unfolding atStart insideOf pick
+inside-start zero = refl
+inside-start (suc zero) = refl
+inside-start (suc (suc zero)) = refl
+inside-start (suc (suc (suc zero))) = refl
+inside-start (suc (suc (suc (suc w)))) = rw (past w 0 (omega arith), past w 1 (omega arith), past w 2 (omega arith), past w 3 (omega arith))
+
+pub inside-owed : (w : ℕ) → bit (eqb w 3) ≡ owed (insideOf w)
+unfolding bit owed insideOf pick
+inside-owed zero = refl
+inside-owed (suc zero) = refl
+inside-owed (suc (suc zero)) = refl
+inside-owed (suc (suc (suc zero))) = refl
+inside-owed (suc (suc (suc (suc w)))) = rw (past w 0 (omega arith), past w 1 (omega arith), past w 2 (omega arith), past w 3 (omega arith))
+
+pub inside-single : (w : ℕ) → (eqb w 2 || eqb w 3) ≡ behindSingle (insideOf w)
+unfolding behindSingle insideOf pick
+inside-single zero = refl
+inside-single (suc zero) = refl
+inside-single (suc (suc zero)) = refl
+inside-single (suc (suc (suc zero))) = refl
+inside-single (suc (suc (suc (suc w)))) = rw (past w 0 (omega arith), past w 1 (omega arith), past w 2 (omega arith), past w 3 (omega arith))
+
+pub inside-some : (w : ℕ) → leb 2 w ≡ someMember (insideOf w)
+unfolding someMember insideOf pick
+inside-some zero = refl
+inside-some (suc zero) = refl
+inside-some (suc (suc zero)) = refl
+inside-some (suc (suc (suc zero))) = refl
+inside-some (suc (suc (suc (suc w)))) = rw (past w 0 (omega arith), past w 1 (omega arith), past w 2 (omega arith), past w 3 (omega arith), le-leb 2 (suc (suc (suc (suc w)))) (omega arith))
 
 module _ (n t d e : ℕ) (j : Joint) (w : Inside) (c o : ℕ) where
   pub member-single : c ≡ 32 → 1 ≤ o → o ≤ 255 → memberStep n t d e j w c o ≡ some (patternAt (n + owed w + memberLength w o) t d e (inClass j (memberSpot w o)))

@@ -11,8 +11,6 @@ use Rattle.tables.specs.PatternWalk.PatternSpot.{behindPiece, inClass, inRange}
 use Rattle.tables.specs.PatternWalk.PatternState.{patternAt}
 use Rattle.checking.specs.declared.pattern.Joint.{Joint}
 use Rattle.checking.specs.declared.pattern.Joint.the-variants.{Loose, AfterStar, AfterQuery, AfterMark}
-use Rattle.checking.specs.declared.pattern.Inside.{Inside}
-use Rattle.checking.specs.declared.pattern.Inside.the-variants.{AtBracket, AtTilde, AtSingle, AtDash, AtRange}
 use Rattle.checking.specs.declared.pattern.PatternSpot.{PatternSpot}
 use Rattle.checking.specs.declared.pattern.PatternSpot.the-variants.{BehindPiece, InClass, InRange}
 use Rattle.checking.specs.declared.pattern.PatternState.{PatternState}
@@ -25,12 +23,8 @@ jointOf AfterStar = afterStar
 jointOf AfterQuery = afterQuery
 jointOf AfterMark = afterMark
 
-unfoldable pub insideOf : Inside → walks.Inside
-insideOf AtBracket = atBracket
-insideOf AtTilde = atTilde
-insideOf AtSingle = atSingle
-insideOf AtDash = atDash
-insideOf AtRange = atRange
+unfoldable pub insideOf : ℕ → walks.Inside
+insideOf w = pick (eqb w 0) atBracket (pick (eqb w 1) atTilde (pick (eqb w 2) atSingle (pick (eqb w 3) atDash atRange)))
 
 unfoldable pub spotOf : PatternSpot → walks.PatternSpot
 spotOf (BehindPiece j) = behindPiece (jointOf j)

@@ -9,10 +9,10 @@ ghost use Rattle.macros.specs.Macro.{pick};
 ghost use Rattle.macros.specs.Macro.PatternUnit.{class};
 ghost use Rattle.tables.specs.Walk.{given, walk};
 ghost use Rattle.tables.specs.PatternWalk.{joinsAt, literalLength, literalJoint, unitOf, closureOf, elementStep, signStep, pieceStep};
-ghost use Rattle.tables.specs.PatternWalk.{owed as owedOf, atStart, behindSingle, someMember, memberLength, memberSpot, memberStep, rangeStep};
+ghost use Rattle.tables.specs.PatternWalk.{memberLength, memberSpot, memberStep, rangeStep};
 ghost use Rattle.tables.specs.PatternWalk.{patternStep, patternStart, patternEnds};
 ghost use Rattle.tables.specs.PatternWalk.PatternState.{patternAt};
-ghost use Rattle.tables.specs.PatternWalk.PatternSpot.{behindPiece, inClass};
+ghost use Rattle.tables.specs.PatternWalk.PatternSpot.{behindPiece};
 ghost use Rattle.tables.specs.PatternWalk.Joint.{loose};
 ghost use Rattle.checking.specs.PatternCode.{jointOf, insideOf, spotOf, stateOf, nextOf, closedJoint, ended, Room};
 use crate::bytes;
@@ -24,17 +24,16 @@ pub enum Joint {
     AfterMark,
 }
 
-pub enum Inside {
-    AtBracket,
-    AtTilde,
-    AtSingle,
-    AtDash,
-    AtRange,
-}
+// Where in a class: 0 behind `[`, 1 behind `[~`, 2 behind a single member, 3 behind a `-` that is one, 4 behind a range.
+const SINGLE: u8 = 2;
+
+const DASH: u8 = 3;
+
+const RANGE: u8 = 4;
 
 pub enum PatternSpot {
     BehindPiece(Joint),
-    InClass(Joint, Inside),
+    InClass(Joint, u8),
     InRange(Joint, u8),
 }
 
@@ -119,22 +118,6 @@ fn behind(s: PatternState, n: u32, j: Joint, k: u8) -> PatternNext
     })
 }
 
-fn into(s: PatternState, n: u32, w: Inside, k: u8) -> PatternNext
-    requires { ⌜ (n ≤ 100010) × (s .elements ≤ 100000) ⌝ }
-    ensures { λ r. ⌜ nextOf r ≡ ended (λ j. inClass j (insideOf w)) n (s .tags) (s .braces) (s .elements) loose (closureOf k) ⌝ }
-{
-    if 2 < k {
-        return PatternNext::Refused;
-    }
-    PatternNext::At(PatternState {
-        spelled: n + k as u32,
-        tags: s.tags,
-        braces: s.braces,
-        elements: s.elements + 1,
-        spot: PatternSpot::InClass(closed(Joint::Loose, k), w),
-    })
-}
-
 fn literal_step(s: PatternState, j: Joint, k: u8, o: u8) -> PatternNext
     requires { ⌜ Room s ⌝ }
     ensures { λ r. ⌜ nextOf r ≡ elementStep (s .spelled) (s .tags) (s .braces) (s .elements) (jointOf j) (unitOf 2 o) (closureOf k) ⌝ }
@@ -156,17 +139,24 @@ fn unit_step(s: PatternState, ok: bool, length: u32, k: u8) -> PatternNext
     PatternNext::Refused
 }
 
-fn class_step(s: PatternState, neg: bool, k: u8, o: u8) -> PatternNext
-    requires { ⌜ Room s ⌝ }
-    ensures { λ r. ⌜ nextOf r ≡ elementStep (s .spelled) (s .tags) (s .braces) (s .elements) loose (given (eqb o 0) (class neg [])) (closureOf k) ⌝ }
+// `[`, where w is 0, or `[~`, where it is 1.
+fn class_step(s: PatternState, w: u8, k: u8, o: u8) -> PatternNext
+    requires { ⌜ Room s × (w ≤ 1) ⌝ }
+    ensures { λ r. ⌜ nextOf r ≡ elementStep (s .spelled) (s .tags) (s .braces) (s .elements) loose (given (eqb o 0) (class (eqb w 1) [])) (closureOf k) ⌝ }
 {
     if 0 < o {
         return PatternNext::Refused;
     }
-    if neg {
-        return into(s, s.spelled + 3, Inside::AtTilde, k);
+    if 2 < k {
+        return PatternNext::Refused;
     }
-    into(s, s.spelled + 2, Inside::AtBracket, k)
+    PatternNext::At(PatternState {
+        spelled: s.spelled + 2 + w as u32 + k as u32,
+        tags: s.tags,
+        braces: s.braces,
+        elements: s.elements + 1,
+        spot: PatternSpot::InClass(closed(Joint::Loose, k), w),
+    })
 }
 
 // The unit of code u with the operand o.
@@ -179,8 +169,8 @@ fn element_step(s: PatternState, j: Joint, u: u8, k: u8, o: u8) -> PatternNext
         3 => unit_step(s, bytes::is_within(1, 6, o), 2, k),
         4 => unit_step(s, bytes::is_within(97, 122, o), 4, k),
         5 => unit_step(s, bytes::is_within(97, 122, o), 4, k),
-        6 => class_step(s, false, k, o),
-        7 => class_step(s, true, k, o),
+        6 => class_step(s, 0, k, o),
+        7 => class_step(s, 1, k, o),
         _ => PatternNext::Refused,
     }
 }
@@ -239,75 +229,27 @@ fn piece_step(s: PatternState, j: Joint, c: u8, o: u8) -> PatternNext
     sign_step(s, c)
 }
 
-fn owed(w: Inside) -> u32
-    ensures { λ r. ⌜ r ≡ owedOf (insideOf w) ⌝ }
-{
-    match w {
-        Inside::AtBracket => 0,
-        Inside::AtTilde => 0,
-        Inside::AtSingle => 0,
-        Inside::AtDash => 1,
-        Inside::AtRange => 0,
-    }
-}
-
-fn at_start(w: Inside) -> bool
-    ensures { λ r. ⌜ r ≡ atStart (insideOf w) ⌝ }
-{
-    match w {
-        Inside::AtBracket => true,
-        Inside::AtTilde => false,
-        Inside::AtSingle => false,
-        Inside::AtDash => false,
-        Inside::AtRange => false,
-    }
-}
-
-fn behind_single(w: Inside) -> bool
-    ensures { λ r. ⌜ r ≡ behindSingle (insideOf w) ⌝ }
-{
-    match w {
-        Inside::AtBracket => false,
-        Inside::AtTilde => false,
-        Inside::AtSingle => true,
-        Inside::AtDash => true,
-        Inside::AtRange => false,
-    }
-}
-
-fn some_member(w: Inside) -> bool
-    ensures { λ r. ⌜ r ≡ someMember (insideOf w) ⌝ }
-{
-    match w {
-        Inside::AtBracket => false,
-        Inside::AtTilde => false,
-        Inside::AtSingle => true,
-        Inside::AtDash => true,
-        Inside::AtRange => true,
-    }
-}
-
-fn member_length(w: Inside, b: u8) -> u32
+fn member_length(w: u8, b: u8) -> u32
     ensures { λ r. ⌜ r ≡ memberLength (insideOf w) b ⌝ }
 {
-    1 + bytes::bit(bytes::is_class_sign(b) | ((b == 126) & at_start(w)))
+    1 + bytes::bit(bytes::is_class_sign(b) | ((b == 126) & (w == 0)))
 }
 
-fn member_spot(w: Inside, b: u8) -> Inside
+fn member_spot(w: u8, b: u8) -> u8
     ensures { λ r. ⌜ insideOf r ≡ memberSpot (insideOf w) b ⌝ }
 {
-    if (b == 45) & behind_single(w) {
-        return Inside::AtDash;
+    if (b == 45) & ((w == SINGLE) | (w == DASH)) {
+        return DASH;
     }
-    Inside::AtSingle
+    SINGLE
 }
 
 // A single member, a range's first end, or the `]`.
-fn member_step(s: PatternState, j: Joint, w: Inside, c: u8, o: u8) -> PatternNext
+fn member_step(s: PatternState, j: Joint, w: u8, c: u8, o: u8) -> PatternNext
     requires { ⌜ Room s ⌝ }
     ensures { λ r. ⌜ nextOf r ≡ memberStep (s .spelled) (s .tags) (s .braces) (s .elements) (jointOf j) (insideOf w) c o ⌝ }
 {
-    let n = s.spelled + owed(w);
+    let n = s.spelled + bytes::bit(w == DASH);
     match c {
         32 => {
             if o < 1 {
@@ -321,7 +263,7 @@ fn member_step(s: PatternState, j: Joint, w: Inside, c: u8, o: u8) -> PatternNex
         }
         33 => moved(s, n + 3, PatternSpot::InRange(j, o)),
         35 => {
-            if (o == 0) & some_member(w) {
+            if (o == 0) & (SINGLE <= w) {
                 return moved(s, s.spelled, PatternSpot::BehindPiece(j));
             }
             PatternNext::Refused
@@ -335,7 +277,7 @@ fn range_step(s: PatternState, j: Joint, a: u8, c: u8, o: u8) -> PatternNext
     ensures { λ r. ⌜ nextOf r ≡ rangeStep (s .spelled) (s .tags) (s .braces) (s .elements) (jointOf j) a c o ⌝ }
 {
     if (c == 34) & bytes::is_range(a, o) {
-        return moved(s, s.spelled, PatternSpot::InClass(j, Inside::AtRange));
+        return moved(s, s.spelled, PatternSpot::InClass(j, RANGE));
     }
     PatternNext::Refused
 }

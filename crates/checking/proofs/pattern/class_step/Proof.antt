@@ -1,7 +1,7 @@
 -- `checking::pattern::class_step` meets its contract. Assumes nothing.
-use mathlib.Core.Path.{_∙_, sym}
-use Rattle.checking.specs.PatternCode.{insideOf, nextOf}
-use Rattle.checking.proofs.PatternLaws.{class-not, class-other, class-plain}
+use mathlib.Core.Path.{sym, _∙_}
+use Rattle.checking.specs.PatternCode.{jointOf, spotOf, stateOf, nextOf}
+use Rattle.checking.proofs.PatternLaws.{ended-not, ended-by, class-not, class-into}
 use borrow.Author.Needs.{needs}
 use Rattle.checking.proofs.pattern.class_step.Statement.{statement}
 use Rattle.checking.proofs.pattern.class_step.Tie as tie
@@ -10,27 +10,29 @@ returns : tie.Need-returns
 unfolding nextOf
 returns c = sym (class-not _ _ _ _ _ _ _ (c .if1 .taken))
 
-add-into : tie.Need-add-into
-add-into c = search needs
-
-into-requires : tie.Need-into-requires
-into-requires c κs = search needs
-
 returns-2 : tie.Need-returns-2
-unfolding insideOf
-returns-2 c = c .into .ensures ∙ class-other _ _ _ _ _ _ _ (c .before .before .if2 .taken) (c .before .before .before .if1 .left)
+unfolding nextOf
+returns-2 c = sym (ended-not _ _ _ _ _ _ _ (c .if2 .taken)) ∙ (class-into _ _ _ _ _ (c .before .before .args .w) _ (c .before .before .pre .1) (c .before .if1 .left))
 
-add-into-2 : tie.Need-add-into-2
-add-into-2 c = search needs
+add-t6 : tie.Need-add-t6
+add-t6 c = search needs
 
-into-requires-2 : tie.Need-into-requires-2
-into-requires-2 c κs = search needs
+add-t8 : tie.Need-add-t8
+add-t8 c = search needs
+
+add-t10 : tie.Need-add-t10
+add-t10 c = search needs
+
+add-t11 : tie.Need-add-t11
+add-t11 c = search needs
+
+closed-requires : tie.Need-closed-requires
+closed-requires c κs = search needs
 
 returns-3 : tie.Need-returns-3
-unfolding insideOf
-returns-3 c = c .into2 .ensures ∙ class-plain _ _ _ _ _ _ _ (c .before .before .if2 .left) (c .before .before .before .if1 .left)
+unfolding jointOf spotOf stateOf nextOf
+returns-3 c = rw (c .closed .ensures) (sym (ended-by _ _ _ _ _ _ _ (c .before .before .before .if2 .left)) ∙ (class-into _ _ _ _ _ (c .before .before .before .before .before .args .w) _ (c .before .before .before .before .before .pre .1) (c .before .before .before .before .if1 .left)))
 
 pub class-step-spec : {M : Type 1} → statement M
 class-step-spec =
-    tie.close
-    (tie.spec returns add-into into-requires returns-2 add-into-2 into-requires-2 returns-3)
+    tie.close (tie.spec returns returns-2 add-t6 add-t8 add-t10 add-t11 closed-requires returns-3)

@@ -1,5 +1,7 @@
 -- `checking::pattern::member_length` meets its contract. Assumes nothing.
 use Rattle.tables.specs.PatternWalk.{memberLength}
+use mathlib.Core.Path.{sym}
+use Rattle.checking.proofs.PatternLaws.{inside-start}
 use Rattle.checking.proofs.ByteLaws.{bit-small}
 use native.Mathlib.Omega.{arith}
 use borrow.Author.Needs.{needs}
@@ -9,9 +11,6 @@ use Rattle.checking.proofs.pattern.member_length.Tie as tie
 is-class-sign-requires : tie.Need-is-class-sign-requires
 is-class-sign-requires c κs = search needs
 
-at-start-requires : tie.Need-at-start-requires
-at-start-requires c κs = search needs
-
 bit-requires : tie.Need-bit-requires
 bit-requires c κs = search needs
 
@@ -20,8 +19,8 @@ add-result c = omega (arith, bit-small _ _ (c .bit .ensures))
 
 returns : tie.Need-returns
 unfolding memberLength
-returns c = rw (c .bit .ensures, c .before .before .is-class-sign .ensures, c .before .at-start .ensures)
+returns c = rw (c .bit .ensures, c .before .is-class-sign .ensures, sym (inside-start (c .before .before .args .w)))
 
 pub member-length-spec : {M : Type 1} → statement M
 member-length-spec =
-    tie.close (tie.spec is-class-sign-requires at-start-requires bit-requires add-result returns)
+    tie.close (tie.spec is-class-sign-requires bit-requires add-result returns)

@@ -1,5 +1,6 @@
 -- `checking::pattern::range_step` meets its contract. Assumes nothing.
 use mathlib.Core.Path.{_∙_, sym}
+use Rattle.macros.specs.Macro.{pick}
 use Rattle.tables.specs.Walk.{given}
 use Rattle.tables.specs.PatternWalk.{rangeStep}
 use Rattle.checking.specs.PatternCode.{insideOf, spotOf, nextOf}
@@ -14,7 +15,7 @@ moved-requires : tie.Need-moved-requires
 moved-requires c κs = search needs
 
 returns : tie.Need-returns
-unfolding given rangeStep insideOf spotOf nextOf
+unfolding pick given rangeStep insideOf spotOf nextOf
 returns c = c .moved .ensures ∙ rw (sym (c .before .before .is-range .ensures), c .before .if1 .taken)
 
 returns-2 : tie.Need-returns-2
