@@ -9,7 +9,7 @@ use borrow.Author.Tests.{ne-eqb}
 use lib.Dec.{eqb}
 use lib.ListN.{length, getD, take, drop, length-drop, length-take, drop-of-length-le}
 use lib.Seq.{drop-cons, drop-drop, getD-drop, slice, take-add, drop-at, length-take-le}
-use Rattle.macros.specs.Macro.{Closure, Member, PatternUnit, Piece, pick, within}
+use Rattle.macros.specs.Macro.{Closure, Member, PatternUnit, Piece}
 use Rattle.macros.specs.Macro.Member.{single, range}
 use Rattle.macros.specs.Macro.Mark.{stack, counter}
 use Rattle.macros.specs.Macro.PatternUnit.{literal, kind, class, callOf}
@@ -19,7 +19,6 @@ use Rattle.macros.specs.Formed.{Bytes}
 use Rattle.lines.specs.Matching.{closing, tagText}
 use Rattle.lines.proofs.KeepBytes.{bytes-take, bytes-drop}
 use Rattle.replacing.specs.Contract.{EndsFrom}
-use Rattle.replacing.specs.Acting.{taggedIn}
 use Rattle.replacing.specs.Tags.{closeStep, closeIn, tagStep, tagIn, Spans}
 
 -- AN ITEM
@@ -181,23 +180,13 @@ step-bytes true zero s on h g = h
 step-bytes true (suc n) s on h g = g n
 step-bytes false n s on h g = g n
 
-tag-bytes : (t : List ℕ) (n : ℕ) (l ends : List ℕ) → Bytes t → Bytes (tagIn t n l ends)
+pub tag-bytes : (t : List ℕ) (n : ℕ) (l ends : List ℕ) → Bytes t → Bytes (tagIn t n l ends)
 unfolding tagIn
 tag-bytes t n [] ends h = tt
 tag-bytes t n (c ∷ []) ends h = tt
 tag-bytes t n (c ∷ b ∷ l) ends h =
     step-bytes (eqb c 1) n (slice (getD ends 0 0) (closeIn 0 l (drop 2 ends)) t) (λ k. tagIn t k l (drop 2 ends))
     (bytes-drop (getD ends 0 0) (take (closeIn 0 l (drop 2 ends)) t) (bytes-take (closeIn 0 l (drop 2 ends)) t h)) (λ k. tag-bytes t k l (drop 2 ends) h)
-
-either-bytes : (x : Bool) (a c : List ℕ) → Bytes a → Bytes c → Bytes (pick x a c)
-unfolding pick
-either-bytes true a c p q = p
-either-bytes false a c p q = q
-
-pub tagged-bytes : (line pat ends t : List ℕ) → Bytes line → Bytes (taggedIn line pat ends t)
-unfolding taggedIn
-tagged-bytes line pat ends t h =
-    either-bytes (eqb (getD t 0 0) 41) _ _ (tag-bytes line (getD t 1 0 - 1) pat ends h) (either-bytes (within 64 71 (getD t 0 0)) _ _ (tag-bytes line (getD t 3 0 - 1) pat ends h) tt)
 
 -- THE PIECES OF A PATTERN
 

@@ -43,16 +43,16 @@ fn close_of(pat: &[u8], ends: &[u16], first: usize) -> usize
     0
 }
 
-// The span of tag n: tags count from 1.
-fn tag_of(pat: &[u8], ends: &[u16], n: u8) -> Span
+// The span of the tag that has n left braces before its own.
+fn tag_of(pat: &[u8], ends: &[u16], n: usize) -> Span
     requires { ⌜ Ended (now pat) (now ends) ⌝ }
-    ensures { λ r. ⌜ Spans (now (pat .entry)) (now (ends .entry)) (n - 1) (r .from) (r .to) ⌝ }
+    ensures { λ r. ⌜ Spans (now (pat .entry)) (now (ends .entry)) n (r .from) (r .to) ⌝ }
 {
     let mut left = n;
     let mut i = 0;
     while i + 1 < pat.len() {
         if pat[i] == 1 {
-            if left < 2 {
+            if left < 1 {
                 let from = wide(ends[i]);
                 let to = close_of(pat, ends, i + 2);
                 return Span { from, to };
@@ -66,12 +66,22 @@ fn tag_of(pat: &[u8], ends: &[u16], n: u8) -> Span
     Span { from: 0, to: 0 }
 }
 
+// Tags count from 1.
+fn before(n: u8) -> usize
+    ensures { λ r. ⌜ r ≡ n - 1 ⌝ }
+{
+    if n < 1 {
+        return 0;
+    }
+    (n - 1) as usize
+}
+
 // The text of tag n, empty where it would end before its start.
 pub(crate) fn tag<'a>(pat: &[u8], ends: &[u16], line: &'a [u8], n: u8) -> &'a [u8]
     requires { ⌜ Divided (now pat) (now ends) (now line) ⌝ }
     ensures { λ r. ⌜ now r ≡ tagIn (now (line .entry)) (n - 1) (now (pat .entry)) (now (ends .entry)) ⌝ }
 {
-    let s = tag_of(pat, ends, n);
+    let s = tag_of(pat, ends, before(n));
     let from = s.from;
     let to = s.to;
     if to < from {

@@ -1,21 +1,20 @@
 // What an action inserts (01, part 4).
 use crate::Fault;
 use crate::Outcome;
+use crate::tags::tag;
 use states::entry;
 use states::value;
 ghost use mathlib.Core.Path.{_≡_};
 ghost use Prim.Native.Nat.{_+_, _≤_, _<_};
-ghost use lib.Dec.{eqb};
-ghost use lib.ListN.{length};
+ghost use lib.ListN.{length, getD};
 ghost use lib.Seq.{paste};
-ghost use Rattle.macros.specs.Bounds.{mostCounter};
-ghost use Rattle.macros.specs.Macro.{pick, within};
+ghost use Rattle.macros.specs.Macro.{within};
 ghost use Rattle.macros.specs.Formed.{Letter};
 ghost use Rattle.macros.specs.Write.{digits};
-ghost use Rattle.lines.specs.State.{currentEntry};
-ghost use Rattle.states.specs.Access.{IsState, OfState};
+ghost use Rattle.states.specs.Access.{IsState};
+ghost use Rattle.replacing.specs.Tags.{Divided};
 ghost use Rattle.replacing.specs.Acting.{Fit, insertsIn};
-ghost use Rattle.replacing.specs.Moments.{Room, Inserts, Does, Digits};
+ghost use Rattle.replacing.specs.Moments.{Room, Inserts, Does, Digits, Hands};
 
 // The bytes of a text from a place on.
 pub(crate) fn copy(out: &mut [u8], at: usize, bytes: &[u8])
@@ -62,52 +61,47 @@ fn put_digits(out: &mut [u8], v: u32) -> usize
     n + 1
 }
 
-pub(crate) fn is_within(a: u8, z: u8, b: u8) -> bool
-    ensures { λ r. ⌜ r ≡ within a z b ⌝ }
+// Whether a call's code is of a counter that it inserts.
+pub(crate) fn is_value(code: u8) -> bool
+    ensures { λ r. ⌜ r ≡ within 56 63 code ⌝ }
 {
-    (a <= b) & (b <= z)
-}
-
-// `#(i)`.
-fn put_value(v: u32, base: usize, text: &mut [u8], k: usize) -> Outcome
-    requires { ⌜ (v ≤ mostCounter) × Room (now text) base k ⌝ }
-    ensures { λ r. ⌜ Inserts (digits v) base (now (text .entry)) k (now (text .exit)) r ⌝ }
-{
-    let mut figures = [0u8; 9];
-    let n = put_digits(&mut figures, v);
-    put(text, base, k, &figures[..n])
+    (56 <= code) & (code <= 63)
 }
 
 // "The text of a tag or stack call is handed out as a part of the line or of the stack memory."
-fn part<'a>(tag: &'a [u8], state: &'a [u8], code: u8, i: u8) -> &'a [u8]
-    requires { ⌜ IsState (now state) × ((code ≡ 41 → ⊥) → Letter i) ⌝ }
-    ensures { λ r. ⌜ OfState (now (state .entry)) (λ st. now r ≡ pick (eqb code 41) (now (tag .entry)) (currentEntry st i)) ⌝ }
+fn part<'a>(pat: &[u8], ends: &[u16], line: &'a [u8], state: &'a [u8], code: u8, n: u8) -> &'a [u8]
+    requires { ⌜ Divided (now pat) (now ends) (now line) × IsState (now state) × ((code ≡ 41 → ⊥) → Letter n) ⌝ }
+    ensures { λ r. ⌜ Hands (now (pat .entry)) (now (ends .entry)) (now (line .entry)) (now (state .entry)) code n (now r) ⌝ }
 {
     if code == 41 {
-        return tag;
+        return tag(pat, ends, line, n);
     }
-    entry(state, i)
+    entry(state, n)
 }
 
 // A byte, `{n}`, `&(i)` or `#(i)`: what it stands for is inserted.
 pub(crate) fn insert<'a>(
-    tag: &'a [u8],
+    pat: &[u8],
+    ends: &[u16],
+    line: &'a [u8],
     t: &[u8],
     state: &'a [u8],
     base: usize,
     text: &mut [u8],
     k: usize,
 ) -> Outcome
-    requires { ⌜ Fit (now t) × IsState (now state) × Room (now text) base k ⌝ }
-    ensures { λ r. ⌜ Does (insertsIn (now (tag .entry)) (now (t .entry))) base (now (text .entry)) (now (state .entry)) k (now (text .exit)) (now (state .entry)) r ⌝ }
+    requires { ⌜ Divided (now pat) (now ends) (now line) × Fit (now t) × (getD (now t) 0 0 < 64) × IsState (now state) × Room (now text) base k ⌝ }
+    ensures { λ r. ⌜ Does (insertsIn (now (line .entry)) (now (pat .entry)) (now (ends .entry)) (now (t .entry))) base (now (text .entry)) (now (state .entry)) k (now (text .exit)) (now (state .entry)) r ⌝ }
 {
     let code = t[0];
     let i = t[1];
     if code == 40 {
         return put(text, base, k, &t[1..2]);
     }
-    if is_within(56, 63, code) {
-        return put_value(value(state, i), base, text, k);
+    if is_value(code) {
+        let mut figures = [0u8; 9];
+        let n = put_digits(&mut figures, value(state, i));
+        return put(text, base, k, &figures[..n]);
     }
-    put(text, base, k, part(tag, state, code, i))
+    put(text, base, k, part(pat, ends, line, state, code, i))
 }

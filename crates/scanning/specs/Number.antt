@@ -30,7 +30,7 @@ pub record Eats (sp : Bool) (F : Option ℕ → Part) : Type 0 where
 unfoldable pub most : ℕ → ℕ
 most n = pick (ltb n (mostCounter + 1)) n (mostCounter + 1)
 
--- a refusal handed on
+-- a refusal handed on; a byte is none, and is never asked for
 abbrev pub numberFault : Next → Number
 numberFault (Byte b q) = NoNumber Incomplete q
 numberFault (NoByte f q) = NoNumber f q

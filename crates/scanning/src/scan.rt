@@ -1,4 +1,4 @@
-// The leaves of the reader: bytes behind skips and spaces, and numbers. Only these know of skips and of the 513th byte.
+// The leaves of the reader: bytes behind skips and spaces, and numbers. In a macro only these know of skips and of the 513th byte.
 use crate::Fault;
 use crate::MOST_MACRO_BYTES;
 use crate::Next;
