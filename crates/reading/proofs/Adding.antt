@@ -5,7 +5,7 @@ use mathlib.Core.Bool.{false}
 use mathlib.Core.List.{List, [], _∷_, _++_, reverse, reverse-cons, append-assoc, append-nil}
 use Prim.Native.Nat.{ℕ, suc, _+_, _-_, _*_, _≤_, _<_}
 use native.Mathlib.Omega.{arith}
-use lib.ListN.{length, getD, take, drop, replicate, length-append, length-replicate}
+use lib.ListN.{length, getD, take, drop, length-append}
 use lib.Seq.{drop-cons}
 use borrow.Author.Tests.{le-ltb}
 use Rattle.macros.specs.Refusals.FileRefusal.{tooManyMacros}
@@ -13,8 +13,9 @@ use Rattle.macros.specs.Macro.{Macro, Table, pick}
 use Rattle.macros.specs.Read.{Read, step, readFrom}
 use Rattle.macros.specs.Read.Reader.{between}
 use Rattle.macros.specs.Read.Read.{refusedAt}
-use Rattle.tables.specs.Form.{bodyBytes, slotBytes, two, header, body, slot, slots}
+use Rattle.tables.specs.Form.{slotBytes, body, slot, slots}
 use Rattle.items.specs.Items.{Wrote}
+use Rattle.tables.proofs.Actions.{slot-length}
 use Rattle.reading.specs.File.{Macroed, MacroFrom, usedBytes, slotOf, Seeks, Adds, AddsFrom, noQuote, noMacro}
 use Rattle.scanning.specs.declared.Fault.{Fault}
 use Rattle.scanning.specs.declared.Fault.the-variants.{TooManyMacros}
@@ -38,13 +39,6 @@ slots-append (x ∷ xs) ys = rw (slots-append xs ys) (sym (append-assoc (slot x)
 slots-last : (m : Macro) (xs : Table) → slots (reverse (m ∷ xs)) ≡ slots (reverse xs) ++ slot m
 unfolding slots
 slots-last m xs = rw (reverse-cons m xs) (slots-append (reverse xs) (m ∷ []) ∙ rw (append-nil (slot m)) refl)
-
-slot-length : (m : Macro) → length (body m) ≤ bodyBytes → length (slot m) ≡ slotBytes
-unfolding slot header two
-slot-length m h =
-    let e : length (body m ++ replicate (bodyBytes - length (body m)) 0) ≡ bodyBytes =
-    length-append (body m) (replicate (bodyBytes - length (body m)) 0) ∙ omega (arith, length-replicate {A = ℕ} (bodyBytes - length (body m)) 0) in
-    omega (arith, e)
 
 -- the slot that is stored is the macro's
 its-slot : {s : List ℕ} {a q : ℕ} {old out : List ℕ} {h : Head} (m : Macroed s a q old out h) → slotOf h out ≡ slot (m .itself)

@@ -20,8 +20,8 @@ use Rattle.lines.specs.Matching.{tagText}
 use Rattle.lines.specs.Replacing.{Work, Done, _>>=_, unless, onto, puts, put, early, late, stores, callActs, acts, replaces, commandsAct}
 use Rattle.lines.specs.Replacing.Done.{bad, good}
 use Rattle.lines.proofs.KeepTests.{within-between}
-use Rattle.writing.specs.Items.{numberIn, textIn, Held}
-use Rattle.writing.proofs.Decoded.{even-taken, number-back, action-size, action-some, action-rest}
+use Rattle.tables.specs.Actions.{numberIn, textIn, Held}
+use Rattle.tables.proofs.Actions.{even-taken, number-back, action-size, action-some, action-rest}
 use Rattle.replacing.specs.Tags.{tagIn}
 use Rattle.replacing.specs.Acting.{markIn, movesIn, setsIn, actIn, contentsIn, insertsIn, storedIn, accessIn, callIn, actionIn, Fit, Fits}
 use Rattle.replacing.specs.Acting.Fits.{none, next}

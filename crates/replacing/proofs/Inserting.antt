@@ -21,9 +21,9 @@ use Rattle.lines.specs.State.{State, counterOf, currentEntry, contents}
 use Rattle.lines.specs.Replacing.{Work, Done, _>>=_, puts, stores}
 use Rattle.lines.specs.Replacing.Done.{bad, good}
 use Rattle.states.specs.Access.{Holds, IsState}
-use Rattle.writing.specs.Items.{actionSize}
-use Rattle.writing.proofs.Numbers.{digits-few, digits-last}
-use Rattle.writing.proofs.Steps.{some-size}
+use Rattle.tables.specs.Actions.{actionSize}
+use Rattle.tables.proofs.Digits.{digits-few, digits-last}
+use Rattle.tables.proofs.Actions.{some-size}
 use Rattle.replacing.specs.Contract.{sizeOf}
 use Rattle.replacing.specs.Tags.{tagIn}
 use Rattle.replacing.specs.Acting.{movesIn, setsIn, actIn, contentsIn, insertsIn, storedIn, accessIn, callIn, actionIn, Fit, Fits}

@@ -15,7 +15,7 @@ use Rattle.lines.specs.State.{stackOf, counterOf}
 use Rattle.lines.specs.Replacing.{Work, unless, withStack, withCounter, withPointer, withValue, withIncrement, withEntry, fallen, moves, stores}
 use Rattle.lines.proofs.KeepState.{stack-in-range, counter-in-range}
 use Rattle.states.specs.Access.{Holds, IsState, OfState, OfWork}
-use Rattle.writing.specs.Items.{numberIn, textIn}
+use Rattle.tables.specs.Actions.{numberIn, textIn}
 use Rattle.replacing.specs.Tags.{tagIn}
 use Rattle.replacing.specs.Acting.{markIn, movesIn, storedIn, setsIn}
 use Rattle.replacing.specs.Moments.{Kept, Changes}

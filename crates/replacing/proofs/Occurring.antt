@@ -14,8 +14,8 @@ use Rattle.tables.proofs.Slots.{pattern-part, replacement-part, commands-part, 
 use Rattle.tables.proofs.Sizes.{body-length, bodySize}
 use Rattle.lines.specs.Matching.{Division, stops}
 use Rattle.lines.specs.Replacing.{Work, occur}
-use Rattle.writing.proofs.Decoded.{calls-items}
-use Rattle.writing.proofs.Slotted.{slot-length}
+use Rattle.tables.proofs.Actions.{calls-items}
+use Rattle.tables.proofs.Actions.{slot-length}
 use Rattle.replacing.specs.Contract.{IsSlot, IsDivided, Lent, doneOf, sizeOf, Occurs}
 use Rattle.replacing.specs.Tags.{Divided}
 use Rattle.replacing.specs.Acting.{actIn, actionIn, Fits}

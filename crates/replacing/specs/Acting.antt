@@ -12,7 +12,7 @@ use Rattle.macros.specs.Formed.{Between, Bytes, Letter}
 use Rattle.lines.specs.State.{State, contents}
 use Rattle.lines.specs.Replacing.{Work, Done, _>>=_, puts, moves, stores, withPointer, withValue, withIncrement}
 use Rattle.lines.specs.Replacing.Done.{good}
-use Rattle.writing.specs.Items.{numberIn, textIn, actionSize, Held}
+use Rattle.tables.specs.Actions.{numberIn, textIn, actionSize, Held}
 use Rattle.replacing.specs.Tags.{tagIn}
 
 -- what a call's code is of

@@ -8,7 +8,7 @@ ghost use mathlib.Core.Path.{_≡_};
 ghost use Prim.Native.Nat.{_≤_, _<_};
 ghost use lib.ListN.{getD};
 ghost use Rattle.states.specs.Access.{IsState};
-ghost use Rattle.writing.specs.Items.{actionSize};
+ghost use Rattle.tables.specs.Actions.{actionSize};
 ghost use Rattle.replacing.specs.Tags.{Divided};
 ghost use Rattle.replacing.specs.Acting.{Fit, Fits, accessIn, callIn, actionIn, actIn};
 ghost use Rattle.replacing.specs.Moments.{Room, Does};

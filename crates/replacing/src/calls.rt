@@ -18,7 +18,7 @@ ghost use Rattle.macros.specs.Macro.Sign.{plus, minus};
 ghost use Rattle.macros.specs.Formed.{Bytes, Letter};
 ghost use Rattle.lines.specs.Replacing.{moves, stores};
 ghost use Rattle.states.specs.Access.{IsState};
-ghost use Rattle.writing.specs.Items.{numberIn};
+ghost use Rattle.tables.specs.Actions.{numberIn};
 ghost use Rattle.replacing.specs.Tags.{Divided};
 ghost use Rattle.replacing.specs.Acting.{Fit, markIn, movesIn, storedIn, setsIn};
 ghost use Rattle.replacing.specs.Moments.{Changes};

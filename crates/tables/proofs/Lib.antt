@@ -20,3 +20,5 @@ pub mod Slots
 pub mod Tables
 pub mod Decoded
 pub mod OneForm
+pub mod Actions
+pub mod Digits

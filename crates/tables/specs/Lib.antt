@@ -1,4 +1,5 @@
 pub mod Form
+pub mod Actions
 pub mod FormLaws
 pub mod Walk
 pub mod PatternWalk

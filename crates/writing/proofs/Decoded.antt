@@ -1,16 +1,12 @@
 -- The items of a piece or of an action are written out as the piece or the action is.
 -- Assumes nothing.
-use Prim.Native.Nat.{ℕ, zero, suc, _+_, _-_, _*_, _/_, _%_, _≤_, _<_}
+use Prim.Native.Nat.{ℕ, _+_, _-_, _%_, _<_}
 use mathlib.Core.Path.{_≡_, refl, ap, sym, _∙_, subst}
-use mathlib.Core.Bool.{Bool, true, false}
+use mathlib.Core.Bool.{true, false}
 use mathlib.Core.List.{List, [], _∷_, _++_, append-assoc, append-nil, map, reverse, reverseAux}
 use native.Mathlib.Omega.{arith}
-use native.Mathlib.Decide.{ℕ-discrete}
-use borrow.Author.Tests.{eq-eqb, ne-eqb}
-use lib.Dec.{ltb, eqb}
-use lib.ListN.{length, getD, take, drop, length-append}
-use lib.Seq.{take-append-seam, drop-at}
-use Rattle.macros.specs.Macro.{Closure, Member, Mark, PatternUnit, Piece, Sign, Move, Call, Action, pick, among, markByte}
+use lib.ListN.{drop, length-append}
+use Rattle.macros.specs.Macro.{Member, Piece, Call, Action, pick, markByte}
 use Rattle.macros.specs.Macro.Closure.{once, oneOrMore, zeroOrMore}
 use Rattle.macros.specs.Macro.Member.{single, range}
 use Rattle.macros.specs.Macro.Mark.{stack, counter}
@@ -21,11 +17,13 @@ use Rattle.macros.specs.Macro.Move.{still, before, after}
 use Rattle.macros.specs.Macro.Call.{insert, storeTag, setTo, storeText, setIncrement}
 use Rattle.macros.specs.Macro.Action.{text, tag, call}
 use Rattle.macros.specs.Formed.{FormedPieces}
-use Rattle.macros.specs.Write.{digits, writeMember, writeMembers, writeUnit, closureBytes, writePiece, writePattern, signByte, nameBytes, writeText, markOf, innerBytes, callBytes, writeAction, writeReplacement, commandsBytes}
-use Rattle.tables.specs.Form.{closureCode, unitCode, unitOperand, memberItems, membersItems, unitRest, pieceItems, patternItems, moveCode, four, evened, callItems, callsItems, actionItems, replacementItems}
-use Rattle.writing.specs.Items.{closureText, unitText, braceByte, memberText, headText, tailText, itemText, patternText, nameText, callByte, numberIn, textIn, firstText, middleText, lastText, callText, openText, endText, actionText, actionSize, actionsText, Held, Whole}
+use Rattle.macros.specs.Write.{writeMember, writeMembers, writeUnit, closureBytes, writePiece, writePattern, signByte, nameBytes, writeText, markOf, innerBytes, callBytes, writeAction, writeReplacement, commandsBytes}
+use Rattle.tables.specs.Form.{closureCode, unitCode, unitOperand, memberItems, membersItems, unitRest, pieceItems, patternItems, moveCode, four, callItems, actionItems, replacementItems}
+use Rattle.tables.specs.Actions.{numberIn, textIn, actionSize}
+use Rattle.writing.specs.Items.{closureText, unitText, braceByte, memberText, headText, tailText, itemText, patternText, nameText, callByte, firstText, middleText, lastText, callText, openText, endText, actionText, actionsText, Whole}
 use Rattle.writing.specs.Items.Whole.{none, next}
-use Rattle.writing.proofs.Steps.{actions-cons, some-size}
+use Rattle.tables.proofs.Actions.{number-back, even-taken, action-size, action-some, action-rest}
+use Rattle.writing.proofs.Steps.{actions-cons}
 
 -- PATTERN
 
@@ -109,13 +107,6 @@ pattern-text (p ∷ ps) f h = piece-text h (patternItems ps) (writePattern ps) (
 
 -- ACTIONS
 
-pub even-taken : (t r : List ℕ) → take (length t) (evened t ++ r) ≡ t
-unfolding evened
-even-taken t r = rw (append-assoc t _ r) (take-append-seam t _)
-
-pub number-back : (n : ℕ) → n % 256 + 256 * ((n / 256) % 256) + 65536 * ((n / 65536) % 256) + 16777216 * (n / 16777216) ≡ n
-number-back n = omega arith
-
 call-text : (c : Call) (r : List ℕ) → actionText (callItems c ++ r) ≡ callBytes writeText c
 unfolding actionText openText endText callItems moveCode four callByte callText firstText middleText lastText nameText textIn numberIn callBytes innerBytes nameBytes signByte markOf markByte pick
 call-text (insert stack i still) r = refl
@@ -148,65 +139,6 @@ action-text (text b) r = append-nil _
 action-text (tag n) r = refl
 action-text (call c) r = call-text c r
 
-abbrev even-end : List ℕ → List ℕ
-even-end t = pick (eqb (length t % 2) 0) [] (0 ∷ [])
-
-even-none : (t : List ℕ) → length t % 2 ≡ 0 → length (even-end t) ≡ 0
-unfolding pick
-even-none t e = rw (eq-eqb (length t % 2) 0 e)
-
-even-one : (t : List ℕ) → (length t % 2 ≡ 0 → ⊥) → length (even-end t) ≡ 1
-unfolding pick
-even-one t f = rw (ne-eqb (length t % 2) 0 f)
-
-pub even-length : (t : List ℕ) → length (evened t) ≡ length t + length t % 2
-unfolding evened
-even-length t = by (ℕ-discrete (length t % 2) 0)
-  where
-    by : Dec (length t % 2 ≡ 0) → length (evened t) ≡ length t + length t % 2
-    by (yes e) = let x = length-append t (even-end t) in let y : length (even-end t) ≡ 0 = even-none t e in omega arith
-    by (no f) = let x = length-append t (even-end t) in let y : length (even-end t) ≡ 1 = even-one t f in omega arith
-
-call-size : (c : Call) (r : List ℕ) → actionSize (callItems c ++ r) ≡ length (callItems c)
-unfolding actionSize callItems moveCode four pick
-call-size (insert stack i still) r = refl
-call-size (insert stack i (before plus)) r = refl
-call-size (insert stack i (before minus)) r = refl
-call-size (insert stack i (after plus)) r = refl
-call-size (insert stack i (after minus)) r = refl
-call-size (insert counter i still) r = refl
-call-size (insert counter i (before plus)) r = refl
-call-size (insert counter i (before minus)) r = refl
-call-size (insert counter i (after plus)) r = refl
-call-size (insert counter i (after minus)) r = refl
-call-size (storeTag n i still) r = refl
-call-size (storeTag n i (before plus)) r = refl
-call-size (storeTag n i (before minus)) r = refl
-call-size (storeTag n i (after plus)) r = refl
-call-size (storeTag n i (after minus)) r = refl
-call-size (setTo stack i n) r = refl
-call-size (setTo counter i n) r = refl
-call-size (storeText i still t) r = let z = even-length t in omega arith
-call-size (storeText i (before plus) t) r = let z = even-length t in omega arith
-call-size (storeText i (before minus) t) r = let z = even-length t in omega arith
-call-size (storeText i (after plus) t) r = let z = even-length t in omega arith
-call-size (storeText i (after minus) t) r = let z = even-length t in omega arith
-call-size (setIncrement i n) r = refl
-
-pub action-size : (a : Action) (r : List ℕ) → actionSize (actionItems a ++ r) ≡ length (actionItems a)
-unfolding actionItems actionSize pick
-action-size (text b) r = refl
-action-size (tag n) r = refl
-action-size (call c) r = call-size c r
-
--- an action takes some bytes
-pub action-some : (a : Action) → 0 < length (actionItems a)
-action-some a = let s = action-size a [] in let z = some-size (actionItems a ++ []) in omega arith
-
--- the rest behind an action
-pub action-rest : (a : Action) (r : List ℕ) → drop (actionSize (actionItems a ++ r)) (actionItems a ++ r) ≡ r
-action-rest a r = drop-at (actionItems a) r (actionSize (actionItems a ++ r)) (sym (action-size a r))
-
 pub actions-text : (xs : List Action) → actionsText 0 (replacementItems xs) ≡ writeReplacement xs
 unfolding replacementItems writeReplacement actionsText
 actions-text [] = refl
@@ -228,11 +160,6 @@ actions-whole (a ∷ xs) =
     next {t = actionItems a ++ replacementItems xs} (omega arith) (omega arith) (subst Whole (sym (action-rest a (replacementItems xs))) (actions-whole xs))
 
 -- commands are actions too
-pub calls-items : (cs : List Call) → callsItems cs ≡ replacementItems (map call cs)
-unfolding callsItems replacementItems actionItems
-calls-items [] = refl
-calls-items (c ∷ cs) = ap (λ (x : List ℕ). callItems c ++ x) (calls-items cs)
-
 pub calls-text : (cs : List Call) → commandsBytes writeText cs ≡ writeReplacement (map call cs)
 unfolding commandsBytes writeReplacement writeAction
 calls-text [] = refl

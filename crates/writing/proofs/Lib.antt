@@ -1,5 +1,4 @@
 pub mod Putting
-pub mod Numbers
 pub mod Steps
 pub mod Decoded
 pub mod Room

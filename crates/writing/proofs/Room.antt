@@ -21,7 +21,7 @@ use Rattle.macros.specs.Spell.{Before, needs, needsClass, needsText, none?, beh
 use Rattle.macros.specs.Spell.Before.{bracket, tilde}
 use Rattle.macros.specs.Read.Held.{nothing}
 use Rattle.tables.specs.Form.{memberItems, membersItems, unitRest, pieceItems, patternItems, four, evened, callItems, callsItems, actionItems, replacementItems, body, bodyBytes}
-use Rattle.writing.proofs.Decoded.{even-length}
+use Rattle.tables.proofs.Actions.{even-length}
 
 byte-some : (p : Bool) (b : ℕ) → 1 ≤ length (byte p b)
 unfolding byte

@@ -1,24 +1,23 @@
 -- A slot holds the parts of its macro.
 -- Assumes nothing.
-use Prim.Native.Nat.{ℕ, zero, suc, _+_, _-_, _*_, _/_, _%_, _≤_, _<_}
-use mathlib.Core.Path.{_≡_, refl, ap, sym, _∙_, subst}
-use mathlib.Core.Bool.{Bool, true, false}
+use Prim.Native.Nat.{ℕ, _+_, _-_, _%_, _≤_}
+use mathlib.Core.Path.{_≡_, refl, ap, _∙_}
 use mathlib.Core.List.{List, [], _∷_, _++_, append-assoc, map}
 use native.Mathlib.Omega.{arith}
-use lib.ListN.{length, getD, take, drop, replicate, length-append, length-replicate, length-drop}
+use lib.ListN.{length, getD, take, drop, replicate, length-append, length-drop}
 use lib.Seq.{take-at, drop-at, length-take-le}
-use Rattle.macros.specs.Macro.{Member, PatternUnit, Piece, Symbol, Macro, Table, pick}
+use Rattle.macros.specs.Macro.{Member, Piece, Symbol, Macro, pick}
 use Rattle.macros.specs.Macro.Member.{single, range}
 use Rattle.macros.specs.Macro.PatternUnit.{literal, kind, class, callOf}
 use Rattle.macros.specs.Macro.Piece.{element, start, end, left, right}
 use Rattle.macros.specs.Macro.Action.{call}
 use Rattle.macros.specs.Macro.Symbol.{equal, less}
 use Rattle.macros.specs.Formed.{Formed}
-use Rattle.macros.specs.Write.{writePattern, writeReplacement, writeText, commandsBytes, symbolSign, written}
+use Rattle.macros.specs.Write.{writePattern, symbolSign, written}
 use Rattle.tables.specs.Form.{memberItems, membersItems, unitRest, pieceItems, patternItems, callsItems, replacementItems, two, symbolCode, header, body, bodyBytes, slot, slotBytes}
-use Rattle.writing.specs.Items.{patternText, actionsText, Whole}
 use Rattle.writing.specs.Slots.{sizeAt, patternEnd, replacementEnd, commandsEnd, symbolByte, part, leftText, rightText, slotText, Parts}
-use Rattle.writing.proofs.Decoded.{pattern-kinds, pattern-text, actions-text, actions-whole, calls-items, calls-text}
+use Rattle.tables.proofs.Actions.{slot-length, calls-items}
+use Rattle.writing.proofs.Decoded.{pattern-kinds, pattern-text, actions-text, actions-whole, calls-text}
 
 -- the items of a pattern are two bytes each
 members-even : (ms : List Member) → length (membersItems ms) % 2 ≡ 0
@@ -141,19 +140,10 @@ module _ (m : Macro) where
       )
       (append-assoc (39 ∷ writePattern (m .pattern)) (39 ∷ symbolSign (m .symbol) ∷ []) _)
 
-  pub slot-length : length (body m) ≤ bodyBytes → length (slot m) ≡ slotBytes
-  unfolding slot
-  slot-length h =
-      let a = length-append (header m) (body m ++ rest) in
-      let b = length-append (body m) rest in
-      let c = length-replicate {A = ℕ} (bodyBytes - length (body m)) 0 in
-      let d = header-length in
-      omega arith
-
   pub slot-parts : length (body m) ≤ bodyBytes → Parts (slot m)
   slot-parts h =
       record {
-        size = slot-length h;
+        size = slot-length m h;
         fits = ends-within h;
         even = rw pattern-size (pattern-even (m .pattern));
         replacement = rw slot-replacement (actions-whole (m .replacement));

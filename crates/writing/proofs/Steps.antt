@@ -1,18 +1,18 @@
 -- One item, one byte or one action more.
 -- Assumes nothing.
-use Prim.Native.Nat.{ℕ, zero, suc, _+_, _-_, _%_, _≤_, _<_}
+use Prim.Native.Nat.{ℕ, zero, suc, _+_, _-_, _≤_, _<_}
 use mathlib.Core.Path.{_≡_, refl, ap, sym, _∙_, subst}
-use mathlib.Core.Bool.{Bool, true, false}
 use mathlib.Core.List.{List, [], _∷_, _++_}
 use native.Mathlib.Numerals.{add-one}
 use native.Mathlib.Omega.{arith}
-use borrow.Author.Tests.{lt-ltb, le-ltb}
 use lib.Dec.{ltb}
-use lib.ListN.{length, getD, take, drop, length-drop, drop-of-length-le}
-use lib.Seq.{take-all, drop-cons, drop-drop}
+use lib.ListN.{length, getD, drop, length-drop, drop-of-length-le}
+use lib.Seq.{drop-cons, drop-drop}
 use Rattle.macros.specs.Macro.{pick, among}
 use Rattle.macros.specs.Write.{textMarks, byte, writeText}
-use Rattle.writing.specs.Items.{itemText, patternText, actionText, actionSize, actionsText, textIn, Held, Whole}
+use Rattle.tables.specs.Actions.{actionSize, Held}
+use Rattle.tables.proofs.Actions.{some-size}
+use Rattle.writing.specs.Items.{itemText, patternText, actionText, actionsText, Whole}
 use Rattle.writing.specs.Items.Whole.{none, next}
 
 -- PATTERN
@@ -51,46 +51,6 @@ passed zero (x ∷ l) = refl
 passed (suc k) [] = refl
 passed (suc k) (x ∷ l) = passed k l
 
-pub some-size : (t : List ℕ) → 2 ≤ actionSize t
-unfolding actionSize pick
-some-size t = by (ltb (getD t 0 0) 64) (ltb (getD t 0 0) 72) (ltb (getD t 0 0) 80)
-  where
-    by : (p q r : Bool) → 2 ≤ pick p 2 (pick q 4 (pick r (4 + getD t 3 0 + getD t 3 0 % 2) 6))
-    by true q r = omega arith
-    by false true r = omega arith
-    by false false true = omega arith
-    by false false false = omega arith
-
-module _ (t : List ℕ) where
-  pub size-short : getD t 0 0 < 64 → actionSize t ≡ 2
-  unfolding actionSize pick
-  size-short h = rw (lt-ltb (getD t 0 0) 64 h)
-
-  pub size-call : 64 ≤ getD t 0 0 → 4 ≤ actionSize t
-  unfolding actionSize pick
-  size-call h = rw (le-ltb (getD t 0 0) 64 h) (by (ltb (getD t 0 0) 72) (ltb (getD t 0 0) 80))
-    where
-      by : (q r : Bool) → 4 ≤ pick q 4 (pick r (4 + getD t 3 0 + getD t 3 0 % 2) 6)
-      by true r = omega arith
-      by false true = omega arith
-      by false false = omega arith
-
-  pub size-long : 64 ≤ getD t 0 0 → actionSize t ≡ pick (ltb (getD t 0 0) 72) 4 (pick (ltb (getD t 0 0) 80) (4 + getD t 3 0 + getD t 3 0 % 2) 6)
-  unfolding actionSize pick
-  size-long h = rw (le-ltb (getD t 0 0) 64 h)
-
-  pub size-tag : 64 ≤ getD t 0 0 → getD t 0 0 < 72 → actionSize t ≡ 4
-  unfolding actionSize pick
-  size-tag g h = rw (le-ltb (getD t 0 0) 64 g, lt-ltb (getD t 0 0) 72 h)
-
-  pub size-text : 72 ≤ getD t 0 0 → getD t 0 0 < 80 → actionSize t ≡ 4 + getD t 3 0 + getD t 3 0 % 2
-  unfolding actionSize pick
-  size-text g h = rw (le-ltb (getD t 0 0) 64 (omega arith), le-ltb (getD t 0 0) 72 g, lt-ltb (getD t 0 0) 80 h)
-
-  pub size-set : 80 ≤ getD t 0 0 → actionSize t ≡ 6
-  unfolding actionSize pick
-  size-set g = rw (le-ltb (getD t 0 0) 64 (omega arith), le-ltb (getD t 0 0) 72 (omega arith), le-ltb (getD t 0 0) 80 g)
-
 pub actions-cons : (t : List ℕ) → 0 < length t → actionsText 0 t ≡ actionText t ++ actionsText 0 (drop (actionSize t) t)
 unfolding actionsText
 actions-cons [] h = absurd (omega arith)
@@ -125,12 +85,3 @@ whole-next l i w h e = subst Whole (drop-drop (actionSize (drop i l)) i l ∙ ap
 -- the action ends within the list
 pub whole-end : (l : List ℕ) (i : ℕ) {k : ℕ} → Whole (drop i l) → i < length l → k ≡ actionSize (drop i l) → (i < i + k) × (i + k ≤ length l)
 whole-end l i w h e = let z = length-drop i l in let y = whole-held l i w h in let x = some-size (drop i l) in omega arith
-
--- PARTS OF A SLICE
-
-pub text-part : (t : List ℕ) → take (4 + getD t 3 0 - 4) (drop 4 t) ≡ textIn t
-unfolding textIn
-text-part t = let e : 4 + getD t 3 0 - 4 ≡ getD t 3 0 = omega arith in rw e
-
-pub tail-part : (l : List ℕ) (i : ℕ) → take (length l - i) (drop i l) ≡ drop i l
-tail-part l i = take-all (length l - i) (drop i l) (let z = length-drop i l in omega arith)

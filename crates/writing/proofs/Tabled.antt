@@ -15,7 +15,8 @@ use Rattle.macros.specs.Accepted.{Spellable, Each}
 use Rattle.tables.specs.Form.{symbolCode, header, slot, slots, slotBytes, form, tableBytes}
 use Rattle.writing.specs.Slots.{slotText, Parts, Holds}
 use Rattle.writing.proofs.Room.{body-room}
-use Rattle.writing.proofs.Slotted.{slot-text, slot-length, slot-parts}
+use Rattle.tables.proofs.Actions.{slot-length}
+use Rattle.writing.proofs.Slotted.{slot-text, slot-parts}
 
 spelled-length : (m : Macro) → Spellable m → length (slot m) ≡ slotBytes
 spelled-length m s = slot-length m (body-room m (s .1))

@@ -1,10 +1,11 @@
 -- What the items of a pattern, a replacement or the commands are written out as, item by item.
-use Prim.Native.Nat.{ℕ, zero, suc, _+_, _-_, _*_, _%_, _≤_, _<_}
+use Prim.Native.Nat.{ℕ, zero, suc, _+_, _-_, _*_, _%_, _<_}
 use mathlib.Core.List.{List, [], _∷_, _++_}
 use lib.Dec.{ltb, eqb}
-use lib.ListN.{length, getD, take, drop}
+use lib.ListN.{length, getD, drop}
 use Rattle.macros.specs.Macro.{pick, among}
 use Rattle.macros.specs.Write.{patternMarks, classMarks, textMarks, byte, digits, writeText}
+use Rattle.tables.specs.Actions.{numberIn, textIn, actionSize, Held}
 
 -- PATTERN
 
@@ -66,14 +67,6 @@ nameText c i =
 unfoldable pub callByte : ℕ → ℕ
 callByte c = pick (ltb c 56) 38 (pick (ltb c 64) 35 (pick (ltb c 88) 38 35))
 
--- the number in four bytes
-unfoldable pub numberIn : List ℕ → ℕ
-numberIn t = getD t 2 0 + 256 * getD t 3 0 + 65536 * getD t 4 0 + 16777216 * getD t 5 0
-
--- the text of a call
-unfoldable pub textIn : List ℕ → List ℕ
-textIn t = take (getD t 3 0) (drop 4 t)
-
 -- the tag's number and `,`; or the name and `:`; or the letter and `=` or `,`
 unfoldable pub firstText : ℕ → ℕ → ℕ → List ℕ
 firstText c i n =
@@ -104,22 +97,11 @@ endText c b = pick (eqb c 40) [] (pick (eqb c 41) (digits b ++ (125 ∷ [])) (na
 unfoldable pub actionText : List ℕ → List ℕ
 actionText t = openText (getD t 0 0) (getD t 1 0) ++ pick (ltb (getD t 0 0) 64) (endText (getD t 0 0) (getD t 1 0)) (callText t)
 
--- the bytes that the action takes
-unfoldable pub actionSize : List ℕ → ℕ
-actionSize t =
-    pick (ltb (getD t 0 0) 64) 2
-    (pick (ltb (getD t 0 0) 72) 4
-    (pick (ltb (getD t 0 0) 80) (4 + getD t 3 0 + getD t 3 0 % 2) 6))
-
 -- the actions, behind some bytes that are passed over
 unfoldable pub actionsText : ℕ → List ℕ → List ℕ
 actionsText skip [] = []
 actionsText zero (x ∷ l) = actionText (x ∷ l) ++ actionsText (actionSize (x ∷ l) - 1) l
 actionsText (suc skip) (x ∷ l) = actionsText skip l
-
--- an action stands whole in t
-abbrev pub Held : List ℕ → Type 0
-Held t = actionSize t ≤ length t
 
 -- nothing but whole actions
 pub data Whole : List ℕ → Type 0 where

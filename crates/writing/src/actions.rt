@@ -14,7 +14,8 @@ ghost use lib.ListN.{length, getD};
 ghost use Rattle.macros.specs.Macro.{pick, among};
 ghost use Rattle.macros.specs.Write.{textMarks, byte, writeText};
 ghost use Rattle.writing.specs.Puts.{shortText, Puts};
-ghost use Rattle.writing.specs.Items.{nameText, callByte, numberIn, openText, endText, firstText, middleText, lastText, callText, actionText, actionSize, actionsText, Held, Whole};
+ghost use Rattle.tables.specs.Actions.{numberIn, actionSize, Held};
+ghost use Rattle.writing.specs.Items.{nameText, callByte, openText, endText, firstText, middleText, lastText, callText, actionText, actionsText, Whole};
 
 // A letter with the sign that the call's code asks for, and a byte behind it.
 fn name(code: u8, letter: u8, close: u8) -> Short

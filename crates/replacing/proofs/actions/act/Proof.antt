@@ -3,8 +3,8 @@ use mathlib.Core.Path.{_≡_, refl, ap, _∙_}
 use native.Mathlib.Omega.{arith}
 use lib.ListN.{length, drop}
 use Rattle.states.specs.Access.{IsState}
-use Rattle.writing.specs.Items.{actionSize}
-use Rattle.writing.proofs.Steps.{tail-part}
+use Rattle.tables.specs.Actions.{actionSize}
+use Rattle.tables.proofs.Actions.{tail-part}
 use Rattle.replacing.specs.Acting.{actionIn, Fits}
 use Rattle.replacing.proofs.Stepping.{does-room}
 use Rattle.replacing.proofs.Inserting.{Rest, rest-all, rest-end, rest-stop, rest-next, fit-here, fit-next, fit-end}

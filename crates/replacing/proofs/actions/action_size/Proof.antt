@@ -1,6 +1,6 @@
 use mathlib.Core.Path.{sym}
 use native.Mathlib.Omega.{arith}
-use Rattle.writing.proofs.Steps.{some-size, size-short, size-tag, size-text, size-set}
+use Rattle.tables.proofs.Actions.{some-size, size-short, size-tag, size-text, size-set}
 use Rattle.replacing.proofs.actions.action_size.Statement.{statement}
 use Rattle.replacing.proofs.actions.action_size.Tie as tie
 

@@ -1,4 +1,4 @@
-use Rattle.writing.specs.Items.{numberIn}
+use Rattle.tables.specs.Actions.{numberIn}
 use borrow.Author.Needs.{needs}
 use Rattle.replacing.proofs.calls.number_in.Statement.{statement}
 use Rattle.replacing.proofs.calls.number_in.Tie as tie

@@ -1,5 +1,5 @@
 use native.Mathlib.Omega.{arith}
-use Rattle.writing.proofs.Steps.{some-size, size-set}
+use Rattle.tables.proofs.Actions.{some-size, size-set}
 use Rattle.replacing.proofs.Moving.{sets-pointer, sets-value, sets-increment}
 use Rattle.replacing.proofs.Inserting.{letter-of}
 use borrow.Author.Needs.{needs}

@@ -3,7 +3,7 @@ use mathlib.Core.Path.{sym, _∙_, subst}
 use native.Mathlib.Omega.{arith}
 use lib.ListN.{getD}
 use Rattle.macros.specs.Formed.{Bytes}
-use Rattle.writing.proofs.Steps.{some-size, size-tag, size-text, text-part}
+use Rattle.tables.proofs.Actions.{some-size, size-tag, size-text, text-part}
 use Rattle.replacing.proofs.Braces.{tag-bytes}
 use Rattle.replacing.proofs.Moving.{by-text, stored-tag, stored-text}
 use Rattle.replacing.proofs.Inserting.{letter-of}

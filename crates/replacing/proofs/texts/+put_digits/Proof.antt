@@ -3,7 +3,7 @@ use mathlib.Core.List.{List}
 use native.Mathlib.Omega.{arith}
 use borrow.Author.Needs.{needs}
 use lib.ListN.{length}
-use Rattle.writing.proofs.Numbers.{digits-few}
+use Rattle.tables.proofs.Digits.{digits-few}
 use Rattle.replacing.proofs.Inserting.{digits-longer, digits-one, digits-more}
 use Prim.Native.Nat.{ℕ, _<_}
 use borrow.Fn.Kinds.{In}

@@ -2,7 +2,7 @@ use mathlib.Core.Path.{sym, _∙_}
 use native.Mathlib.Omega.{arith}
 use lib.ListN.{getD}
 use lib.Seq.{length-take-le}
-use Rattle.writing.proofs.Steps.{some-size}
+use Rattle.tables.proofs.Actions.{some-size}
 use Rattle.replacing.proofs.Moving.{value-small}
 use Rattle.replacing.proofs.Inserting.{digits-nine, inserts-does, byte-is, value-is, hand-is, not-tag}
 use borrow.Author.Needs.{needs}

@@ -1,5 +1,5 @@
 -- Assumes nothing.
-use Rattle.writing.proofs.Steps.{some-size, size-short, size-long, size-call}
+use Rattle.tables.proofs.Actions.{some-size, size-short, size-long, size-call}
 use mathlib.Core.Path.{sym, _∙_}
 use denote.Ref.{now}
 use native.Mathlib.Omega.{arith}

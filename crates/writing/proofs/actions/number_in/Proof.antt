@@ -1,5 +1,5 @@
 -- Assumes nothing.
-use Rattle.writing.specs.Items.{numberIn}
+use Rattle.tables.specs.Actions.{numberIn}
 use native.Mathlib.Omega.{arith}
 use borrow.Author.Needs.{needs}
 use Rattle.writing.proofs.actions.number_in.Statement.{statement}

@@ -1,5 +1,5 @@
 -- Assumes nothing.
-use Rattle.writing.proofs.Steps.{some-size}
+use Rattle.tables.proofs.Actions.{some-size}
 use Rattle.writing.proofs.Putting.{also, by-bytes}
 use Rattle.writing.specs.Items.{actionText}
 use denote.Ref.{now}

@@ -1,7 +1,9 @@
 -- Assumes nothing.
-use Rattle.writing.proofs.Steps.{actions-step, actions-end, whole-held, whole-next, tail-part, whole-end}
+use Rattle.tables.proofs.Actions.{tail-part}
+use Rattle.writing.proofs.Steps.{actions-step, actions-end, whole-held, whole-next, whole-end}
 use Rattle.writing.proofs.Putting.{also, rest-all, rest-next, by-bytes, rest-done}
-use Rattle.writing.specs.Items.{actionText, actionSize, actionsText, Whole}
+use Rattle.tables.specs.Actions.{actionSize}
+use Rattle.writing.specs.Items.{actionText, actionsText, Whole}
 use Rattle.writing.specs.Puts.{shortText, Rest}
 use lib.ListN.{length, drop}
 use denote.Ref.{now}

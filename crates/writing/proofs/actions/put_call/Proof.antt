@@ -1,5 +1,5 @@
 -- Assumes nothing.
-use Rattle.writing.proofs.Steps.{some-size, size-call}
+use Rattle.tables.proofs.Actions.{some-size, size-call}
 use Rattle.writing.proofs.Putting.{also, by-bytes}
 use Rattle.writing.specs.Items.{callText}
 use denote.Ref.{now}

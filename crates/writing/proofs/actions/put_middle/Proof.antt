@@ -1,7 +1,7 @@
 -- Assumes nothing.
 use Rattle.macros.specs.Write.{digits, writeText}
 use mathlib.Core.Path.{ap}
-use Rattle.writing.proofs.Steps.{some-size, size-text, size-set, text-part}
+use Rattle.tables.proofs.Actions.{some-size, size-text, size-set, text-part}
 use Rattle.writing.proofs.Putting.{put-none, by-bytes}
 use Rattle.writing.specs.Items.{middleText}
 use denote.Ref.{now}

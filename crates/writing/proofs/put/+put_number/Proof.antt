@@ -4,7 +4,7 @@ use mathlib.Core.Path.{sym, ap, _∙_}
 use mathlib.Core.List.{[], _∷_}
 use native.Mathlib.Omega.{arith}
 use Rattle.writing.proofs.Putting.{also, by-bytes}
-use Rattle.writing.proofs.Numbers.{digits-last, digits-few}
+use Rattle.tables.proofs.Digits.{digits-last, digits-few}
 use Prim.Native.Nat.{ℕ, _<_}
 use borrow.Fn.Kinds.{In}
 use borrow.Fn.PlainCycle.{Measures, is, falls, and}

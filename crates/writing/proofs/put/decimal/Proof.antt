@@ -4,7 +4,8 @@ use mathlib.Core.List.{List, [], _∷_, _++_}
 use mathlib.Core.Path.{ap, sym}
 use Rattle.writing.specs.Puts.{shortText}
 use native.Mathlib.Omega.{arith}
-use Rattle.writing.proofs.Numbers.{digits-few, digits-two, digits-three}
+use Rattle.tables.proofs.Digits.{digits-few}
+use Rattle.tables.proofs.Digits.{digits-two, digits-three}
 use borrow.Author.Needs.{needs}
 use Rattle.writing.proofs.put.decimal.Statement.{statement}
 use Rattle.writing.proofs.put.decimal.Tie as tie
