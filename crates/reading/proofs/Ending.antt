@@ -24,21 +24,21 @@ use Rattle.macros.specs.Read.Turn.{into, textOf, closed, wrong}
 use Rattle.macros.specs.Read.Read.{refusedAt}
 use Rattle.tables.specs.Form.{callItems, moveCode, four}
 use Rattle.scanning.specs.Scan.{run, Here, Calls, Reached, faultOf, wrongCall}
-use Rattle.scanning.specs.Number.{Counts, Digits, Kept, Behind, most}
+use Rattle.numbers.specs.Number.{Counts, Digits, Kept, Behind, most}
 use Rattle.items.specs.Items.{Wrote}
 use Rattle.reading.specs.Call.{Names, Letter, Naming, Comes, Called, Ends, Sets, SetFrom, TagFrom, TagNaming, TagLetter, Unclosed, nextEnd, numberEnd, nameEnd, nextName}
 use Rattle.scanning.specs.declared.Fault.{Fault}
 use Rattle.scanning.specs.declared.Fault.the-variants.{BadCall}
 use Rattle.scanning.specs.declared.Next.{Next}
 use Rattle.scanning.specs.declared.Next.the-variants.{Byte, Refused as NoByte}
-use Rattle.scanning.specs.declared.Number.{Number}
-use Rattle.scanning.specs.declared.Number.the-variants.{Got, Refused as NoNumber}
+use Rattle.numbers.specs.declared.Number.{Number}
+use Rattle.numbers.specs.declared.Number.the-variants.{Got, Refused as NoNumber}
 use Rattle.reading.specs.declared.Name.{Name}
 use Rattle.reading.specs.declared.Name.the-variants.{Got as GotName, Refused as NoName}
 use Rattle.reading.specs.declared.Ended.{Ended}
 use Rattle.reading.specs.declared.Ended.the-variants.{Upto, Refused as NoEnd}
 use Rattle.scanning.proofs.Laws.{here-on, here-stop, reached-behind}
-use Rattle.scanning.proofs.Numbers.{most-low, most-high, eats-equals, eats-increment}
+use Rattle.numbers.proofs.Numbers.{most-low, most-high, eats-equals, eats-increment}
 use Rattle.items.proofs.Writing.{wrote-more}
 use Rattle.reading.proofs.Naming.{turn-closed, turn-unfit, call-next, call-none, here-wrong, here-into}
 

@@ -20,14 +20,14 @@ use Rattle.macros.specs.Read.Phase.{begun, signed, named, equals, increment, ta
 use Rattle.macros.specs.Read.Turn.{into, textOf, closed, wrong}
 use Rattle.tables.specs.Form.{callItems, moveCode}
 use Rattle.scanning.specs.Scan.{run, Here, Calls, faultOf, wrongCall}
-use Rattle.scanning.specs.Number.{Counts, Digits, Kept, most}
+use Rattle.numbers.specs.Number.{Counts, Digits, Kept, most}
 use Rattle.items.specs.Items.{Wrote}
 use Rattle.reading.specs.Call.{Names, Letter, Naming, Comes, Ends, CalledFrom, NamedFrom, Sets, SetFrom, TagFrom, StoreFrom, Asks, Starts, signsIn, markOf, nextEnd, numberEnd, nameEnd}
 use Rattle.scanning.specs.declared.Fault.{Fault}
 use Rattle.scanning.specs.declared.Next.{Next}
 use Rattle.scanning.specs.declared.Next.the-variants.{Byte, Refused as NoByte}
-use Rattle.scanning.specs.declared.Number.{Number}
-use Rattle.scanning.specs.declared.Number.the-variants.{Got, Refused as NoNumber}
+use Rattle.numbers.specs.declared.Number.{Number}
+use Rattle.numbers.specs.declared.Number.the-variants.{Got, Refused as NoNumber}
 use Rattle.reading.specs.declared.Name.{Name}
 use Rattle.reading.specs.declared.Name.the-variants.{Got as GotName, Refused as NoName}
 use Rattle.reading.specs.declared.Tail.{Tail}
@@ -35,7 +35,7 @@ use Rattle.reading.specs.declared.Tail.the-variants.{Text, Set, Insert, 
 use Rattle.reading.specs.declared.Ended.{Ended}
 use Rattle.reading.specs.declared.Ended.the-variants.{Upto, Refused as NoEnd}
 use Rattle.scanning.proofs.Laws.{here-on}
-use Rattle.scanning.proofs.Numbers.{tagState, eats-tagged, eats-equals, eats-increment}
+use Rattle.numbers.proofs.Numbers.{tagState, eats-tagged, eats-equals, eats-increment}
 use Rattle.reading.proofs.Naming.{turn-text, call-next, here-into, code-none, code-some}
 use Rattle.reading.proofs.Ending.{ends-from, ends-none, ends-wrong, ends-closed, joined, names-stack, names-counter}
 

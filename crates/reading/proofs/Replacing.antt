@@ -22,7 +22,7 @@ use Rattle.macros.specs.Read.Step.{on, stop}
 use Rattle.macros.specs.Read.Read.{refusedAt}
 use Rattle.tables.specs.Form.{replacementItems, actionItems}
 use Rattle.scanning.specs.Scan.{run, At, Here, Passes, Stays, Reached, faultOf}
-use Rattle.scanning.specs.Number.{Counts, Digits, Kept, most}
+use Rattle.numbers.specs.Number.{Counts, Digits, Kept, most}
 use Rattle.items.specs.Items.{Wrote}
 use Rattle.reading.specs.Call.{CalledFrom, Unclosed, markOf, nextEnd, numberEnd}
 use Rattle.reading.specs.Action.{Acts, ActionFrom, EscapeFrom, Replaced, ReplacedFrom, IsMark, wrongTag}
@@ -30,12 +30,12 @@ use Rattle.scanning.specs.declared.Fault.{Fault}
 use Rattle.scanning.specs.declared.Fault.the-variants.{Incomplete, BadCall}
 use Rattle.scanning.specs.declared.Next.{Next}
 use Rattle.scanning.specs.declared.Next.the-variants.{Byte, Refused as NoByte}
-use Rattle.scanning.specs.declared.Number.{Number}
-use Rattle.scanning.specs.declared.Number.the-variants.{Got, Refused as NoNumber}
+use Rattle.numbers.specs.declared.Number.{Number}
+use Rattle.numbers.specs.declared.Number.the-variants.{Got, Refused as NoNumber}
 use Rattle.reading.specs.declared.Ended.{Ended}
 use Rattle.reading.specs.declared.Ended.the-variants.{Upto, Refused as NoEnd}
 use Rattle.scanning.proofs.Laws.{here-on, here-stop, here-same, at-on, reached-behind, reached-at}
-use Rattle.scanning.proofs.Numbers.{eats-tag}
+use Rattle.numbers.proofs.Numbers.{eats-tag}
 use Rattle.items.proofs.Writing.{wrote-none, wrote-more}
 use Rattle.reading.proofs.Ending.{most-same, within-yes, unfit}
 

@@ -19,14 +19,14 @@ use Rattle.macros.specs.Read.Turn.{into, textOf, closed, wrong}
 use Rattle.macros.specs.Read.Read.{refusedAt}
 use Rattle.tables.specs.Form.{callItems, moveCode, four}
 use Rattle.scanning.specs.Scan.{faultOf, run, Reached, Here}
-use Rattle.scanning.specs.Number.{Eats, most}
+use Rattle.numbers.specs.Number.{Eats, most}
 use Rattle.items.specs.Items.{Wrote}
 use Rattle.scanning.specs.declared.Fault.{Fault}
 use Rattle.scanning.specs.declared.Fault.the-variants.{Incomplete}
 use Rattle.scanning.specs.declared.Next.{Next}
 use Rattle.scanning.specs.declared.Next.the-variants.{Byte, Refused as NoByte}
-use Rattle.scanning.specs.declared.Number.{Number}
-use Rattle.scanning.specs.declared.Number.the-variants.{Got, Refused as NoNumber}
+use Rattle.numbers.specs.declared.Number.{Number}
+use Rattle.numbers.specs.declared.Number.the-variants.{Got, Refused as NoNumber}
 use Rattle.reading.specs.declared.Name.{Name}
 use Rattle.reading.specs.declared.Name.the-variants.{Got as GotName, Refused as NoName}
 use Rattle.reading.specs.declared.Tail.{Tail}

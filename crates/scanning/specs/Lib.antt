@@ -1,4 +1,3 @@
 pub mod Bytes
 pub mod Scan
-pub mod Number
 pub mod Cases

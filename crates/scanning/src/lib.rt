@@ -1,4 +1,4 @@
-// What every part of the macro-file reader is made of: the next byte of a macro, and numbers.
+// What every part of the macro-file reader is made of: the next byte of a macro.
 // Each answer is defined in specs/, from the file's bytes alone; there also stands what it says of the machine of the definitions.
 pub mod scan;
 
@@ -22,11 +22,5 @@ pub enum Fault {
 // A byte with its place; or a refusal with its place.
 pub enum Next {
     Byte(u8, usize),
-    Refused(Fault, usize),
-}
-
-// A number, at most 1,000,000,000, whether it has a digit, and the byte behind it with its place.
-pub enum Number {
-    Got(u64, bool, u8, usize),
     Refused(Fault, usize),
 }

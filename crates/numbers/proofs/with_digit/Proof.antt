@@ -1,11 +1,11 @@
 use mathlib.Core.Path.{ap, sym, _∙_}
 use Prim.Native.Nat.{ℕ, _+_, _*_}
 use native.Mathlib.Omega.{arith}
-use Rattle.scanning.specs.Number.{most}
-use Rattle.scanning.proofs.Numbers.{digit-low, most-low, most-high}
+use Rattle.numbers.specs.Number.{most}
+use Rattle.numbers.proofs.Numbers.{digit-low, most-low, most-high}
 use borrow.Author.Needs.{needs}
-use Rattle.scanning.proofs.scan.with_digit.Statement.{statement}
-use Rattle.scanning.proofs.scan.with_digit.Tie as tie
+use Rattle.numbers.proofs.with_digit.Statement.{statement}
+use Rattle.numbers.proofs.with_digit.Tie as tie
 
 mul-m : tie.Need-mul-m
 mul-m c = search needs

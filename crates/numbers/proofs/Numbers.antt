@@ -14,17 +14,17 @@ use Rattle.macros.specs.Read.{Part, Front, Place, partByte, skips, andDigit, ta
 use Rattle.macros.specs.Read.Step.{on}
 use Rattle.macros.specs.Read.Part.{tagNumber, calling}
 use Rattle.macros.specs.Read.Phase.{equals, increment, begun, tagged}
 use Rattle.scanning.specs.Bytes.{Placed, with?, seen, nextByte, spaceless}
 use Rattle.scanning.specs.Bytes.Placed.{byteAt}
 use Rattle.scanning.specs.Scan.{run, Passes}
-use Rattle.scanning.specs.Number.{Eats, most, numberFault, counting, leading, behind, valueFrom, any?, numbered, numberFrom, Kept, Digits, Behind, Counts}
+use Rattle.numbers.specs.Number.{Eats, most, numberFault, counting, leading, behind, valueFrom, any?, numbered, numberFrom, Kept, Digits, Behind, Counts}
 use Rattle.scanning.specs.declared.Fault.{Fault}
 use Rattle.scanning.specs.declared.Next.{Next}
 use Rattle.scanning.specs.declared.Next.the-variants.{Byte, Refused as NoByte}
-use Rattle.scanning.specs.declared.Number.{Number}
-use Rattle.scanning.specs.declared.Number.the-variants.{Got, Refused as NoNumber}
+use Rattle.numbers.specs.declared.Number.{Number}
+use Rattle.numbers.specs.declared.Number.the-variants.{Got, Refused as NoNumber}
 use Rattle.scanning.proofs.Bytes.{seen-byte, seen-none}
 use Rattle.scanning.proofs.Laws.{here-on}
 
 pub most-low : (n : ℕ) → n < 1000000000 → most n ≡ n
 unfolding most pick

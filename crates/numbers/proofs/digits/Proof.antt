@@ -5,11 +5,11 @@ use mathlib.Core.Logic.{⊎-elim}
 use Prim.Native.Nat.{_≤_, _-_}
 use native.Mathlib.Omega.{arith}
 use lib.ListN.{length}
 use Rattle.scanning.specs.Scan.{Reached}
 use Rattle.scanning.proofs.Laws.{reached-behind}
-use Rattle.scanning.proofs.Numbers.{Sofar, digits-none, counts-fault, counts-end, byte-found, digits-space, digits-next}
-use Rattle.scanning.proofs.scan.digits.Statement.{statement}
-use Rattle.scanning.proofs.scan.digits.Tie as tie
+use Rattle.numbers.proofs.Numbers.{Sofar, digits-none, counts-fault, counts-end, byte-found, digits-space, digits-next}
+use Rattle.numbers.proofs.digits.Statement.{statement}
+use Rattle.numbers.proofs.digits.Tie as tie
 
 abbrev Inv-loop : tie.InvT-loop
 Inv-loop s a first spaces at₀ n₀ some₀ at n some = (first ≤ at) × Reached s a at × (n ≤ 1000000000) × Sofar s a first spaces at n some

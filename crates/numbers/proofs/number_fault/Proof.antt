@@ -1,7 +1,7 @@
 use mathlib.Core.Path.{ap, sym}
-use Rattle.scanning.specs.Number.{numberFault}
-use Rattle.scanning.proofs.scan.number_fault.Statement.{statement}
-use Rattle.scanning.proofs.scan.number_fault.Tie as tie
+use Rattle.numbers.specs.Number.{numberFault}
+use Rattle.numbers.proofs.number_fault.Statement.{statement}
+use Rattle.numbers.proofs.number_fault.Tie as tie
 
 enum-known-n : tie.Need-enum-known-n
 enum-known-n c = c .match .keys1

@@ -11,14 +11,14 @@ use Rattle.macros.specs.Macro.{Macro, pick, digit}
 use Rattle.macros.specs.Read.{Part, partByte, skips, andDigit}
 use Rattle.macros.specs.Read.Step.{on}
 use Rattle.macros.specs.Read.Read.{refusedAt}
 use Rattle.scanning.specs.Bytes.{Placed, seen, spaceless, unended}
 use Rattle.scanning.specs.Bytes.Placed.{byteAt}
 use Rattle.scanning.specs.Scan.{faultOf, run, Here}
 use Rattle.scanning.specs.declared.Fault.the-variants.{Incomplete}
 use Rattle.scanning.specs.declared.Next.{Next}
 use Rattle.scanning.specs.declared.Next.the-variants.{Byte, Refused as NoByte}
-use Rattle.scanning.specs.declared.Number.{Number}
-use Rattle.scanning.specs.declared.Number.the-variants.{Got, Refused as NoNumber}
+use Rattle.numbers.specs.declared.Number.{Number}
+use Rattle.numbers.specs.declared.Number.the-variants.{Got, Refused as NoNumber}
 
 -- states that take digits, and, where sp, pass over spaces
 pub record Eats (sp : Bool) (F : Option ℕ → Part) : Type 0 where
