@@ -6,7 +6,8 @@ ghost use mathlib.Core.Path.{_≡_};
 ghost use lib.ListN.{length, replicate};
 ghost use Rattle.lines.specs.State.{fresh};
 ghost use Rattle.states.specs.Form.{stateBytes, stateForm};
-ghost use Rattle.states.specs.Access.{replaced, ones};
+ghost use Rattle.states.specs.Access.{replaced};
+ghost use Rattle.fresh.specs.Ones.{ones};
 
 // The bytes of a part, all the same.
 fn fill(state: &mut [u8], from: usize, to: usize, b: u8)

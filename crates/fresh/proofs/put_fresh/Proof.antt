@@ -1,9 +1,8 @@
 use borrow.Author.Needs.{needs}
-use native.Mathlib.Nat.{sub-zero}
 use native.Mathlib.Omega.{arith}
 use Rattle.items.proofs.Writing.{wrote-is}
 use Rattle.states.specs.Access.{replaced}
-use Rattle.states.proofs.Fresh.{fresh-stored}
+use Rattle.fresh.proofs.Fresh.{fresh-stored}
 use Rattle.fresh.proofs.put_fresh.Statement.{statement}
 use Rattle.fresh.proofs.put_fresh.Tie as tie
 
@@ -26,7 +25,7 @@ returns c =
     let second = last .before .before .before .before in
     let first = second .before .before .before .before in
     let start = first .before .before .before in
-    fresh-stored (start .args .state .now) (first .clear .last .0) (second .fill .last .0) (last .put-ones .last .0) (start .pre) (rw sub-zero (wrote-is (first .clear .ensures))) (second .fill .ensures) (last .put-ones .ensures)
+    fresh-stored (start .args .state .now) (first .clear .last .0) (second .fill .last .0) (last .put-ones .last .0) (start .pre) (wrote-is (first .clear .ensures)) (second .fill .ensures) (last .put-ones .ensures)
 
 pub put-fresh-spec : {M : Type 1} → statement M
 put-fresh-spec =

@@ -2,9 +2,11 @@ use Prim.Native.Nat.{_-_, _≤_}
 use mathlib.Core.Path.{_≡_, refl, sym, _∙_}
 use native.Mathlib.Omega.{arith}
 use lib.ListN.{length}
-use Rattle.states.specs.Access.{replaced, ones}
+use Rattle.states.specs.Access.{replaced}
 use Rattle.items.proofs.Writing.{wrote-is}
-use Rattle.states.proofs.Replaced.{replaced-none, ones-more}
+use Rattle.states.proofs.Replaced.{replaced-none}
+use Rattle.fresh.specs.Ones.{ones}
+use Rattle.fresh.proofs.Fresh.{ones-more}
 use Rattle.fresh.proofs.put_ones.Statement.{statement}
 use Rattle.fresh.proofs.put_ones.Tie as tie
 

@@ -1,14 +1,42 @@
--- The form of the fresh state, as the bytes that are stored.
-use Prim.Native.Nat.{ℕ, zero, suc, _+_, _-_, _*_}
+-- The fresh state's bytes as they are stored: the numbers one by one, and the form of the whole.
+use Prim.Native.Nat.{ℕ, zero, suc, _+_, _-_, _*_, _≤_, _<_}
 use mathlib.Core.Path.{_≡_, refl, sym, ap, _∙_}
-use mathlib.Core.List.{List, [], _∷_, _++_, append-assoc}
-use native.Mathlib.Nat.{mul-suc, add-comm}
+use mathlib.Core.List.{List, [], _∷_, _++_, append-assoc, append-nil}
+use native.Mathlib.Nat.{mul-suc, add-comm, zero-add, suc-add}
 use native.Mathlib.Omega.{arith}
 use lib.ListN.{length, replicate, length-append, length-replicate, replicate-append-replicate}
-use Rattle.lines.specs.State.{AllOf, fresh, freshStack, freshCounter, EntryInRange, StackInRange, CounterInRange, InRange}
+use Rattle.tables.specs.Form.{four}
+use Rattle.lines.specs.State.{fresh, freshStack, freshCounter}
 use Rattle.states.specs.Form.{pointersForm, valuesForm, incrementsForm, entryForm, entriesForm, stacksForm, stateForm}
-use Rattle.states.specs.Access.{replaced, ones}
-use Rattle.states.proofs.Replaced.{replaced-left, replaced-right, replaced-whole, replaced-behind, length-ones, ones-append}
+use Rattle.states.specs.Access.{replaced}
+use Rattle.states.proofs.Replaced.{replaced-left, replaced-right, replaced-whole, replaced-behind}
+use Rattle.fresh.specs.Ones.{ones}
+
+length-ones : (n : ℕ) → length (ones n) ≡ 4 * n
+unfolding ones four
+length-ones zero = refl
+length-ones (suc n) = let h : length (ones n) ≡ 4 * n = length-ones n in omega arith
+
+ones-append : (n m : ℕ) → ones n ++ ones m ≡ ones (n + m)
+unfolding ones
+ones-append zero m = rw (zero-add m)
+ones-append (suc n) m = rw (suc-add n m) (append-assoc (four 1) (ones n) (ones m) ∙ ap (λ (t : List ℕ). four 1 ++ t) (ones-append n m))
+
+one-one : ones 1 ≡ four 1
+unfolding ones
+one-one = append-nil (four 1)
+
+-- the next number 1
+pub ones-more : (b s e : List ℕ) (i : ℕ) → i < 52 → 236 ≤ length b → s ≡ replaced b 28 (ones i) → e ≡ replaced s (28 + 4 * i) (four 1) → e ≡ replaced b 28 (ones (i + 1))
+ones-more b s e i h fit hs he =
+    let lv : length (ones i) ≡ 4 * i = length-ones i in
+    let on : 28 + 4 * i ≡ 28 + length (ones i) = omega arith in
+    he
+    ∙ ap (λ (t : List ℕ). replaced t (28 + 4 * i) (four 1)) hs
+    ∙ replaced-behind b 28 (28 + 4 * i) (ones i) (four 1) on (omega arith)
+    ∙ ap (replaced b 28) (ap (λ (t : List ℕ). ones i ++ t) (sym one-one) ∙ ones-append i 1)
+
+-- THE FORM
 
 pointers-ones : (n : ℕ) → pointersForm (replicate n freshStack) ≡ replicate n 1
 unfolding pointersForm freshStack
@@ -72,36 +100,9 @@ form =
     ∙ sym (append-assoc (replicate 26 1) (ones 52) (stacksForm (replicate 26 freshStack)))
     ∙ ap (λ (t : List ℕ). (replicate 26 1 ++ ones 52) ++ t) (stacks-zero 26))
 
-pub fresh-stored : (b z p e : List ℕ) → length b ≡ 26236 → z ≡ replaced b 0 (replicate (length b - 0) 0) → p ≡ replaced z 2 (replicate (28 - 2) 1) → e ≡ replaced p 28 (ones 52) → e ≡ stateForm fresh
+pub fresh-stored : (b z p e : List ℕ) → length b ≡ 26236 → z ≡ replaced b 0 (replicate (length b) 0) → p ≡ replaced z 2 (replicate (28 - 2) 1) → e ≡ replaced p 28 (ones 52) → e ≡ stateForm fresh
 fresh-stored b z p e h hz hp he =
-    let all : length b - 0 ≡ length b = omega arith in
     he
-    ∙ ap (λ (t : List ℕ). replaced t 28 (ones 52)) (hp ∙ ap (λ (t : List ℕ). replaced t 2 (replicate 26 1)) (hz ∙ ap (λ (k : ℕ). replaced b 0 (replicate k 0)) all))
+    ∙ ap (λ (t : List ℕ). replaced t 28 (ones 52)) (hp ∙ ap (λ (t : List ℕ). replaced t 2 (replicate 26 1)) hz)
     ∙ stored 234 26000 b (replicate 26 1) (ones 52) h (length-replicate {A = ℕ} 26 1) (length-append (replicate 26 1) (ones 52) ∙ ap (λ (k : ℕ). 26 + k) (length-ones 52))
     ∙ sym form
-
--- the fresh state is in range
-
-all-replicate : {A : Type 0} (P : A → Type 0) (n : ℕ) (x : A) → P x → AllOf P (replicate n x)
-all-replicate P zero x h = tt
-all-replicate P (suc n) x h = (h, all-replicate P n x h)
-
-fresh-stack : StackInRange freshStack
-unfolding freshStack
-fresh-stack = record { pointer = (omega arith, omega arith); count = length-replicate {A = List ℕ} 20 []; entries = all-replicate EntryInRange 20 [] (tt, omega arith) }
-
-fresh-counter : CounterInRange freshCounter
-unfolding freshCounter
-fresh-counter = record { value = (omega arith, omega arith); increment = (omega arith, omega arith) }
-
-pub fresh-in-range : InRange fresh
-unfolding fresh
-fresh-in-range =
-    record {
-      stackCount = length-replicate 26 freshStack;
-      stacks = all-replicate StackInRange 26 freshStack fresh-stack;
-      counterCount = length-replicate 26 freshCounter;
-      counters = all-replicate CounterInRange 26 freshCounter fresh-counter;
-      trace = omega arith;
-      nflag = omega arith;
-    }
