@@ -1,12 +1,11 @@
 // The two control words that set a flag, and whether a line starts with a word.
 use crate::Order;
 use crate::Why;
-use storing::set_nflag;
-use storing::set_trace;
+ghost use Prim.Native.Nat.{_≤_};
 ghost use mathlib.Core.Path.{_≡_};
 ghost use Rattle.lines.specs.Matching.{begins};
 ghost use Rattle.lines.specs.Feeding.{withTrace, withNflag};
-ghost use Rattle.states.specs.Access.{IsState};
+ghost use Rattle.states.specs.Access.{Holds, IsState, OfState};
 ghost use Rattle.controls.specs.Ordering.{valueOf, Puts, Sets};
 
 // Whether a line starts with a word.
@@ -43,6 +42,20 @@ fn flag_value(rest: &[u8]) -> u8
         return 1;
     }
     2
+}
+
+fn set_trace(state: &mut [u8], n: u8)
+    requires { ⌜ IsState (now state) × (n ≤ 1) ⌝ }
+    ensures { λ _. ⌜ OfState (now (state .entry)) (λ st. Holds (now (state .exit)) (withTrace n st)) ⌝ }
+{
+    state[0] = n;
+}
+
+fn set_nflag(state: &mut [u8], n: u8)
+    requires { ⌜ IsState (now state) × (n ≤ 1) ⌝ }
+    ensures { λ _. ⌜ OfState (now (state .entry)) (λ st. Holds (now (state .exit)) (withNflag n st)) ⌝ }
+{
+    state[1] = n;
 }
 
 // TRACE set to 0 or 1; of another value 23.

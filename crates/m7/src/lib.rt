@@ -84,7 +84,7 @@ pub extern "C" fn m7_fresh(state: &mut [u8]) -> Answer
     if state.len() != STATE_BYTES {
         return refusal(3, 0);
     }
-    storing::put_fresh(state);
+    fresh::put_fresh(state);
     taken(0)
 }
 

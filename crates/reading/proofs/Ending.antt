@@ -5,9 +5,8 @@ use mathlib.Core.Bool.{Bool, true, false, not, _&&_, _||_, true≢false, and-tru
 use mathlib.Core.List.{List, [], _∷_}
 use mathlib.Core.Option.{Option, none, some}
 use mathlib.Core.Logic.{⊎-elim, inl, inr, _⊎_}
-use Prim.Native.Nat.{ℕ, _+_, _-_, _*_, _/_, _%_, _≤_, _<_}
+use Prim.Native.Nat.{ℕ, _+_, _-_, _*_, _≤_, _<_}
 use native.Mathlib.Omega.{arith}
-use native.Mathlib.Nat.{mod-eq-of-lt}
 use lib.Dec.{eqb, leb, ltb}
 use lib.ListN.{length}
 use borrow.Author.Tests.{eq-eqb, ne-eqb, eqb-true, le-leb, lt-leb, ltb-true, ltb-false}
@@ -131,13 +130,6 @@ unfit t v w e x = ⊎-elim (λ h. within-zero t w (most-zero w v e h)) (λ h. wi
 pub wrong-close : faultOf BadCall ≡ wrongCall 41
 unfolding wrongCall breaks among pick
 wrong-close = refl
-
-pub wrote-four : {old mid out : List ℕ} {n b₀ b₁ b₂ b₃ : ℕ} (v : ℕ) → v ≤ 1000000000 → b₀ ≡ v % 256 → b₁ ≡ (v / 256) % 256 → b₂ ≡ (v / 65536) % 256 → b₃ ≡ (v / 16777216) % 256
-    → Wrote old mid n (b₀ ∷ b₁ ∷ []) → Wrote mid out (n + 2) (b₂ ∷ b₃ ∷ []) → Wrote old out n (four v)
-unfolding four
-wrote-four {old} {mid} {out} {n} {b₀} {b₁} {b₂} {b₃} v h e₀ e₁ e₂ e₃ x y =
-    let z : Wrote old out n (b₀ ∷ b₁ ∷ b₂ ∷ b₃ ∷ []) = wrote-more {l = b₀ ∷ b₁ ∷ []} x y in
-    rw (e₀, e₁, e₂, e₃ ∙ mod-eq-of-lt (omega arith)) at z
 
 -- A NUMBER BEHIND `=` OR `,`
 

@@ -3,6 +3,7 @@ use crate::Ended;
 use crate::Name;
 use crate::Tail;
 use items::put_item;
+use items::put_number;
 use letters::escaped_byte;
 use letters::is_break;
 use letters::is_lower;
@@ -17,12 +18,11 @@ use scanning::scan::wrong_byte;
 ghost use mathlib.Core.Path.{_≡_};
 ghost use mathlib.Core.Bool.{Bool, true, false, _&&_};
 ghost use mathlib.Core.List.{[], _∷_};
-ghost use Prim.Native.Nat.{_≤_, _<_, _*_, _+_, _-_, _%_};
+ghost use Prim.Native.Nat.{_≤_, _<_, _*_, _+_, _-_};
 ghost use lib.ListN.{length};
 ghost use Rattle.macros.specs.Macro.{digit};
 ghost use Rattle.macros.specs.Macro.Mark.{stack};
 ghost use Rattle.macros.specs.Read.{isSign};
-ghost use Rattle.tables.specs.Form.{four};
 ghost use Rattle.scanning.specs.Scan.{Reached, Here};
 ghost use Rattle.items.specs.Items.{Wrote};
 ghost use Rattle.reading.specs.Call.{CalledFrom, NamedFrom, Naming, TagNaming, Texting, TextFrom, SetFrom, TagFrom, StoreFrom, PutStore, Unclosed, Asks, Starts, signsIn, markOf, signCode, padding, nextName, nextEnd, numberEnd, nameEnd};
@@ -135,20 +135,6 @@ fn name(s: &[u8], a: usize, at: usize, b: u8, signs: bool) -> Name
 
 // NUMBERS
 
-fn low_byte(v: u64) -> u8
-    ensures { λ r. ⌜ r ≡ v % 256 ⌝ }
-{
-    (v % 256) as u8
-}
-
-fn put_number(out: &mut [u8], n: usize, v: u64)
-    requires { ⌜ (n + 4 ≤ length (now out)) × (v ≤ 1000000000) ⌝ }
-    ensures { λ _. ⌜ Wrote (now (out .entry)) (now (out .exit)) n (four v) ⌝ }
-{
-    put_item(out, n, low_byte(v), low_byte(v / 256));
-    put_item(out, n + 2, low_byte(v / 65536), low_byte(v / 16777216));
-}
-
 // Whether a number, which may have no digit, is not closed by `close`, or is none from 1 to `top`.
 pub(crate) fn unclosed(b: u8, close: u8, some: bool, v: u64, top: u64) -> bool
     ensures { λ r. ⌜ Unclosed b close some v top r ⌝ }
@@ -190,7 +176,7 @@ fn set_call(
         return Ended::Refused(wrong_byte(b), q);
     }
     put_item(out, n, code, i);
-    put_number(out, n + 2, v);
+    put_number(out, n + 2, v as u32);
     Ended::Upto(q + 1, n + 6)
 }
 

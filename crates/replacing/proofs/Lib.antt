@@ -4,3 +4,4 @@ pub mod Moving
 pub mod Inserting
 pub mod Decoding
 pub mod Occurring
+pub mod Entries

@@ -1,15 +1,15 @@
 // What a call changes (01, part 4): pointers, counters and entries. The answer hands on k, the bytes of the text so far.
 use crate::Fault;
 use crate::Outcome;
+use crate::setting::set_entry;
+use crate::setting::set_increment;
+use crate::setting::set_pointer;
+use crate::setting::set_value;
 use crate::tags::tag;
 use crate::texts::is_value;
 use states::increment;
 use states::pointer;
 use states::value;
-use storing::set_entry;
-use storing::set_increment;
-use storing::set_pointer;
-use storing::set_value;
 ghost use mathlib.Core.Path.{_≡_};
 ghost use Prim.Native.Nat.{_+_, _≤_, _<_};
 ghost use lib.ListN.{length, getD};

@@ -1,6 +1,7 @@
 // Replacing (01, part 4): what an occurrence inserts and changes.
 mod actions;
 mod calls;
+mod setting;
 mod tags;
 mod texts;
 

@@ -17,7 +17,7 @@ use Rattle.states.specs.Form.{pointersForm, valuesForm, incrementsForm, 
 use Rattle.states.specs.Check.{numberAt, stateChecks}
 use Rattle.states.specs.Access.{Holds, IsState, replaced, textLength}
 use Rattle.states.proofs.Steps.{number-block}
-use Rattle.states.proofs.Replaced.{replaced-left, replaced-right, replaced-whole, replaced-behind, set-replaced}
+use Rattle.states.proofs.Replaced.{replaced-left, replaced-right, replaced-whole, set-replaced}
 use Rattle.states.proofs.Each.{each, each-part, each-set, each-kept, part-in, all-any, all-map, all-at, all-set}
 use Rattle.states.proofs.Parts as parts
 use Rattle.states.proofs.Decode.{Number, number-four, state-check-exact}
@@ -410,13 +410,3 @@ module _ (b e : List ℕ) (i : ℕ) (w : Work) (h : Holds b (w .state)) (l : Let
             ∙ ap (λ (x : ℕ). replaced b x (entryForm t)) here
             ∙ sym d;
       }
-
--- a text, and zeros behind it, are an entry
-pub entry-stored : (b s e t : List ℕ) (a : ℕ) → a + 50 ≤ length b → length t ≤ 50 → s ≡ replaced b a t → e ≡ replaced s (a + length t) (replicate (a + 50 - (a + length t)) 0) → e ≡ replaced b a (entryForm t)
-unfolding entryForm
-entry-stored b s e t a fit few hs he =
-    let left : a + 50 - (a + length t) ≡ 50 - length t = omega arith in
-    he
-    ∙ ap (λ (x : List ℕ). replaced x (a + length t) (replicate (a + 50 - (a + length t)) 0)) hs
-    ∙ ap (λ (k : ℕ). replaced (replaced b a t) (a + length t) (replicate k 0)) left
-    ∙ replaced-behind b a (a + length t) t (replicate (50 - length t) 0) refl (omega arith)

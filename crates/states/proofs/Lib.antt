@@ -3,5 +3,4 @@ pub mod Replaced
 pub mod Each
 pub mod Parts
 pub mod Decode
-pub mod Fresh
 pub mod Held

@@ -1,14 +1,13 @@
 -- A part of the bytes replaced: beside other bytes, whole, part behind part, and as the stores that make it.
-use Prim.Native.Nat.{ℕ, zero, suc, _+_, _-_, _*_, _≤_, _<_}
+use Prim.Native.Nat.{ℕ, _+_, _-_, _≤_, _<_}
 use mathlib.Core.Path.{_≡_, refl, sym, ap, _∙_}
 use mathlib.Core.List.{List, [], _∷_, _++_, append-assoc, append-nil}
-use native.Mathlib.Nat.{add-zero, add-assoc, zero-add, suc-add}
-use native.Mathlib.Numerals.{add-one, add-two, add-three}
+use native.Mathlib.Nat.{add-zero, add-assoc, zero-add}
+use native.Mathlib.Numerals.{add-one}
 use native.Mathlib.Omega.{arith}
 use lib.ListN.{length, getD, set, take, drop, replicate, length-append, length-drop, length-replicate, replicate-append-replicate, take-append-drop}
-use lib.Seq.{drop-length, drop-drop, take-append-add, drop-append-add, take-append-le, drop-append-le, length-take-le, set-split, sets-eq, take-suc, take-all}
-use Rattle.tables.specs.Form.{four}
-use Rattle.states.specs.Access.{replaced, ones}
+use lib.Seq.{drop-length, drop-drop, take-append-add, drop-append-add, take-append-le, drop-append-le, length-take-le, set-split, take-suc, take-all}
+use Rattle.states.specs.Access.{replaced}
 
 -- in the first of two lists
 pub replaced-left : (a b : List ℕ) (p : ℕ) (v : List ℕ) → p + length v ≤ length a → replaced (a ++ b) p v ≡ replaced a p v ++ b
@@ -59,11 +58,6 @@ pub set-replaced : (b : List ℕ) (p x : ℕ) → p < length b → set b p x ≡
 unfolding replaced
 set-replaced b p x h = rw (add-one p) (set-split b p x h)
 
--- four
-pub sets-replaced : (b : List ℕ) (p x y z a : ℕ) → p + 4 ≤ length b → set (set (set (set b p x) (p + 1) y) (p + 2) z) (p + 3) a ≡ replaced b p (x ∷ y ∷ z ∷ a ∷ [])
-unfolding replaced
-sets-replaced b p x y z a h = rw (add-one p, add-two p, add-three p) (sets-eq (x ∷ y ∷ z ∷ a ∷ []) b p h ∙ append-assoc (take p b) (x ∷ y ∷ z ∷ a ∷ []) (drop (p + 4) b))
-
 -- the next of a run of the same
 pub fill-more : (b s : List ℕ) (p i x : ℕ) → p ≤ i → i < length b → s ≡ replaced b p (replicate (i - p) x) → set s i x ≡ replaced b p (replicate (i + 1 - p) x)
 fill-more b s p i x low h e =
@@ -96,27 +90,3 @@ text-more b s t p i h fit e =
 
 pub text-end : (b s t : List ℕ) (p i : ℕ) → length t ≤ i → s ≡ replaced b p (take i t) → s ≡ replaced b p t
 text-end b s t p i h e = e ∙ ap (replaced b p) (take-all i t h)
-
--- the next number 1
-pub length-ones : (n : ℕ) → length (ones n) ≡ 4 * n
-unfolding ones four
-length-ones zero = refl
-length-ones (suc n) = let h : length (ones n) ≡ 4 * n = length-ones n in omega arith
-
-pub ones-append : (n m : ℕ) → ones n ++ ones m ≡ ones (n + m)
-unfolding ones
-ones-append zero m = rw (zero-add m)
-ones-append (suc n) m = rw (suc-add n m) (append-assoc (four 1) (ones n) (ones m) ∙ ap (λ (t : List ℕ). four 1 ++ t) (ones-append n m))
-
-one-one : ones 1 ≡ four 1
-unfolding ones
-one-one = append-nil (four 1)
-
-pub ones-more : (b s e : List ℕ) (i : ℕ) → i < 52 → 236 ≤ length b → s ≡ replaced b 28 (ones i) → e ≡ replaced s (28 + 4 * i) (four 1) → e ≡ replaced b 28 (ones (i + 1))
-ones-more b s e i h fit hs he =
-    let lv : length (ones i) ≡ 4 * i = length-ones i in
-    let on : 28 + 4 * i ≡ 28 + length (ones i) = omega arith in
-    he
-    ∙ ap (λ (t : List ℕ). replaced t (28 + 4 * i) (four 1)) hs
-    ∙ replaced-behind b 28 (28 + 4 * i) (ones i) (four 1) on (omega arith)
-    ∙ ap (replaced b 28) (ap (λ (t : List ℕ). ones i ++ t) (sym one-one) ∙ ones-append i 1)

@@ -3,7 +3,6 @@ use mathlib.Core.Path.{_≡_}
 use mathlib.Core.List.{List, [], _∷_, _++_}
 use Prim.Native.Nat.{ℕ, zero, suc, _+_}
 use lib.ListN.{length, take, drop}
-use Rattle.tables.specs.Form.{four}
 use Rattle.lines.specs.State.{State, InRange}
 use Rattle.lines.specs.Replacing.{Work}
 use Rattle.states.specs.Form.{stateForm}
@@ -28,11 +27,6 @@ OfWork b claim = (w : Work) → Holds b (w .state) → claim w
 -- the bytes b with the bytes v from place p on
 unfoldable pub replaced : List ℕ → ℕ → List ℕ → List ℕ
 replaced b p v = take p b ++ (v ++ drop (p + length v) b)
-
--- n times the number 1
-unfoldable pub ones : ℕ → List ℕ
-ones zero = []
-ones (suc n) = four 1 ++ ones n
 
 -- how many bytes stand in front of the first 0
 unfoldable pub textLength : List ℕ → ℕ

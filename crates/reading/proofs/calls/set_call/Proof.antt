@@ -47,6 +47,13 @@ put-item-requires c κs = omega arith
 add-put-number : tie.Need-add-put-number
 add-put-number c = omega arith
 
+cast-put-number : tie.Need-cast-put-number
+cast-put-number c =
+    let args = c .before .before .before .before .before .before .before .before .before .before .before .before .before .args in
+    let digits = c .before .before .before .before .before .before .before .before .before .before .digits in
+    let number = c .before .before .before .before .before .before .before .before .number in
+    omega (arith, set-byte (now (args .s)) (args .a) (args .at) (now (args .out)) (now (args .out)) (args .n) (args .code) (args .i) (args .top) (digits .ensures) (number .given .1) .3)
+
 put-number-requires : tie.Need-put-number-requires
 put-number-requires c κs =
     let args = c .before .before .before .before .before .before .before .before .before .before .before .before .before .args in
@@ -54,7 +61,7 @@ put-number-requires c κs =
     let number = c .before .before .before .before .before .before .before .before .number in
     let pre = c .before .before .before .before .before .before .before .before .before .before .before .before .before .pre in
     let put-item = c .before .before .before .put-item in
-    let y = set-byte (now (args .s)) (args .a) (args .at) (now (args .out)) (now (args .out)) (args .n) (args .code) (args .i) (args .top) (digits .ensures) (number .given .1) in let t = y .1 .stands in (omega (arith, t .counted, t .behind, pre .1, put-item .kept .0), y .3)
+    let y = set-byte (now (args .s)) (args .a) (args .at) (now (args .out)) (now (args .out)) (args .n) (args .code) (args .i) (args .top) (digits .ensures) (number .given .1) in let t = y .1 .stands in omega (arith, t .counted, t .behind, pre .1, put-item .kept .0)
 
 add-t21 : tie.Need-add-t21
 add-t21 c =
@@ -63,8 +70,8 @@ add-t21 c =
     let number = c .before .before .before .before .before .before .before .before .before .before .before .number in
     let t = set-byte (now (args .s)) (args .a) (args .at) (now (args .out)) (now (args .out)) (args .n) (args .code) (args .i) (args .top) (digits .ensures) (number .given .1) .1 .stands in omega (arith, t .there, (c .before .before .before .before .before .before .before .before .before .before .before .before .before .before .before .before))
 
-add-t22 : tie.Need-add-t22
-add-t22 c =
+add-t23 : tie.Need-add-t23
+add-t23 c =
     let args = c .before .before .before .before .before .before .before .before .before .before .before .before .before .before .before .before .args in
     let digits = c .before .before .before .before .before .before .before .before .before .before .before .before .before .digits in
     let number = c .before .before .before .before .before .before .before .before .before .before .before .number in
@@ -100,8 +107,9 @@ set-call-spec =
     returns-2
     put-item-requires
     add-put-number
+    cast-put-number
     put-number-requires
     add-t21
-    add-t22
+    add-t23
     same-length
     returns-3)

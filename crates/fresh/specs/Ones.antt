@@ -1,0 +1,9 @@
+-- The counters of the fresh state, as bytes.
+use Prim.Native.Nat.{ℕ, zero, suc}
+use mathlib.Core.List.{List, [], _++_}
+use Rattle.tables.specs.Form.{four}
+
+-- n times the number 1
+unfoldable pub ones : ℕ → List ℕ
+ones zero = []
+ones (suc n) = four 1 ++ ones n
