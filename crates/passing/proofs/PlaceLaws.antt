@@ -24,11 +24,12 @@ use Rattle.lines.proofs.CopiedLaws.{put-copied}
 use Rattle.lines.proofs.CopyLaws.{ends-on, ends-inside}
 use Rattle.lines.proofs.MatchLaws.{Matches, match-matches}
 use Rattle.states.specs.Access.{IsState}
-use Rattle.replacing.specs.declared.Fault.{Fault}
-use Rattle.replacing.specs.declared.Fault.the-variants.{NewLineTooLong}
-use Rattle.replacing.specs.declared.Outcome.{Outcome}
-use Rattle.replacing.specs.declared.Outcome.the-variants.{Made, Refused as MadeRefused}
-use Rattle.replacing.specs.Contract.{EndsFrom, IsSlot, IsDivided, IsMoment, Occurs, refusalOf, doneOf, sizeOf}
+use Rattle.faults.specs.Faults.{refusalOf}
+use Rattle.faults.specs.declared.Fault.{Fault}
+use Rattle.faults.specs.declared.Fault.the-variants.{NewLineTooLong}
+use Rattle.faults.specs.declared.Outcome.{Outcome}
+use Rattle.faults.specs.declared.Outcome.the-variants.{Made, Refused as MadeRefused}
+use Rattle.replacing.specs.Contract.{EndsFrom, IsSlot, IsDivided, IsMoment, Occurs, doneOf, sizeOf}
 use Rattle.passing.specs.declared.Found.{Found}
 use Rattle.passing.specs.declared.Found.the-variants.{Matched, NoMatch}
 use Rattle.passing.specs.declared.At.{At}

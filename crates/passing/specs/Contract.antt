@@ -13,7 +13,8 @@ use Rattle.lines.specs.Replacing.{Work, Done}
 use Rattle.lines.specs.Replacing.Done.{bad, good}
 use Rattle.lines.specs.Pass.{pass, occurred, outcome}
 use Rattle.states.specs.Access.{Holds, IsState}
-use Rattle.replacing.specs.Contract.{IsSlot, IsMoment, refusalOf}
+use Rattle.faults.specs.Faults.{refusalOf}
+use Rattle.replacing.specs.Contract.{IsSlot, IsMoment}
 use Rattle.passing.specs.declared.Passed.{Passed}
 use Rattle.passing.specs.declared.Passed.the-variants.{Over, Refused}
 

@@ -14,10 +14,10 @@ use Rattle.lines.specs.Matching.{Division}
 use Rattle.lines.specs.Replacing.{Work}
 use Rattle.lines.specs.Pass.{Walk, match, walk, occurred, outcome}
 use Rattle.states.specs.Access.{IsState}
-use Rattle.replacing.specs.declared.Fault.{Fault}
-use Rattle.replacing.specs.declared.Fault.the-variants.{NewLineTooLong}
-use Rattle.replacing.specs.declared.Outcome.{Outcome}
-use Rattle.replacing.specs.declared.Outcome.the-variants.{Made, Refused as MadeRefused}
+use Rattle.faults.specs.declared.Fault.{Fault}
+use Rattle.faults.specs.declared.Fault.the-variants.{NewLineTooLong}
+use Rattle.faults.specs.declared.Outcome.{Outcome}
+use Rattle.faults.specs.declared.Outcome.the-variants.{Made, Refused as MadeRefused}
 use Rattle.replacing.specs.Contract.{IsSlot, IsMoment, IsDivided, Occurs}
 use Rattle.passing.specs.Contract.{marksBytes, doneOf, SaysOccurred}
 use Rattle.passing.specs.Marks.{Sound}

@@ -5,9 +5,9 @@ mod matcher;
 mod unit;
 mod walking;
 
+use faults::Fault;
 use keeping::copy_state;
 use keeping::has_calls;
-use replacing::Fault;
 use walking::walk;
 ghost use Prim.Native.Nat.{_+_, _<_};
 ghost use mathlib.Core.Path.{_≡_};
