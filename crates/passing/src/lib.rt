@@ -1,5 +1,4 @@
 // A pass (01, parts 3 and 5): one macro over one line.
-mod failed;
 mod keeping;
 mod matcher;
 mod unit;

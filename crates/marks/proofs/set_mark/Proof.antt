@@ -1,12 +1,11 @@
 -- Assumes nothing.
 use borrow.Author.Needs.{needs}
-use Rattle.passing.proofs.failed.set_mark.Statement.{statement}
-use Rattle.passing.proofs.failed.set_mark.Tie as tie
+use Rattle.marks.proofs.set_mark.Statement.{statement}
+use Rattle.marks.proofs.set_mark.Tie as tie
 use mathlib.Core.Path.{sym, _∙_}
 use native.Mathlib.Omega.{arith}
 use Prim.Native.Nat.{_+_, _*_, _/_}
-use borrow.Author.Tests.{eqb-false}
-use Rattle.passing.proofs.MarkLaws.{mark-kept, mark-fits, mark-set}
+use Rattle.marks.proofs.MarkLaws.{mark-there, mark-fits, mark-set}
 
 is-marked-requires : tie.Need-is-marked-requires
 is-marked-requires c κs = search needs
@@ -15,7 +14,7 @@ same-length : tie.Need-same-length
 same-length c = search needs
 
 returns : tie.Need-returns
-returns c = mark-kept _ _ _
+returns c = mark-there _ _ _ (sym (c .before .is-marked .ensures) ∙ c .if1 .taken)
 
 mul-i : tie.Need-mul-i
 mul-i c = search needs
@@ -23,8 +22,8 @@ mul-i c = search needs
 add-i : tie.Need-add-i
 add-i c = search needs
 
-cast-shift : tie.Need-cast-shift
-cast-shift c = search needs
+cast-bit : tie.Need-cast-bit
+cast-bit c = search needs
 
 slice-read-marks : tie.Need-slice-read-marks
 slice-read-marks c = search needs
@@ -33,7 +32,7 @@ shl-marks : tie.Need-shl-marks
 shl-marks c = search needs
 
 add-marks : tie.Need-add-marks
-add-marks c = record { fits = let l = mark-fits _ _ _ (let z = c .slice-known2 .given (c .before .before .before .before .before .args .at * 66 + c .before .before .before .before .before .args .q / 8) in omega arith) (eqb-false _ _ (sym (c .before .before .is-marked .ensures) ∙ c .before .if1 .left)) in omega arith }
+add-marks c = record { fits = let l = mark-fits _ _ _ (let z = c .slice-known2 .given (c .before .before .before .before .before .args .at * 66 + c .before .before .before .before .before .args .q / 8) in omega arith) (sym (c .before .before .is-marked .ensures) ∙ c .before .if1 .left) in omega arith }
 
 slice-write-marks : tie.Need-slice-write-marks
 slice-write-marks c = search needs
@@ -42,7 +41,7 @@ same-length-2 : tie.Need-same-length-2
 same-length-2 c = search needs
 
 returns-2 : tie.Need-returns-2
-returns-2 c = mark-set _ _ _ (c .before .before .before .before .before .pre) (let z = c .slice-known2 .given (c .before .before .before .before .before .args .at * 66 + c .before .before .before .before .before .args .q / 8) in omega arith) (eqb-false _ _ (sym (c .before .before .is-marked .ensures) ∙ c .before .if1 .left))
+returns-2 c = mark-set _ _ _ (sym (c .before .before .is-marked .ensures) ∙ c .before .if1 .left)
 
 pub set-mark-spec : {M : Type 1} → statement M
 set-mark-spec =
@@ -53,7 +52,7 @@ set-mark-spec =
     returns
     mul-i
     add-i
-    cast-shift
+    cast-bit
     slice-read-marks
     shl-marks
     add-marks

@@ -1,9 +1,9 @@
 -- Assumes nothing.
 use borrow.Author.Needs.{needs}
-use Rattle.passing.proofs.failed.is_marked.Statement.{statement}
-use Rattle.passing.proofs.failed.is_marked.Tie as tie
+use Rattle.marks.proofs.is_marked.Statement.{statement}
+use Rattle.marks.proofs.is_marked.Tie as tie
 use mathlib.Core.Path.{refl}
-use Rattle.passing.specs.Marks.{mark}
+use Rattle.marks.specs.Marks.{mark}
 
 mul-byte : tie.Need-mul-byte
 mul-byte c = search needs
