@@ -14,18 +14,19 @@ use Rattle.lines.specs.Pass.{pass}
 use Rattle.lines.specs.Line.{textOf}
 use Rattle.states.specs.Access.{Holds}
 use Rattle.replacing.specs.Contract.{IsSlot, IsMoment}
-use Rattle.passing.specs.declared.Passed.{Passed}
+use Rattle.moments.specs.declared.Passed.{Passed}
 use Rattle.passing.specs.declared.Found.the-variants.{NoMatch}
-use Rattle.passing.specs.declared.At.{At}
+use Rattle.moments.specs.declared.At.{At}
 use Rattle.passing.specs.Contract.{marksBytes, Lent, Passes, SaysOccurred, sizeOf}
-use Rattle.passing.specs.declared.Fate.{Fate}
-use Rattle.passing.specs.declared.Fate.the-variants.{Well, Bad}
+use Rattle.moments.specs.declared.Fate.{Fate}
+use Rattle.moments.specs.declared.Fate.the-variants.{Well, Bad}
 use Rattle.marks.specs.Marks.{cleared}
 use Rattle.marks.proofs.MarkLaws.{zero-again}
 use Rattle.passing.specs.Marks.{Sound}
 use Rattle.passing.specs.Finding.{lastOf, Differs}
 use Rattle.passing.specs.Seen.{Seen}
-use Rattle.passing.specs.Places.{from, startAt, answerOf, passedOf, ItemsOf, AtPlace, Copies, Onward, Goes}
+use Rattle.moments.specs.Moments.{startAt, answerOf, passedOf, Copies}
+use Rattle.passing.specs.Places.{from, ItemsOf, AtPlace, Onward, Goes}
 use Rattle.passing.proofs.MarkLaws.{sound-zero}
 use Rattle.passing.proofs.PlaceLaws.{drop-on, ready, go-free}
 use Rattle.passing.proofs.FindLaws.{find-differs}

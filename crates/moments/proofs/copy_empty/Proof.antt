@@ -1,8 +1,8 @@
 use mathlib.Core.Path.{refl}
 use native.Mathlib.Omega.{arith}
 use borrow.Author.Needs.{needs}
-use Rattle.passing.proofs.walking.copy_empty.Statement.{statement}
-use Rattle.passing.proofs.walking.copy_empty.Tie as tie
+use Rattle.moments.proofs.copy_empty.Statement.{statement}
+use Rattle.moments.proofs.copy_empty.Tie as tie
 
 returns : tie.Need-returns
 returns c = record { further = λ l. (refl, refl); empty = λ l. absurd (omega arith) }

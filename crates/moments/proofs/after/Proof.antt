@@ -1,7 +1,7 @@
 use mathlib.Core.Path.{_∙_}
 use borrow.Author.Needs.{needs}
-use Rattle.passing.proofs.walking.after.Statement.{statement}
-use Rattle.passing.proofs.walking.after.Tie as tie
+use Rattle.moments.proofs.after.Statement.{statement}
+use Rattle.moments.proofs.after.Tie as tie
 
 enum-known-made : tie.Need-enum-known-made
 enum-known-made c = search needs

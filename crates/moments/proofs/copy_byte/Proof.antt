@@ -1,8 +1,8 @@
 use mathlib.Core.Path.{refl}
 use native.Mathlib.Omega.{arith}
 use borrow.Author.Needs.{needs}
-use Rattle.passing.proofs.walking.copy_byte.Statement.{statement}
-use Rattle.passing.proofs.walking.copy_byte.Tie as tie
+use Rattle.moments.proofs.copy_byte.Statement.{statement}
+use Rattle.moments.proofs.copy_byte.Tie as tie
 
 moved-requires : tie.Need-moved-requires
 moved-requires c κs = search needs

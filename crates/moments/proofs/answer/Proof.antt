@@ -1,6 +1,6 @@
 use borrow.Author.Needs.{needs}
-use Rattle.passing.proofs.walking.answer.Statement.{statement}
-use Rattle.passing.proofs.walking.answer.Tie as tie
+use Rattle.moments.proofs.answer.Statement.{statement}
+use Rattle.moments.proofs.answer.Tie as tie
 
 enum-told : tie.Need-enum-told
 enum-told c = search needs
