@@ -15,7 +15,7 @@ pub fn is_marked(marks: &[u8], at: usize, q: usize) -> bool
     (byte >> shift) % 2 == 1
 }
 
-// It has.
+// The pair has failed; all other marks stay.
 pub fn set_mark(marks: &mut [u8], at: usize, q: usize)
     requires { ⌜ InRow (now marks) at q ⌝ }
     ensures { λ _. ⌜ now (marks .exit) ≡ marked (now (marks .entry)) at q ⌝ }
