@@ -16,7 +16,7 @@ use Rattle.lines.specs.Feeding.{feed as fed}
 use Rattle.lines.specs.Feeding.Kind.{refusedWith, out, withheld, controlled}
 use Rattle.states.specs.Access.{Holds, IsState}
 use Rattle.scanning.specs.Scan.{faultOf}
-use Rattle.replacing.specs.Contract.{refusalOf as workOf}
+use Rattle.faults.specs.Faults.{refusalOf as workOf}
 use Rattle.memories.specs.Memory.{IsTable}
 use Rattle.feeding.specs.declared.Why.{Why}
 use Rattle.feeding.specs.declared.Why.the-variants.{BudgetTooLarge, LineTooLong, BadByte, BadControl, InMacro, BudgetUsedUp, AtWork}

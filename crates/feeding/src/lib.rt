@@ -3,7 +3,7 @@ mod answers;
 mod slots;
 
 use answers::take_line;
-use replacing::Fault as WorkFault;
+use faults::Fault as WorkFault;
 use scanning::Fault as FileFault;
 ghost use Rattle.feeding.specs.Contract.{Lent, Feeds};
 ghost use Rattle.feeding.specs.Answering.{Tested};

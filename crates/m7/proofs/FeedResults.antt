@@ -25,8 +25,8 @@ use Rattle.states.proofs.Decode.{state-check-exact}
 use Rattle.states.proofs.Held.{passed-is}
 use Rattle.scanning.specs.Scan.{faultOf}
 use Rattle.scanning.specs.declared.Fault.{Fault}
-use Rattle.replacing.specs.Contract.{refusalOf as workOf}
-use Rattle.replacing.specs.declared.Fault.{Fault as WorkFault}
+use Rattle.faults.specs.Faults.{refusalOf as workOf}
+use Rattle.faults.specs.declared.Fault.{Fault as WorkFault}
 use Rattle.memories.specs.Memory.{IsTable}
 use Rattle.feeding.specs.Contract.{Lent, refusalOf, kindOf, passesOf, sizeOf, laidOut, Answers}
 use Rattle.feeding.specs.Contract.{Feeds as FeedsLine}

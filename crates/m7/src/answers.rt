@@ -1,14 +1,14 @@
 // The answer to a line that was fed, in numbers.
 use crate::Answer;
 use crate::file_number;
+use faults::Fault as WorkFault;
 use feeding::Fed;
 use feeding::Why;
-use replacing::Fault as WorkFault;
 ghost use mathlib.Core.Path.{_≡_};
 ghost use Prim.Native.Nat.{_≤_};
 ghost use Rattle.macros.specs.Bounds.{mostFileBytes, mostLineBytes, mostBudget};
 ghost use Rattle.macros.specs.Refusals.{workNumber, number, place};
-ghost use Rattle.replacing.specs.Contract.{refusalOf as workOf};
+ghost use Rattle.faults.specs.Faults.{refusalOf as workOf};
 ghost use Rattle.feeding.specs.Contract.{refusalOf};
 ghost use Rattle.m7.specs.Answering.{lineReply, told, Small};
 

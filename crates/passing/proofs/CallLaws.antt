@@ -1,13 +1,13 @@
 -- The calls of a pattern, and the marks that hold as long as these stand for the same texts.
-use Prim.Native.Nat.{ℕ, zero, suc, _+_, _-_, _*_, _≤_, _<_}
+use Prim.Native.Nat.{ℕ, _+_, _-_, _*_, _≤_, _<_}
 use mathlib.Core.Path.{_≡_, refl, sym, ap, _∙_, subst}
 use mathlib.Core.Bool.{true, false}
 use mathlib.Core.List.{List, [], _∷_, _++_, reverse, reverseAux}
 use native.Mathlib.Nat.{zero-add}
 use native.Mathlib.Numerals.{add-one}
 use native.Mathlib.Omega.{arith}
-use lib.ListN.{length, getD, take, drop, set, replicate, getD-replicate, length-replicate, List·getD-append}
-use lib.Seq.{drop-at, take-suc, take-all}
+use lib.ListN.{length, getD, take, drop, set}
+use lib.Seq.{take-suc, take-all}
 use Rattle.macros.specs.Macro.{Member, Piece}
 use Rattle.macros.specs.Macro.Member.{single, range}
 use Rattle.macros.specs.Macro.Mark.{stack, counter}
@@ -22,6 +22,8 @@ use Rattle.lines.specs.State.{State, contents}
 use Rattle.states.specs.Access.{IsState, replaced}
 use Rattle.states.proofs.Decode.{one-state-form}
 use Rattle.states.proofs.Replaced.{replaced-whole, text-more, text-end}
+use Rattle.marks.specs.Marks.{cleared}
+use Rattle.marks.proofs.MarkLaws.{cleared-zero, cleared-rest}
 use Rattle.passing.specs.Marks.{Sound}
 use Rattle.passing.specs.Finding.{FormedUnits, IsPattern, Agree}
 use Rattle.passing.specs.Seen.{Pairs, NoCall, LetterIn, SameAt, Alike, Seen, Renewed}
@@ -114,23 +116,6 @@ sound-alike : (items b b′ t marks : List ℕ) → Alike items b b′ → IsSta
 sound-alike items b b′ t marks h s es p k =
     sound-agree items b b′ t marks (λ fs q st st′ x y. agrees st st′ fs (subst (Pairs (SameAt st st′)) (sym (q .form)) (h st st′ x y))) s es p k
 
--- CLEARED MARKS
-
-pub cleared-zero : (marks marks′ : List ℕ) (n : ℕ) → marks′ ≡ replaced marks 0 (replicate n 0) → (i : ℕ) → i < n → getD marks′ i 0 ≡ 0
-unfolding replaced
-cleared-zero marks marks′ n e i h =
-    ap (λ (l : List ℕ). getD l i 0) e
-    ∙ List·getD-append (replicate n 0) (drop (0 + length (replicate n 0)) marks) 0 i (omega (arith, length-replicate {A = ℕ} n 0))
-    ∙ getD-replicate n i 0 0 h
-
-pub cleared-rest : (marks marks′ : List ℕ) (n : ℕ) → marks′ ≡ replaced marks 0 (replicate n 0) → drop n marks′ ≡ drop n marks
-unfolding replaced
-cleared-rest marks marks′ n e =
-    let zs : List ℕ = replicate n 0 in
-    let l : length zs ≡ n = length-replicate {A = ℕ} n 0 in
-    let z : 0 + length zs ≡ n = omega arith in
-    ap (drop n) e ∙ drop-at zs (drop (0 + length zs) marks) n l ∙ ap (λ (j : ℕ). drop j marks) z
-
 -- WHAT IS SEEN
 
 pub seen-none : (items b : List ℕ) → Pairs NoCall items → Seen items [] b
@@ -165,32 +150,15 @@ module _ (items b : List ℕ) (es : List Piece) (p : IsPattern items es) (s : Is
       }
 
   -- some differs
-  pub renew-all : (seen seen′ marks marks′ : List ℕ) → 1 ≤ length seen → length seen′ ≡ length seen → seen′ ≡ b → marks′ ≡ replaced marks 0 (replicate (66 * length items) 0) → Renewed items b seen seen′ marks marks′
+  pub renew-all : (seen seen′ marks marks′ : List ℕ) → 1 ≤ length seen → length seen′ ≡ length seen → seen′ ≡ b → marks′ ≡ cleared marks (66 * length items) → Renewed items b seen seen′ marks marks′
   renew-all seen seen′ marks marks′ l k e f =
       record {
-        sound = λ before t x y z. sound-zero items b t marks′ (cleared-zero marks marks′ (66 * length items) f);
+        sound = λ before t x y z. sound-zero items b t marks′ (λ i h. ap (λ (x : List ℕ). getD x i 0) f ∙ cleared-zero marks (66 * length items) i h);
         sees = λ before y. seen-self items b seen′ es p s (omega arith) e;
-        outside = cleared-rest marks marks′ (66 * length items) f;
+        outside = ap (drop (66 * length items)) f ∙ cleared-rest marks (66 * length items);
       }
 
-zeros : (n k : ℕ) → n ≤ k → _++_ {A = ℕ} (replicate n 0) (drop n (replicate k 0)) ≡ replicate k 0
-zeros zero k l = refl
-zeros (suc n) zero l = absurd (omega arith)
-zeros (suc n) (suc k) l = ap {B = List ℕ} (λ x. 0 ∷ x) (zeros n k (omega arith))
-
--- at the end: the marks are all zero again
-pub zero-again : (marks now marks′ : List ℕ) (n k : ℕ) → marks ≡ replicate k 0 → n ≤ k → drop n now ≡ drop n marks → marks′ ≡ replaced now 0 (replicate n 0) → marks′ ≡ marks
-unfolding replaced
-zero-again marks now marks′ n k e l h f =
-    let zs : List ℕ = replicate n 0 in
-    let c : length zs ≡ n = length-replicate {A = ℕ} n 0 in
-    let a : 0 + length zs ≡ n = omega arith in
-    f ∙ ap (λ (j : ℕ). zs ++ drop j now) a ∙ ap (λ (x : List ℕ). zs ++ x) (h ∙ ap (drop n) e) ∙ zeros n k l ∙ sym e
-
--- BYTES THAT ARE CLEARED, COPIED OR COMPARED
-
-pub clear-done : (b s : List ℕ) (i n : ℕ) → i ≤ n → n ≤ i → s ≡ replaced b 0 (replicate (i - 0) 0) → s ≡ replaced b 0 (replicate n 0)
-clear-done b s i n h k e = let z : i - 0 ≡ n = omega arith in e ∙ ap (λ (j : ℕ). replaced b 0 (replicate j 0)) z
+-- BYTES THAT ARE COPIED OR COMPARED
 
 pub copy-more : (b s t : List ℕ) (i : ℕ) → i < length t → length t ≡ length b → s ≡ replaced b 0 (take i t) → set s i (getD t i 0) ≡ replaced b 0 (take (i + 1) t)
 copy-more b s t i h l e = ap (λ (j : ℕ). set s j (getD t i 0)) (sym (zero-add i)) ∙ text-more b s t 0 i h (omega arith) e

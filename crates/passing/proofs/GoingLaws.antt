@@ -2,7 +2,7 @@
 use Prim.Native.Nat.{ℕ, zero, suc, _*_, _≤_, _<_}
 use mathlib.Core.Path.{_≡_, refl, sym, ap, _∙_, subst}
 use mathlib.Core.Bool.{Bool, true, false}
-use mathlib.Core.List.{List, []}
+use mathlib.Core.List.{List, [], _++_}
 use native.Mathlib.Omega.{arith}
 use lib.ListN.{length, getD, drop, replicate, length-replicate}
 use Rattle.macros.specs.Bounds.{mostLineBytes}
@@ -12,20 +12,22 @@ use Rattle.lines.specs.State.{State}
 use Rattle.lines.specs.Replacing.{Work, onto}
 use Rattle.lines.specs.Pass.{pass}
 use Rattle.lines.specs.Line.{textOf}
-use Rattle.states.specs.Access.{Holds, replaced}
+use Rattle.states.specs.Access.{Holds}
 use Rattle.replacing.specs.Contract.{IsSlot, IsMoment}
-use Rattle.passing.specs.declared.Passed.{Passed}
+use Rattle.moments.specs.declared.Passed.{Passed}
 use Rattle.passing.specs.declared.Found.the-variants.{NoMatch}
-use Rattle.passing.specs.declared.At.{At}
+use Rattle.moments.specs.declared.At.{At}
 use Rattle.passing.specs.Contract.{marksBytes, Lent, Passes, SaysOccurred, sizeOf}
-use Rattle.passing.specs.declared.Fate.{Fate}
-use Rattle.passing.specs.declared.Fate.the-variants.{Well, Bad}
+use Rattle.moments.specs.declared.Fate.{Fate}
+use Rattle.moments.specs.declared.Fate.the-variants.{Well, Bad}
+use Rattle.marks.specs.Marks.{cleared}
+use Rattle.marks.proofs.MarkLaws.{zero-again}
 use Rattle.passing.specs.Marks.{Sound}
 use Rattle.passing.specs.Finding.{lastOf, Differs}
 use Rattle.passing.specs.Seen.{Seen}
-use Rattle.passing.specs.Places.{from, startAt, answerOf, passedOf, ItemsOf, AtPlace, Copies, Onward, Goes}
+use Rattle.moments.specs.Moments.{startAt, answerOf, passedOf, Copies}
+use Rattle.passing.specs.Places.{from, ItemsOf, AtPlace, Onward, Goes}
 use Rattle.passing.proofs.MarkLaws.{sound-zero}
-use Rattle.passing.proofs.CallLaws.{zero-again}
 use Rattle.passing.proofs.PlaceLaws.{drop-on, ready, go-free}
 use Rattle.passing.proofs.FindLaws.{find-differs}
 
@@ -159,7 +161,7 @@ module _ (s items kinds t b out marks seen : List ℕ) (y : Lent s kinds t b out
             }
 
     -- past the last place
-    pub pass-done : length t < a .place → (marks″ : List ℕ) → marks″ ≡ replaced marks′ 0 (replicate (66 * length items) 0) → (r : Passed) → r ≡ passedOf a → Passes s t b b′ out out′ marks marks″ r
+    pub pass-done : length t < a .place → (marks″ : List ℕ) → marks″ ≡ cleared marks′ (66 * length items) → (r : Passed) → r ≡ passedOf a → Passes s t b b′ out out′ marks marks″ r
     pass-done l marks″ e r k =
         let z : sizeOf (passedOf a) ≡ a .size = size-is (a .fate) (a .hit) (a .size) in
         let f = is .fits in
@@ -168,5 +170,5 @@ module _ (s items kinds t b out marks seen : List ℕ) (y : Lent s kinds t b out
           comes = λ m i st x. let u = g .reached m i st x in let o = u .onward .over l in record { moment = (u .work, o .0, subst (λ (j : ℕ). IsMoment out′ b′ j (u .work)) (sym z) (u .moment)); says = o .1 };
           past = subst (λ (j : ℕ). drop j out′ ≡ drop j out) (sym z) (g .past);
           within = subst (λ (j : ℕ). j ≤ mostLineBytes) (sym z) (g .size);
-          cleared = zero-again marks marks′ marks″ (66 * length items) marksBytes (y .clear) (omega arith) (g .outside) e;
+          cleared = e ∙ ap (λ (x : List ℕ). replicate (66 * length items) 0 ++ x) (g .outside ∙ ap (drop (66 * length items)) (y .clear)) ∙ zero-again (66 * length items) marksBytes (omega arith) ∙ sym (y .clear);
         })

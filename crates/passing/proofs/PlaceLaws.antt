@@ -24,19 +24,21 @@ use Rattle.lines.proofs.CopiedLaws.{put-copied}
 use Rattle.lines.proofs.CopyLaws.{ends-on, ends-inside}
 use Rattle.lines.proofs.MatchLaws.{Matches, match-matches}
 use Rattle.states.specs.Access.{IsState}
-use Rattle.replacing.specs.declared.Fault.{Fault}
-use Rattle.replacing.specs.declared.Fault.the-variants.{NewLineTooLong}
-use Rattle.replacing.specs.declared.Outcome.{Outcome}
-use Rattle.replacing.specs.declared.Outcome.the-variants.{Made, Refused as MadeRefused}
-use Rattle.replacing.specs.Contract.{EndsFrom, IsSlot, IsDivided, IsMoment, Occurs, refusalOf, doneOf, sizeOf}
+use Rattle.faults.specs.Faults.{refusalOf}
+use Rattle.faults.specs.declared.Fault.{Fault}
+use Rattle.faults.specs.declared.Fault.the-variants.{NewLineTooLong}
+use Rattle.faults.specs.declared.Outcome.{Outcome}
+use Rattle.faults.specs.declared.Outcome.the-variants.{Made, Refused as MadeRefused}
+use Rattle.replacing.specs.Contract.{EndsFrom, IsSlot, IsDivided, IsMoment, Occurs, doneOf, sizeOf}
 use Rattle.passing.specs.declared.Found.{Found}
 use Rattle.passing.specs.declared.Found.the-variants.{Matched, NoMatch}
-use Rattle.passing.specs.declared.At.{At}
+use Rattle.moments.specs.declared.At.{At}
 use Rattle.passing.specs.Contract.{SaysOccurred, doneOf as passDone}
 use Rattle.passing.specs.Finding.{Ready, FoundAt, countedOf, Finds, lastOf}
 use Rattle.passing.specs.Trying.{Tried}
 use Rattle.passing.specs.Seen.{Seen, Renewed}
-use Rattle.passing.specs.Places.{from, matchAt, movedTo, refusedAt, afterOf, passedOf, AtPlace, Acting, Acts, Copies, CopiesEmpty, Onward, Goes}
+use Rattle.moments.specs.Moments.{movedTo, refusedAt, afterOf, passedOf, Copies, CopiesEmpty}
+use Rattle.passing.specs.Places.{from, matchAt, AtPlace, Acting, Acts, Onward, Goes}
 use Rattle.passing.proofs.FindLaws.{find-counted}
 use Rattle.passing.proofs.GrowLaws.{Grown, occur-grown}
 

@@ -19,7 +19,9 @@ use Rattle.lines.proofs.MoreLaws.{stopsOf}
 use Rattle.lines.proofs.CopyLaws.{fits-inside}
 use Rattle.states.specs.Access.{Holds, OfState}
 use Rattle.passing.specs.Pattern.{IsRest, OfPiece}
-use Rattle.passing.specs.Marks.{mark, copiesFrom, NewMark}
+use Rattle.marks.specs.Marks.{mark, marked}
+use Rattle.marks.proofs.MarkLaws.{length-marked, drop-marked}
+use Rattle.passing.specs.Marks.{copiesFrom}
 use Rattle.passing.specs.Pieces.{membersOf, fitU, widthU, Stands, IsUnit, Wide}
 use Rattle.passing.specs.Trying.{answer, after, thenP, foundOf, Noted, Trying, Kept, Row, Furthest, Counting, Most, Repeating, Tried, Copied}
 use Rattle.passing.specs.declared.unit.Unit.{Unit as CodeUnit}
@@ -202,7 +204,7 @@ module _ (items kinds b t : List ℕ) (at next w q n : ℕ) (marks₀ ends₀ : 
       stops-none none e = refl
       stops-none (some d) e = absurd (let z : _≡_ {A = ℕ} 0 1 = cc in omega arith)
 
-      module _ (marks₂ : List ℕ) (new : NewMark marks′ marks₂ at (q + (n - back) * w)) where
+      module _ (marks₂ : List ℕ) (new : marks₂ ≡ marked marks′ at (q + (n - back) * w)) where
         pub mark-kept : Kept items b t marks₀ marks₂ ends′
         mark-kept =
             let s = k .stands in
@@ -211,14 +213,14 @@ module _ (items kinds b t : List ℕ) (at next w q n : ℕ) (marks₀ ends₀ : 
             let r = rest-inside items at (s .piece) (s .pieces) (s .is) in
             record {
               noted = record {
-                size = new .size ∙ y .kept .noted .size;
+                size = ap length new ∙ length-marked marks′ at (q + (n - back) * w) ∙ y .kept .noted .size;
                 count = y .kept .noted .count;
                 inside = y .kept .noted .inside;
                 sound =
                     sound-set items b t marks′ marks₂ at (q + (n - back) * w) (omega arith) (rest-even items at (s .piece ∷ s .pieces) (s .is)) (y .kept .noted .sound) new
                     (λ u c es i st h. stops-none (copiesFrom st u es t (q + (n - back) * w)) (nothing u c es i st h));
               };
-              outside = new .past (66 * length items) (omega arith) ∙ y .kept .outside ∙ o .kept .outside;
+              outside = ap (drop (66 * length items)) new ∙ drop-marked marks′ at (q + (n - back) * w) (66 * length items) (omega arith) ∙ y .kept .outside ∙ o .kept .outside;
             }
 
         -- every number of copies has failed

@@ -22,7 +22,7 @@ use Rattle.states.specs.Access.{Holds, IsState, OfState}
 use Rattle.replacing.specs.Contract.{EndsFrom}
 use Rattle.passing.specs.Contract.{marksBytes}
 use Rattle.passing.specs.Pattern.{IsRest, OfPiece}
-use Rattle.passing.specs.Marks.{mark}
+use Rattle.marks.specs.Marks.{mark}
 use Rattle.passing.specs.Pieces.{membersOf, codeClosure, fitU, widthU, leadOf, again, Stands, IsUnit, IsElement, Wide}
 use Rattle.passing.specs.Trying.{answer, after, thenP, foundOf, endedIn, Said, Given, Noted, Trying, Kept, Tried, Copied}
 use Rattle.passing.specs.declared.unit.Element.{Element}

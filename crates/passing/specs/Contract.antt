@@ -13,9 +13,10 @@ use Rattle.lines.specs.Replacing.{Work, Done}
 use Rattle.lines.specs.Replacing.Done.{bad, good}
 use Rattle.lines.specs.Pass.{pass, occurred, outcome}
 use Rattle.states.specs.Access.{Holds, IsState}
-use Rattle.replacing.specs.Contract.{IsSlot, IsMoment, refusalOf}
-use Rattle.passing.specs.declared.Passed.{Passed}
-use Rattle.passing.specs.declared.Passed.the-variants.{Over, Refused}
+use Rattle.faults.specs.Faults.{refusalOf}
+use Rattle.replacing.specs.Contract.{IsSlot, IsMoment}
+use Rattle.moments.specs.declared.Passed.{Passed}
+use Rattle.moments.specs.declared.Passed.the-variants.{Over, Refused}
 
 -- a bit for each item of a pattern and each place of a line: 508 items, 1,056 places
 abbrev pub marksBytes : ℕ

@@ -1,10 +1,10 @@
 -- What trying a place, going on from it and walking over all of them promise (01, part 5).
-use Prim.Native.Nat.{ℕ, _+_, _*_, _≤_, _<_}
+use Prim.Native.Nat.{ℕ, _*_, _≤_, _<_}
 use mathlib.Core.Path.{_≡_}
-use mathlib.Core.Bool.{Bool, true, false, _||_}
+use mathlib.Core.Bool.{Bool, _||_}
 use mathlib.Core.List.{List}
 use mathlib.Core.Option.{Option}
-use lib.ListN.{length, getD, drop, set}
+use lib.ListN.{length, getD, drop}
 use Rattle.kinds.specs.Kind.{kindTable}
 use Rattle.macros.specs.Bounds.{mostLineBytes}
 use Rattle.macros.specs.Macro.{Macro, Piece}
@@ -14,20 +14,14 @@ use Rattle.lines.specs.Matching.{Division}
 use Rattle.lines.specs.Replacing.{Work}
 use Rattle.lines.specs.Pass.{Walk, match, walk, occurred, outcome}
 use Rattle.states.specs.Access.{IsState}
-use Rattle.replacing.specs.declared.Fault.{Fault}
-use Rattle.replacing.specs.declared.Fault.the-variants.{NewLineTooLong}
-use Rattle.replacing.specs.declared.Outcome.{Outcome}
-use Rattle.replacing.specs.declared.Outcome.the-variants.{Made, Refused as MadeRefused}
+use Rattle.faults.specs.declared.Outcome.{Outcome}
+use Rattle.moments.specs.declared.At.{At}
+use Rattle.moments.specs.Moments.{afterOf, passedOf}
 use Rattle.replacing.specs.Contract.{IsSlot, IsMoment, IsDivided, Occurs}
 use Rattle.passing.specs.Contract.{marksBytes, doneOf, SaysOccurred}
 use Rattle.passing.specs.Marks.{Sound}
 use Rattle.passing.specs.Finding.{IsPattern, lastOf}
 use Rattle.passing.specs.Seen.{Seen, Renewed}
-use Rattle.passing.specs.declared.Passed.{Passed}
-use Rattle.passing.specs.declared.Passed.the-variants.{Over, Refused}
-use Rattle.passing.specs.declared.Fate.{Fate}
-use Rattle.passing.specs.declared.Fate.the-variants.{Well, Bad}
-use Rattle.passing.specs.declared.At.{At}
 
 -- the pass from place p on
 abbrev pub from : Macro → List ℕ → ℕ → ℕ → Work → Walk
@@ -44,30 +38,6 @@ SomeSlot s = (m : Macro) × IsSlot s m
 pub record ItemsOf (s items : List ℕ) : Type 0 where
   pub pattern : (m : Macro) → IsSlot s m → IsPattern items (m .pattern)
   pub fits : length items ≤ bodyBytes
-
--- MOMENTS
-
-abbrev pub startAt : At
-startAt = record { place = 0; last = 1055; size = 0; hit = false; fate = Well }
-
-abbrev pub movedTo : At → ℕ → At
-movedTo a n = record { place = a .place + 1; last = a .last; size = n; hit = a .hit; fate = Well }
-
-abbrev pub refusedAt : Fault → ℕ → At
-refusedAt f k = record { place = 1055; last = 1055; size = k; hit = true; fate = Bad f }
-
--- behind an occurrence that ends at q
-abbrev pub afterOf : Outcome → ℕ → At
-afterOf (Made k) q = record { place = q; last = q; size = k; hit = true; fate = Well }
-afterOf (MadeRefused f k) q = refusedAt f k
-
--- what a moment past the last place says
-abbrev pub answerOf : Fate → Bool → ℕ → Passed
-answerOf Well hit n = Over hit n
-answerOf (Bad f) hit n = Refused f n
-
-abbrev pub passedOf : At → Passed
-passedOf a = answerOf (a .fate) (a .hit) (a .size)
 
 -- AN OCCURRENCE, its match found
 
@@ -88,19 +58,6 @@ pub record Acting (s items t b out marks seen ends : List ℕ) (n : ℕ) : Type 
 pub record Acts (s items t b b′ out out′ marks marks′ seen seen′ ends : List ℕ) (q n : ℕ) (r : At) : Type 0 where
   pub made : (o : Outcome) × (r ≡ afterOf o q) × Occurs s ends t b b′ out out′ n o
   pub renewed : Renewed items b′ seen seen′ marks marks′
-
--- A BYTE IS COPIED
-
--- at the line's length there is none; 32: "the new line's 1,055th byte"
-pub record Copies (t out out′ : List ℕ) (a r : At) : Type 0 where
-  pub none : length t ≤ a .place → (r ≡ movedTo a (a .size)) × (out′ ≡ out)
-  pub full : a .place < length t → mostLineBytes ≤ a .size → (r ≡ refusedAt NewLineTooLong (a .size)) × (out′ ≡ out)
-  pub copied : a .place < length t → a .size < mostLineBytes → (r ≡ movedTo a (a .size + 1)) × (out′ ≡ set out (a .size) (getD t (a .place) 0))
-
--- behind a match at p only where it was empty
-pub record CopiesEmpty (t out out′ : List ℕ) (p : ℕ) (a r : At) : Type 0 where
-  pub further : p < a .place → (r ≡ a) × (out′ ≡ out)
-  pub empty : a .place ≤ p → Copies t out out′ a r
 
 -- GOING ON FROM A PLACE
 

@@ -1,10 +1,11 @@
 // Marks hold for one state: they are kept as long as the pattern's calls stand for the same texts.
+use marks::clear;
 use states::entry;
 use states::value;
-ghost use Prim.Native.Nat.{_*_, _≤_};
+ghost use Prim.Native.Nat.{_≤_};
 ghost use mathlib.Core.Path.{_≡_};
-ghost use lib.ListN.{length, replicate};
-ghost use Rattle.states.specs.Access.{IsState, replaced};
+ghost use lib.ListN.{length};
+ghost use Rattle.states.specs.Access.{IsState};
 ghost use Rattle.passing.specs.Seen.{WhenTrue, WhenFalse, NoCall, LetterIn, Pairs, SameIn, Alike, Renewing, Renewed};
 
 // Part 2: a call `&(i)` or `#(i)`.
@@ -79,18 +80,6 @@ fn same_calls(items: &[u8], seen: &[u8], state: &[u8]) -> bool
         at += 2;
     }
     true
-}
-
-// No mark is set among the first n bytes.
-pub(crate) fn clear(marks: &mut [u8], n: usize)
-    requires { ⌜ n ≤ length (now marks) ⌝ }
-    ensures { λ _. ⌜ now (marks .exit) ≡ replaced (now (marks .entry)) 0 (replicate n 0) ⌝ }
-{
-    let mut i = 0;
-    while i < n {
-        marks[i] = 0;
-        i += 1;
-    }
 }
 
 pub(crate) fn copy_state(state: &[u8], seen: &mut [u8])

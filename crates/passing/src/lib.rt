@@ -1,5 +1,4 @@
 // A pass (01, parts 3 and 5): one macro over one line.
-mod failed;
 mod keeping;
 mod matcher;
 mod unit;
@@ -7,7 +6,7 @@ mod walking;
 
 use keeping::copy_state;
 use keeping::has_calls;
-use replacing::Fault;
+use moments::Passed;
 use walking::walk;
 ghost use Prim.Native.Nat.{_+_, _<_};
 ghost use mathlib.Core.Path.{_≡_};
@@ -16,31 +15,10 @@ ghost use Rattle.tables.specs.Check.{twoAt};
 ghost use Rattle.passing.specs.Contract.{Lent, Passes};
 ghost use Rattle.passing.specs.Places.{SomeSlot, ItemsOf};
 
-// Whether there was an occurrence, and the bytes of the new line; or a refusal, with the bytes that the new line has by then.
-pub enum Passed {
-    Over(bool, usize),
-    Refused(Fault, usize),
-}
-
 // Where a match ends.
 pub(crate) enum Found {
     Matched(usize),
     NoMatch,
-}
-
-// Whether a pass goes well, or its refusal.
-pub(crate) enum Fate {
-    Well,
-    Bad(Fault),
-}
-
-// A moment of a pass: the place to be tried next, the end of the match just made, the bytes of the new line, whether there was an occurrence, and a refusal.
-pub(crate) struct At {
-    pub(crate) place: usize,
-    pub(crate) last: usize,
-    pub(crate) size: usize,
-    pub(crate) hit: bool,
-    pub(crate) fate: Fate,
 }
 
 // A pass; only a pattern with calls needs the state under which its marks were made.

@@ -1,7 +1,5 @@
 // The matcher (01, part 3): the stack goes no deeper than the pattern's elements, and each closure is tried at each place once.
 use crate::Found;
-use crate::failed::is_marked;
-use crate::failed::set_mark;
 use crate::unit::Lead;
 use crate::unit::Unit;
 use crate::unit::behind;
@@ -10,6 +8,8 @@ use crate::unit::element_at;
 use crate::unit::lead_at;
 use crate::unit::may_repeat;
 use crate::unit::width_of;
+use marks::is_marked;
+use marks::set_mark;
 ghost use Prim.Native.Nat.{_≤_, _<_};
 ghost use mathlib.Core.Path.{_≡_};
 ghost use lib.ListN.{length};

@@ -1,79 +1,21 @@
 // A pass, place by place.
-use crate::At;
-use crate::Fate;
 use crate::Found;
-use crate::Passed;
-use crate::keeping::clear;
 use crate::keeping::renew;
 use crate::matcher::counted;
 use crate::matcher::differs;
 use crate::matcher::elements;
-use replacing::Fault;
-use replacing::Outcome;
+use marks::clear;
+use moments::At;
+use moments::Passed;
+use moments::after;
+use moments::answer;
+use moments::copy_byte;
+use moments::copy_empty;
+use moments::start;
 use replacing::occurrence;
-ghost use Prim.Native.Nat.{_≤_};
-ghost use mathlib.Core.Path.{_≡_};
-ghost use lib.ListN.{length};
-ghost use Rattle.macros.specs.Bounds.{mostLineBytes};
 ghost use Rattle.passing.specs.Contract.{Lent, Passes};
 ghost use Rattle.passing.specs.Seen.{Seen};
-ghost use Rattle.passing.specs.Places.{startAt, movedTo, refusedAt, afterOf, passedOf, ItemsOf, AtPlace, Acting, Acts, Copies, CopiesEmpty, Goes};
-
-// Place 0; 1,055: there was no match yet.
-fn start() -> At
-    ensures { λ r. ⌜ r ≡ startAt ⌝ }
-{
-    At {
-        place: 0,
-        last: 1055,
-        size: 0,
-        hit: false,
-        fate: Fate::Well,
-    }
-}
-
-// A refusal ends the pass: 1,055 lies past every place.
-fn refused(f: Fault, k: usize) -> At
-    ensures { λ r. ⌜ r ≡ refusedAt f k ⌝ }
-{
-    At {
-        place: 1055,
-        last: 1055,
-        size: k,
-        hit: true,
-        fate: Fate::Bad(f),
-    }
-}
-
-// "A match .. goes on at its end".
-fn after(made: Outcome, end: usize) -> At
-    ensures { λ r. ⌜ r ≡ afterOf made end ⌝ }
-{
-    match made {
-        Outcome::Refused(f, k) => refused(f, k),
-        Outcome::Made(k) => At {
-            place: end,
-            last: end,
-            size: k,
-            hit: true,
-            fate: Fate::Well,
-        },
-    }
-}
-
-// The next place, with n bytes of the new line.
-fn moved(at: At, n: usize) -> At
-    requires { ⌜ at .place ≤ mostLineBytes ⌝ }
-    ensures { λ r. ⌜ r ≡ movedTo at n ⌝ }
-{
-    At {
-        place: at.place + 1,
-        last: at.last,
-        size: n,
-        hit: at.hit,
-        fate: Fate::Well,
-    }
-}
+ghost use Rattle.passing.specs.Places.{ItemsOf, AtPlace, Acting, Acts, Goes};
 
 // The match at a place, which ends at `end`, makes the replacement behind n bytes of the new line.
 fn act(
@@ -94,35 +36,6 @@ fn act(
     let made = occurrence(slot, ends, line, state, out, n);
     renew(items, state, seen, marks);
     after(made, end)
-}
-
-// "the byte is copied"; 32: "the new line's 1,055th byte". At the line's length there is no byte.
-fn copy_byte(line: &[u8], at: At, out: &mut [u8]) -> At
-    requires { ⌜ (at .place ≤ mostLineBytes) × (length (now out) ≡ mostLineBytes) ⌝ }
-    ensures { λ r. ⌜ Copies (now (line .entry)) (now (out .entry)) (now (out .exit)) at r ⌝ }
-{
-    let p = at.place;
-    let n = at.size;
-    if line.len() <= p {
-        return moved(at, n);
-    }
-    if 1054 <= n {
-        return refused(Fault::NewLineTooLong, n);
-    }
-    out[n] = line[p];
-    moved(at, n + 1)
-}
-
-// Behind a match at p: "an empty match also copies the byte there .. and goes on after that byte".
-fn copy_empty(line: &[u8], p: usize, at: At, out: &mut [u8]) -> At
-    requires { ⌜ (p ≤ mostLineBytes) × (length (now out) ≡ mostLineBytes) ⌝ }
-    ensures { λ r. ⌜ CopiesEmpty (now (line .entry)) (now (out .entry)) (now (out .exit)) p at r ⌝ }
-{
-    let end = at.place;
-    if p < end {
-        return at;
-    }
-    copy_byte(line, at, out)
 }
 
 // A place is tried, and the pass goes on from there.
@@ -160,17 +73,6 @@ fn go_on(
         ends,
     );
     copy_empty(line, p, next, out)
-}
-
-// What the pass comes to, past the last place.
-fn answer(at: At) -> Passed
-    ensures { λ r. ⌜ r ≡ passedOf at ⌝ }
-{
-    let fate = at.fate;
-    match fate {
-        Fate::Well => Passed::Over(at.hit, at.size),
-        Fate::Bad(f) => Passed::Refused(f, at.size),
-    }
 }
 
 // "A pass of one macro tries places from 0 to the line's length, both included."

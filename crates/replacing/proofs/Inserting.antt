@@ -29,9 +29,9 @@ use Rattle.replacing.specs.Tags.{tagIn}
 use Rattle.replacing.specs.Acting.{movesIn, setsIn, actIn, contentsIn, insertsIn, storedIn, accessIn, callIn, actionIn, Fit, Fits}
 use Rattle.replacing.specs.Acting.Fits.{none, next}
 use Rattle.replacing.specs.Moments.{Does, Inserts, Changes, Digits, Hands, Joins}
-use Rattle.replacing.specs.declared.Fault.{Fault}
-use Rattle.replacing.specs.declared.Outcome.{Outcome}
-use Rattle.replacing.specs.declared.Outcome.the-variants.{Made, Refused}
+use Rattle.faults.specs.declared.Fault.{Fault}
+use Rattle.faults.specs.declared.Outcome.{Outcome}
+use Rattle.faults.specs.declared.Outcome.the-variants.{Made, Refused}
 use Rattle.replacing.proofs.Moving.{mark-counter, mark-stack}
 use Rattle.replacing.proofs.Stepping.{does-then, does-stop, does-by, does-room, does-none, changes-does}
 

@@ -19,9 +19,9 @@ use Rattle.tables.specs.Actions.{numberIn, textIn}
 use Rattle.replacing.specs.Tags.{tagIn}
 use Rattle.replacing.specs.Acting.{markIn, movesIn, storedIn, setsIn}
 use Rattle.replacing.specs.Moments.{Kept, Changes}
-use Rattle.replacing.specs.declared.Fault.the-variants.{TagTooLong, PointerTooHigh, CounterTooHigh}
-use Rattle.replacing.specs.declared.Outcome.{Outcome}
-use Rattle.replacing.specs.declared.Outcome.the-variants.{Made, Refused}
+use Rattle.faults.specs.declared.Fault.the-variants.{TagTooLong, PointerTooHigh, CounterTooHigh}
+use Rattle.faults.specs.declared.Outcome.{Outcome}
+use Rattle.faults.specs.declared.Outcome.the-variants.{Made, Refused}
 use Rattle.replacing.proofs.Stepping.{changes-by, changes-none, changes-refused, changes-made}
 
 -- THE NEW LINE STAYS

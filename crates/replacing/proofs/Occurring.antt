@@ -20,8 +20,8 @@ use Rattle.replacing.specs.Contract.{IsSlot, IsDivided, Lent, doneOf, si
 use Rattle.replacing.specs.Tags.{Divided}
 use Rattle.replacing.specs.Acting.{actIn, actionIn, Fits}
 use Rattle.replacing.specs.Moments.{Does, behind, Joins}
-use Rattle.replacing.specs.declared.Outcome.{Outcome}
-use Rattle.replacing.specs.declared.Outcome.the-variants.{Made, Refused}
+use Rattle.faults.specs.declared.Outcome.{Outcome}
+use Rattle.faults.specs.declared.Outcome.the-variants.{Made, Refused}
 use Rattle.replacing.proofs.Braces.{tag-is}
 use Rattle.replacing.proofs.Decoding.{actions-do, both-do, both-items, actions-fit, both-formed}
 

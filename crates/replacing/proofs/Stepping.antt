@@ -11,12 +11,13 @@ use Rattle.lines.specs.Replacing.{Work, Done, _>>=_, unless, onto, puts}
 use Rattle.lines.specs.Replacing.Done.{bad, good}
 use Rattle.lines.specs.Line.{textOf}
 use Rattle.states.specs.Access.{Holds, IsState, OfWork}
-use Rattle.replacing.specs.Contract.{sizeOf, refusalOf}
+use Rattle.faults.specs.Faults.{refusalOf}
+use Rattle.replacing.specs.Contract.{sizeOf}
 use Rattle.replacing.specs.Moments.{Does, Room, Inserts, Kept, Changes}
-use Rattle.replacing.specs.declared.Fault.{Fault}
-use Rattle.replacing.specs.declared.Fault.the-variants.{NewLineTooLong}
-use Rattle.replacing.specs.declared.Outcome.{Outcome}
-use Rattle.replacing.specs.declared.Outcome.the-variants.{Made, Refused}
+use Rattle.faults.specs.declared.Fault.{Fault}
+use Rattle.faults.specs.declared.Fault.the-variants.{NewLineTooLong}
+use Rattle.faults.specs.declared.Outcome.{Outcome}
+use Rattle.faults.specs.declared.Outcome.the-variants.{Made, Refused}
 
 -- ONE AFTER THE OTHER
 

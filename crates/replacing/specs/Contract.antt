@@ -4,8 +4,6 @@ use mathlib.Core.Path.{_≡_}
 use mathlib.Core.List.{List, [], _∷_}
 use lib.ListN.{length, getD, take, drop}
 use Rattle.macros.specs.Bounds.{mostLineBytes}
-use Rattle.macros.specs.Refusals.{WorkRefusal}
-use Rattle.macros.specs.Refusals.WorkRefusal.{newLineTooLong, tagTooLong, pointerTooHigh, counterTooHigh}
 use Rattle.macros.specs.Macro.{Piece, Macro}
 use Rattle.macros.specs.Formed.{Bytes}
 use Rattle.macros.specs.Accepted.{Spellable}
@@ -15,10 +13,9 @@ use Rattle.lines.specs.Replacing.{Work, Done, occur}
 use Rattle.lines.specs.Replacing.Done.{bad, good}
 use Rattle.lines.specs.Line.{textOf}
 use Rattle.states.specs.Access.{Holds, IsState}
-use Rattle.replacing.specs.declared.Fault.{Fault}
-use Rattle.replacing.specs.declared.Fault.the-variants.{NewLineTooLong, TagTooLong, PointerTooHigh, CounterTooHigh}
-use Rattle.replacing.specs.declared.Outcome.{Outcome}
-use Rattle.replacing.specs.declared.Outcome.the-variants.{Made, Refused}
+use Rattle.faults.specs.Faults.{refusalOf}
+use Rattle.faults.specs.declared.Outcome.{Outcome}
+use Rattle.faults.specs.declared.Outcome.the-variants.{Made, Refused}
 
 -- the bytes s are the slot of the macro m, which some file spells
 pub record IsSlot (s : List ℕ) (m : Macro) : Type 0 where
@@ -53,13 +50,6 @@ pub record IsMoment (out b : List ℕ) (n : ℕ) (w : Work) : Type 0 where
   pub line : textOf w ≡ take n out
   pub size : w .size ≡ n
   pub state : Holds b (w .state)
-
--- 01's refusal for each fault
-abbrev pub refusalOf : Fault → WorkRefusal
-refusalOf NewLineTooLong = newLineTooLong
-refusalOf TagTooLong = tagTooLong
-refusalOf PointerTooHigh = pointerTooHigh
-refusalOf CounterTooHigh = counterTooHigh
 
 -- what an answer says of the moment v that it leaves
 abbrev pub doneOf : Outcome → Work → Done

@@ -12,8 +12,8 @@ use Rattle.lines.specs.Line.{textOf}
 use Rattle.states.specs.Access.{Holds, IsState}
 use Rattle.replacing.specs.Contract.{doneOf, sizeOf}
 use Rattle.replacing.specs.Tags.{tagIn}
-use Rattle.replacing.specs.declared.Outcome.{Outcome}
-use Rattle.replacing.specs.declared.Outcome.the-variants.{Made, Refused}
+use Rattle.faults.specs.declared.Outcome.{Outcome}
+use Rattle.faults.specs.declared.Outcome.the-variants.{Made, Refused}
 
 -- the head and the first k bytes of the text are a moment's new line, and b is its state
 pub record Moment (head text b : List ℕ) (k : ℕ) (w : Work) : Type 0 where

@@ -1,9 +1,9 @@
 // Replacement and commands (01, part 4), from their items.
-use crate::Outcome;
 use crate::calls::set;
 use crate::calls::shift;
 use crate::calls::store;
 use crate::texts::insert;
+use faults::Outcome;
 ghost use mathlib.Core.Path.{_≡_};
 ghost use Prim.Native.Nat.{_≤_, _<_};
 ghost use lib.ListN.{getD};

@@ -1,12 +1,12 @@
 // What a call changes (01, part 4): pointers, counters and entries. The answer hands on k, the bytes of the text so far.
-use crate::Fault;
-use crate::Outcome;
 use crate::setting::set_entry;
 use crate::setting::set_increment;
 use crate::setting::set_pointer;
 use crate::setting::set_value;
 use crate::tags::tag;
 use crate::texts::is_value;
+use faults::Fault;
+use faults::Outcome;
 use states::increment;
 use states::pointer;
 use states::value;

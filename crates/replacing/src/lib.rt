@@ -6,6 +6,7 @@ mod tags;
 mod texts;
 
 use actions::act;
+use faults::Outcome;
 use texts::copy;
 ghost use mathlib.Core.Path.{_≡_};
 ghost use Prim.Native.Nat.{_+_, _≤_, _<_};
@@ -14,20 +15,6 @@ ghost use Rattle.macros.specs.Bounds.{mostLineBytes};
 ghost use Rattle.tables.specs.Check.{twoAt};
 ghost use Rattle.replacing.specs.Contract.{Lent, Occurs, sizeOf};
 ghost use Rattle.replacing.specs.Moments.{Joins};
-
-// 32 to 35.
-pub enum Fault {
-    NewLineTooLong,
-    TagTooLong,
-    PointerTooHigh,
-    CounterTooHigh,
-}
-
-// The bytes of the new line; or a refusal, with the bytes that the new line has by then.
-pub enum Outcome {
-    Made(usize),
-    Refused(Fault, usize),
-}
 
 // The length in two bytes of a slot's header.
 fn size_at(slot: &[u8], i: usize) -> usize

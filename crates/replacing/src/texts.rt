@@ -1,7 +1,7 @@
 // What an action inserts (01, part 4).
-use crate::Fault;
-use crate::Outcome;
 use crate::tags::tag;
+use faults::Fault;
+use faults::Outcome;
 use states::entry;
 use states::value;
 ghost use mathlib.Core.Path.{_≡_};

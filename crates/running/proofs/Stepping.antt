@@ -19,9 +19,9 @@ use Rattle.states.specs.Access.{IsState}
 use Rattle.replacing.specs.Contract.{IsSlot}
 use Rattle.passing.specs.Contract.{Lent, Passes}
 use Rattle.passing.specs.Contract.{Comes as PassComes}
-use Rattle.replacing.specs.declared.Fault.{Fault}
-use Rattle.passing.specs.declared.Passed.{Passed}
-use Rattle.passing.specs.declared.Passed.the-variants.{Over as Passing, Refused as Refuses}
+use Rattle.faults.specs.declared.Fault.{Fault}
+use Rattle.moments.specs.declared.Passed.{Passed}
+use Rattle.moments.specs.declared.Passed.the-variants.{Over as Passing, Refused as Refuses}
 use Rattle.memories.specs.Memory.{IsTable, padded}
 use Rattle.memories.proofs.Copying.{padded-front}
 use Rattle.memories.proofs.Slotting.{SlotAt, slot-at, table-size}

@@ -14,7 +14,7 @@ use Rattle.lines.specs.Line.{Line, passesOf, hadOccurrence, ending, lineOf}
 use Rattle.lines.specs.Line.Ending.{refused, done, control}
 use Rattle.states.specs.Form.{stateBytes}
 use Rattle.states.specs.Access.{Holds, IsState}
-use Rattle.replacing.specs.Contract.{refusalOf as workOf}
+use Rattle.faults.specs.Faults.{refusalOf as workOf}
 use Rattle.memories.specs.Memory.{IsTable, Counted, padded}
 use Rattle.running.specs.declared.Why.{Why}
 use Rattle.running.specs.declared.Why.the-variants.{BudgetUsedUp, AtWork}

@@ -13,8 +13,8 @@ use Rattle.lines.specs.State.{State}
 use Rattle.lines.specs.Line.{Numbered, Line, isIn, isControl, openFrom, passes, passesOf, hadOccurrence, ending, lineOf}
 use Rattle.states.specs.Access.{Holds, IsState}
 use Rattle.passing.specs.Contract.{marksBytes, sizeOf}
-use Rattle.passing.specs.declared.Passed.{Passed}
-use Rattle.passing.specs.declared.Passed.the-variants.{Over as Passes, Refused as Refuses}
+use Rattle.moments.specs.declared.Passed.{Passed}
+use Rattle.moments.specs.declared.Passed.the-variants.{Over as Passes, Refused as Refuses}
 use Rattle.memories.specs.Memory.{IsTable, Counted, padded}
 use Rattle.running.specs.Contract.{Comes, Left}
 use Rattle.running.specs.declared.Why.the-variants.{BudgetUsedUp, AtWork}

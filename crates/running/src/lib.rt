@@ -2,10 +2,10 @@
 mod passes;
 mod slots;
 
+use faults::Fault;
 use kinds::kind_table;
 use memories::lay_out;
 use passes::all_passes;
-use replacing::Fault;
 ghost use mathlib.Core.Path.{_≡_};
 ghost use Rattle.running.specs.Contract.{Started, Runs};
 ghost use Rattle.running.specs.Passing.{Begun, RunsFrom, isRefused};

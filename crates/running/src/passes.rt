@@ -7,7 +7,7 @@ use crate::Why;
 use crate::slots::close;
 use crate::slots::open_below;
 use memories::lay_out;
-use passing::Passed;
+use moments::Passed;
 use passing::pass;
 ghost use mathlib.Core.Path.{_≡_};
 ghost use Prim.Native.Nat.{_≤_};

@@ -1,6 +1,6 @@
 use mathlib.Core.Path.{ap, sym}
-use Rattle.replacing.specs.Contract.{refusalOf as workOf}
-use Rattle.replacing.specs.declared.Fault.{Fault as WorkFault}
+use Rattle.faults.specs.Faults.{refusalOf as workOf}
+use Rattle.faults.specs.declared.Fault.{Fault as WorkFault}
 use Rattle.macros.specs.Refusals.{workNumber}
 use Rattle.m7.proofs.answers.work_number.Statement.{statement}
 use Rattle.m7.proofs.answers.work_number.Tie as tie

@@ -17,8 +17,8 @@ use Rattle.passing.proofs.matcher.+closure+elements.Lts-closure as clos
 use Rattle.passing.proofs.matcher.elements.Reads as elements
 use Rattle.passing.proofs.matcher.elements.Kinds as elements-kinds
 use Rattle.passing.proofs.matcher.+closure+elements.Lts-elements as elements-lts
-use Rattle.passing.proofs.failed.is_marked.Reads as is-marked-reads
-use Rattle.passing.proofs.failed.set_mark.Reads as set-mark-reads
+use Rattle.marks.proofs.is_marked.Reads as is-marked-reads
+use Rattle.marks.proofs.set_mark.Reads as set-mark-reads
 use Rattle.passing.proofs.matcher.most_copies.Reads as most-copies-reads
 use Rattle.passing.proofs.unit.behind.Reads as behind-reads
 use Rattle.passing.proofs.unit.element_at.Reads as element-at-reads
@@ -106,7 +106,7 @@ closure-set-mark-requires : (t : ℕ) → closure-lts.Need-set-mark-requires (el
 closure-set-mark-requires t c κs = in-row _ _ _ _ _ (c .before .before .before .before .before .before .before .before .before .before .before .before .before .before .before .before .pre .1 .given) (c .before .before .before .before .before .before .before .before .before .before .before .before .before .before .before .before .pre .1 .stands) _ _ (c .before .before .before .before .before .before .before .elements .ensures .kept .noted .size) (row-place (c .before .before .before .before .before .before .before .before .before .before .before .before .before .before .before .before .args .items .now) (c .before .before .before .before .before .before .before .before .before .before .before .before .before .before .before .before .args .kinds .now) (c .before .before .before .before .before .before .before .before .before .before .before .before .before .before .before .before .args .state .now) (c .before .before .before .before .before .before .before .before .before .before .before .before .before .before .before .before .args .line .now) (c .before .before .before .before .before .before .before .before .before .before .before .before .before .before .before .before .args .at) (c .before .before .before .before .before .before .before .before .before .before .before .before .before .before .before .before .args .next) (c .before .before .before .before .before .before .before .before .before .before .before .before .before .before .before .before .args .w) (c .before .before .before .before .before .before .before .before .before .before .before .before .before .before .before .before .args .q) (c .before .before .before .before .before .before .before .before .before .before .before .before .before .before .before .before .args .most) (c .before .before .before .before .before .before .before .before .before .before .before .before .before .before .before .before .args .marks .now) (c .before .before .before .before .before .before .before .before .before .before .before .before .before .before .before .before .args .ends .now) (c .before .before .before .before .before .before .before .before .before .before .before .before .before .before .before .before .pre .1) _ _ (let l = c .before .before .before .before .before .before .before .before .before .before .loop .inv .some in omega arith) (let s = c .before .before .before .before .before .before .before .before .before .before .before .before .before .before .before .before .pre .1 .some in omega arith))
 
 closure-same-length-3 : (t : ℕ) → closure-lts.Need-same-length-3 (elements-below t, elements.Post, set-mark-reads.Asked, set-mark-reads.Learnt) (closure-at t) closure.Post closure-Inv-loop closure-μ-loop
-closure-same-length-3 t c = c .before .before .before .set-mark .ensures .size ∙ c .before .before .before .before .before .before .before .before .before .before .before .elements .ensures .kept .noted .size ∙ sym (c .before .before .before .before .before .before .before .before .before .before .before .before .before .before .before .before .before .before .before .before .pre .1 .noted .size)
+closure-same-length-3 t c = c .before .before .before .set-mark .kept .0 ∙ c .before .before .before .before .before .before .before .before .before .before .before .elements .ensures .kept .noted .size ∙ sym (c .before .before .before .before .before .before .before .before .before .before .before .before .before .before .before .before .before .before .before .before .pre .1 .noted .size)
 
 closure-same-length-4 : (t : ℕ) → closure-lts.Need-same-length-4 (elements-below t, elements.Post, set-mark-reads.Asked, set-mark-reads.Learnt) (closure-at t) closure.Post closure-Inv-loop closure-μ-loop
 closure-same-length-4 t c = c .before .before .before .before .before .before .before .before .before .before .before .elements .ensures .kept .noted .count ∙ sym (c .before .before .before .before .before .before .before .before .before .before .before .before .before .before .before .before .before .before .before .before .pre .1 .noted .count)

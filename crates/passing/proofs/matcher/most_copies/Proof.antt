@@ -10,7 +10,7 @@ use Rattle.passing.proofs.matcher.most_copies.Statement.{statement}
 use Rattle.passing.proofs.matcher.most_copies.Tie as tie
 use Rattle.passing.proofs.matcher.most_copies.Reads as reads
 use Rattle.passing.proofs.matcher.most_copies.Lts as lts
-use Rattle.passing.proofs.failed.is_marked.Reads as is-marked-reads
+use Rattle.marks.proofs.is_marked.Reads as is-marked-reads
 use Rattle.passing.proofs.unit.copy_at.Reads as copy-at-reads
 
 abbrev Inv-loop : tie.InvT-loop

@@ -1,5 +1,5 @@
 use mathlib.Core.Path.{ap, sym}
-use Rattle.passing.specs.declared.Passed.{Passed}
+use Rattle.moments.specs.declared.Passed.{Passed}
 use Rattle.running.specs.Passing.{endedOf}
 use Rattle.running.proofs.passes.ended_by.Statement.{statement}
 use Rattle.running.proofs.passes.ended_by.Tie as tie

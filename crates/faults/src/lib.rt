@@ -1,0 +1,15 @@
+// What can be refused at work, and what an action comes to.
+
+// 32 to 35.
+pub enum Fault {
+    NewLineTooLong,
+    TagTooLong,
+    PointerTooHigh,
+    CounterTooHigh,
+}
+
+// The bytes of the new line; or a refusal, with the bytes that the new line has by then.
+pub enum Outcome {
+    Made(usize),
+    Refused(Fault, usize),
+}
