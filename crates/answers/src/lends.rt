@@ -1,5 +1,5 @@
 // Three refusals of the host: a memory of another size, bytes that are no table, and bytes that are no state.
-use m7::Answer;
+use replies::Answer;
 
 pub(crate) fn other_size() -> Answer {
     let mut state: [u8; 26235] = [0; 26235];

@@ -3,9 +3,9 @@ use crate::hex::put_hex;
 use crate::lends::no_state;
 use crate::lends::no_table;
 use crate::lends::other_size;
-use m7::Answer;
 use output::flush;
 use output::put_text;
+use replies::Answer;
 ghost use Prim.Native.Nat.{_≤_};
 ghost use lib.ListN.{length};
 

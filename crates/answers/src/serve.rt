@@ -2,7 +2,7 @@
 use crate::hex::decode;
 use crate::reply::write_reply;
 use crate::words::command_of;
-use m7::Answer;
+use replies::Answer;
 ghost use Prim.Native.Nat.{_≤_};
 ghost use lib.ListN.{length};
 

@@ -1,14 +1,14 @@
 -- What feeding a line says, taken to the result of m7_feed.
 use Prim.Native.Nat.{ℕ, _≤_, _<_}
-use mathlib.Core.Path.{_≡_, refl, sym, ap, subst, _∙_}
+use mathlib.Core.Path.{_≡_, refl, sym, ap, _∙_}
 use mathlib.Core.Bool.{Bool, true, false, _&&_}
 use mathlib.Core.List.{List, []}
 use native.Mathlib.Omega.{arith}
 use borrow.Author.Tests.{eq-eqb, ne-eqb, eqb-true}
 use lib.Dec.{eqb}
 use lib.ListN.{length}
-use Rattle.macros.specs.Bounds.{mostFileBytes, mostLineBytes}
-use Rattle.macros.specs.Refusals.{number, place, hostNumber, fileNumber, workNumber}
+use Rattle.macros.specs.Bounds.{mostLineBytes}
+use Rattle.macros.specs.Refusals.{number, hostNumber}
 use Rattle.macros.specs.Macro.{Table, pick}
 use Rattle.macros.specs.Formed.{Octets}
 use Rattle.tables.specs.Form.{tableBytes}
@@ -23,50 +23,18 @@ use Rattle.states.specs.Form.{stateBytes}
 use Rattle.states.specs.Check.{stateChecks}
 use Rattle.states.proofs.Decode.{state-check-exact}
 use Rattle.states.proofs.Held.{passed-is}
-use Rattle.scanning.specs.Scan.{faultOf}
-use Rattle.scanning.specs.declared.Fault.{Fault}
-use Rattle.faults.specs.Faults.{refusalOf as workOf}
-use Rattle.faults.specs.declared.Fault.{Fault as WorkFault}
 use Rattle.memories.specs.Memory.{IsTable}
-use Rattle.feeding.specs.Contract.{Lent, refusalOf, kindOf, passesOf, sizeOf, laidOut, Answers}
+use Rattle.feeding.specs.Contract.{Lent, kindOf, passesOf, sizeOf, laidOut, Answers}
 use Rattle.feeding.specs.Contract.{Feeds as FeedsLine}
-use Rattle.feeding.specs.declared.Why.{Why}
-use Rattle.feeding.specs.declared.Why.the-variants.{InMacro, AtWork}
 use Rattle.feeding.specs.declared.Fed.{Fed}
 use Rattle.feeding.specs.declared.Fed.the-variants.{Out, Withheld, Control, Refused}
-use Rattle.m7.specs.declared.Answer.{Answer}
-use Rattle.m7.specs.Contract.{reply}
+use Rattle.replies.specs.declared.Answer.{Answer}
+use Rattle.replies.specs.Replies.{reply, lineReply, told, Small}
 use Rattle.m7.specs.Feeding.{Call, answerOf, outputWith, sizedToFeed, Feeds}
-use Rattle.m7.specs.Answering.{hostRefusal, lineReply, told, Small}
+use Rattle.m7.specs.HostRefusal.{hostRefusal}
 use Rattle.m7.proofs.FeedBounds.{feed-place, feed-passes}
 
 -- THE ANSWER IN NUMBERS
-
--- by the reason of a refusal
-abbrev refusedAs : Why → ℕ → Answer
-refusedAs w p = lineReply (number (refusalOf w)) (place (refusalOf w)) p 0 0
-
-pub because : {w v : Why} {a : Answer} {p : ℕ} → w ≡ v → a ≡ refusedAs v p → a ≡ refusedAs w p
-because {p = p} e f = f ∙ ap (λ (x : Why). refusedAs x p) (sym e)
-
-pub because-macro : {w : Why} {g : Fault} {q k p : ℕ} {a : Answer} → w ≡ InMacro g q → k ≡ fileNumber (faultOf g) → a ≡ lineReply k q p 0 0 → a ≡ refusedAs w p
-unfolding number place
-because-macro {q = q} {p = p} e n f = because e (f ∙ ap (λ (x : ℕ). lineReply x q p 0 0) n)
-
-pub because-work : {w : Why} {g : WorkFault} {k p : ℕ} {a : Answer} → w ≡ AtWork g → k ≡ workNumber (workOf g) → a ≡ lineReply k 0 p 0 0 → a ≡ refusedAs w p
-unfolding number place
-because-work {p = p} e n f = because e (f ∙ ap (λ (x : ℕ). lineReply x 0 p 0 0) n)
-
-pub macro-place : {w : Why} {g : Fault} {q : ℕ} → w ≡ InMacro g q → place (refusalOf w) ≤ mostFileBytes → q ≤ mostFileBytes
-unfolding place
-macro-place e h = subst (λ (x : Why). place (refusalOf x) ≤ mostFileBytes) e h
-
--- by the kind
-pub told-as : {r s : Fed} {a : Answer} → r ≡ s → a ≡ told s → a ≡ told r
-told-as e f = f ∙ ap told (sym e)
-
-pub small-as : {r s : Fed} → r ≡ s → Small r → Small s
-small-as e h = subst Small e h
 
 -- the same whatever the output holds
 abbrev toldOf : Fed → List ℕ → Answer

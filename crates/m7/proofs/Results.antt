@@ -9,7 +9,7 @@ use mir.Syntax.{w8}
 use mir.Val.{Fits}
 use lib.Dec.{eqb}
 use lib.ListN.{length, getD, replicate, length-replicate}
-use Rattle.macros.specs.Bounds.{mostFileBytes, mostLineBytes, mostMacros}
+use Rattle.macros.specs.Bounds.{mostFileBytes, mostMacros}
 use Rattle.macros.specs.Refusals.{number, place, hostNumber, fileNumber}
 use Rattle.macros.specs.Macro.{Table, pick}
 use Rattle.macros.specs.Formed.{Octets}
@@ -40,19 +40,13 @@ use Rattle.writing.specs.declared.Answer.{Answer as Writing}
 use Rattle.writing.specs.declared.Answer.the-variants.{Written as WrittenOut, Refused as NotWritten}
 use Rattle.memories.specs.Memory.{padded}
 use Rattle.memories.proofs.Copying.{padded-whole}
-use Rattle.m7.specs.declared.Answer.{Answer}
-use Rattle.m7.specs.Contract.{Result, Gives, reply, refuses, takes, ofReading, reads, ofWriting, sized, Writes, freshens}
+use Rattle.replies.specs.declared.Answer.{Answer}
+use Rattle.replies.specs.Replies.{reply}
+use Rattle.m7.specs.Contract.{Result, Gives, refuses, takes, ofReading, reads, ofWriting, sized, Writes, freshens}
 use Rattle.m7.proofs.Places.{onto-place, extent, out-extent}
 
 gives : {w v : Result} {a : Answer} {b : List ℕ} → w ≡ v → a ≡ v .answer → b ≡ v .memory → Gives w a b
 gives e f g = record { answers = f ∙ sym (ap (λ (x : Result). x .answer) e); holds = g ∙ sym (ap (λ (x : Result). x .memory) e) }
-
--- an answer without a place, or without a length
-pub no-place : 0 ≤ mostFileBytes
-no-place = omega arith
-
-pub no-size : 0 ≤ mostLineBytes
-no-size = omega arith
 
 -- the bytes of a slice
 pub octets-given : (t : List ℕ) → ((i : ℕ) → Fits w8 (getD t i 0)) → Octets t

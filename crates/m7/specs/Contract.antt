@@ -18,11 +18,8 @@ use Rattle.macros.specs.Accepted.{Accepted}
 use Rattle.tables.specs.Form.{tableBytes, form}
 use Rattle.lines.specs.State.{fresh}
 use Rattle.states.specs.Form.{stateBytes, stateForm}
-use Rattle.m7.specs.declared.Answer.{Answer}
-
--- "It returns the number, the place (10 to 19, else 0) and the passes begun": here none, and no kind
-unfoldable pub reply : (number place length : ℕ) → Answer
-reply n p k = record { number = n; place = p; passes = 0; kind = 0; length = k }
+use Rattle.replies.specs.declared.Answer.{Answer}
+use Rattle.replies.specs.Replies.{reply}
 
 -- what a call answers, and what the memory that it may write holds then
 pub record Result : Type 0 where

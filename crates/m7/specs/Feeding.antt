@@ -1,6 +1,6 @@
 -- THE CONTRACT OF m7_feed: from the lent bytes at entry, the whole answer and what each memory then holds.
--- It rules out, among others, the edits fresh_smaller (a state of another size than the docs state is taken), state_number (1 for bytes that are no state),
--- refused_passes_lost (a refused line has no passes) and withheld_as_control (a withheld line has the kind of a control line).
+-- It rules out, among others, the edits state_number (1 for bytes that are no state), feed_budget_lost (each line is fed with budget 0)
+-- and fresh_smaller (a state of another size than the docs state is taken); what the answer's numbers rule out stands in crates/replies.
 use Prim.Native.Nat.{ℕ, _-_}
 use mathlib.Core.Path.{_≡_}
 use mathlib.Core.Bool.{Bool, true, false, _&&_}
@@ -19,8 +19,8 @@ use Rattle.lines.specs.Feeding.{Answer as Answered}
 use Rattle.lines.specs.Feeding.Kind.{refusedWith, out, withheld, controlled}
 use Rattle.states.specs.Form.{stateBytes}
 use Rattle.states.specs.Access.{Holds}
+use Rattle.replies.specs.declared.Answer.{Answer}
 use Rattle.m7.specs.Contract.{FormOf}
-use Rattle.m7.specs.declared.Answer.{Answer}
 
 -- a call: the line and its budget, the memories at entry and at exit, and the answer
 pub record Call : Type 0 where

@@ -1,7 +1,3 @@
 pub mod Contract
-pub mod OneResult
-pub mod OneFeed
-pub mod Demand2
 pub mod Feeding
-pub mod Answering
-pub mod Demand3
+pub mod HostRefusal

@@ -1,11 +1,10 @@
 // The engine for the host: reading a macro file, writing out a table, the fresh state, and feeding a line.
-mod answers;
-
-use answers::answer_of;
 use memories::lay_out;
 use reading::Reading;
 use reading::file::read_onto;
-use scanning::Fault;
+use replies::Answer;
+use replies::answer_of;
+use replies::file_number;
 use writing::Answer as Writing;
 use writing::Fault as WritingFault;
 ghost use mathlib.Core.Path.{_≡_};
@@ -14,11 +13,11 @@ ghost use lib.ListN.{length, replicate};
 ghost use Rattle.macros.specs.Bounds.{mostFileBytes};
 ghost use Rattle.macros.specs.Refusals.{fileNumber};
 ghost use Rattle.tables.specs.Form.{tableBytes};
-ghost use Rattle.scanning.specs.Scan.{faultOf};
 ghost use Rattle.writing.specs.Slots.{refusalOf};
-ghost use Rattle.m7.specs.Contract.{reply, Gives, reads, Writes, freshens};
+ghost use Rattle.replies.specs.Replies.{reply};
+ghost use Rattle.m7.specs.Contract.{Gives, reads, Writes, freshens};
 ghost use Rattle.m7.specs.Feeding.{Feeds};
-ghost use Rattle.m7.specs.Answering.{hostRefusal};
+ghost use Rattle.m7.specs.HostRefusal.{hostRefusal};
 
 // The bytes of a table's memory, of a file's to write to, of a state's, and of a line's.
 const TABLE_BYTES: usize = 98304;
@@ -28,16 +27,6 @@ const FILE_BYTES: usize = 32768;
 const STATE_BYTES: usize = 26236;
 
 const LINE_BYTES: usize = 1054;
-
-// What a call answers: 0 or a refusal's number, its place, the passes begun, a line's kind, and a length.
-#[repr(C)]
-pub struct Answer {
-    pub number: u32,
-    pub place: u32,
-    pub passes: u32,
-    pub kind: u32,
-    pub length: u32,
-}
 
 // Reads a macro file as a new table, whatever the memory held. The length is the number of macros; a refusal leaves the memory as it was.
 #[no_mangle]
@@ -171,24 +160,6 @@ fn taken(size: usize) -> Answer
         passes: 0,
         kind: 0,
         length: size as u32,
-    }
-}
-
-// The numbers 10 to 19.
-pub(crate) fn file_number(f: Fault) -> u32
-    ensures { λ r. ⌜ r ≡ fileNumber (faultOf f) ⌝ }
-{
-    match f {
-        Fault::FileTooLong => 10,
-        Fault::ZeroByte => 11,
-        Fault::Incomplete => 12,
-        Fault::BadClass => 13,
-        Fault::NoUnit => 14,
-        Fault::BadBrace => 15,
-        Fault::BadCall => 16,
-        Fault::NoElement => 17,
-        Fault::MacroTooLong => 18,
-        Fault::TooManyMacros => 19,
     }
 }
 

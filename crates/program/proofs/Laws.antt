@@ -7,7 +7,7 @@ use native.Mathlib.Omega.{arith}
 use lib.ListN.{length, take, drop, length-take, take-append-drop}
 use lib.Seq.{take-append-seam}
 use Rattle.output.specs.Writing.{Behind}
-use Rattle.m7.specs.declared.Answer.{Answer}
+use Rattle.replies.specs.declared.Answer.{Answer}
 use Rattle.program.specs.Said.{Decimal, RefusalSaid, OutSaid, Said, Numbered}
 
 -- a u64 has at most 20 digits

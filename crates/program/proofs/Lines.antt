@@ -10,7 +10,7 @@ use Rattle.input.specs.declared.Reading.{Reading}
 use Rattle.input.specs.Reading.{LineRead}
 use Rattle.lines.specs.State.{fresh}
 use Rattle.states.specs.Form.{stateForm}
-use Rattle.m7.specs.declared.Answer.{Answer}
+use Rattle.replies.specs.declared.Answer.{Answer}
 use Rattle.m7.specs.Contract.{Gives, reads, freshens, takes}
 use Rattle.macros.specs.Macro.{pick}
 use Rattle.program.specs.declared.parts.Parts.{Parts}

@@ -10,7 +10,7 @@ use Rattle.input.specs.Reading.{LineRead}
 use Rattle.output.specs.Writing.{puts, Gives}
 use Rattle.lines.specs.State.{fresh}
 use Rattle.states.specs.Form.{stateForm}
-use Rattle.m7.specs.declared.Answer.{Answer}
+use Rattle.replies.specs.declared.Answer.{Answer}
 use Rattle.m7.specs.Feeding.{Feeds}
 use Rattle.program.specs.Said.{Said}
 

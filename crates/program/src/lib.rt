@@ -4,11 +4,11 @@ mod said;
 
 use input::next_line;
 use input::start;
-use m7::Answer;
 use output::flush;
 use output::put_text;
 use parts::Parts;
 use parts::read_parts;
+use replies::Answer;
 use said::answer_said;
 use said::refusal_said;
 ghost use mathlib.Core.Path.{_≡_};

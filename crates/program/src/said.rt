@@ -1,6 +1,6 @@
 // What the program says to a line.
-use m7::Answer;
 use output::append;
+use replies::Answer;
 ghost use mathlib.Core.Path.{_≡_};
 ghost use Prim.Native.Nat.{_+_, _≤_, min};
 ghost use lib.ListN.{length, take};

@@ -15,7 +15,7 @@ lay-out-requires : tie.Need-lay-out-requires
 lay-out-requires c κs = same-fits (c .before .before .before .before .before .before .before .read-onto .kept .1 .0 ∙ zeros-size (c .before .before .before .before .before .before .before .before .before .before .before .before .pre .0)) (c .before .before .before .before .before .before .before .before .before .before .before .before .pre .1)
 
 taken-requires : tie.Need-taken-requires
-taken-requires c κs = read-few (now (c .before .before .before .before .before .before .before .before .before .before .before .before .before .before .before .args .file)) (now (c .before .before .before .before .before .before .before .before .before .before .before .before .before .before .before .args .made)) (c .before .before .before .before .before .before .before .before .before .before .read-onto .last .1 .0) (c .before .before .before .before .before .before .before .before .before .before .read-onto .result) (c .before .before .before .before .before .before .before .before .before .before .before .before .before .before .before .pre .0) (c .before .before .before .before .before .before .before .before .before .before .read-onto .ensures) (c .before .before .before .before .before .before .reading .given .1) (octets-given (now (c .before .before .before .before .before .before .before .before .before .before .before .before .before .before .before .args .file)) (c .before .before .before .before .before .before .before .before .before .before .before .before .before .before .shared-slice-known .given))
+taken-requires c κs = omega (arith, read-few (now (c .before .before .before .before .before .before .before .before .before .before .before .before .before .before .before .args .file)) (now (c .before .before .before .before .before .before .before .before .before .before .before .before .before .before .before .args .made)) (c .before .before .before .before .before .before .before .before .before .before .read-onto .last .1 .0) (c .before .before .before .before .before .before .before .before .before .before .read-onto .result) (c .before .before .before .before .before .before .before .before .before .before .before .before .before .before .before .pre .0) (c .before .before .before .before .before .before .before .before .before .before .read-onto .ensures) (c .before .before .before .before .before .before .reading .given .1) (octets-given (now (c .before .before .before .before .before .before .before .before .before .before .before .before .before .before .before .args .file)) (c .before .before .before .before .before .before .before .before .before .before .before .before .before .before .shared-slice-known .given)))
 
 same-length : tie.Need-same-length
 same-length c = c .before .before .before .before .before .before .before .before .before .before .before .read-onto .kept .1 .0
