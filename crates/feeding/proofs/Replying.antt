@@ -38,12 +38,13 @@ use Rattle.running.specs.declared.Why.the-variants.{BudgetUsedUp, AtWork}
 use Rattle.running.specs.declared.Ended.{Ended}
 use Rattle.running.specs.declared.Ended.the-variants.{Done, Control as AtControl, Refused as AtRefusal}
 use Rattle.running.proofs.Starting.{state-length}
-use Rattle.feeding.specs.Contract.{Lent, refusalOf, laidOut, Answers, Feeds}
+use Rattle.feeding.specs.Contract.{Lent, laidOut, Answers, Feeds}
+use Rattle.replies.specs.Fed.{refusalOf}
 use Rattle.feeding.specs.Answering.{Counts, controlWhy, workWhy, Fits, withheldBy, Finished, GoesOut, keptBy, Ruling, Rules, Replying, Replies, Takes}
-use Rattle.feeding.specs.declared.Why.{Why}
-use Rattle.feeding.specs.declared.Why.the-variants.{BudgetTooLarge, LineTooLong, BadByte}
-use Rattle.feeding.specs.declared.Fed.{Fed}
-use Rattle.feeding.specs.declared.Fed.the-variants.{Out, Withheld, Control, Refused}
+use Rattle.replies.specs.declared.Why.{Why}
+use Rattle.replies.specs.declared.Why.the-variants.{BudgetTooLarge, LineTooLong, BadByte}
+use Rattle.replies.specs.declared.Fed.{Fed}
+use Rattle.replies.specs.declared.Fed.the-variants.{Out, Withheld, Control, Refused}
 
 -- 22
 

@@ -21,10 +21,11 @@ use Rattle.running.specs.Contract.{Comes, Left}
 use Rattle.running.specs.declared.Ended.{Ended}
 use Rattle.running.specs.declared.Why.{Why as WorkWhy}
 use Rattle.running.specs.declared.Why.the-variants.{BudgetUsedUp, AtWork}
-use Rattle.feeding.specs.Contract.{kindOf, passesOf, sizeOf, laidOut, Answers}
-use Rattle.feeding.specs.declared.Why.{Why}
-use Rattle.feeding.specs.declared.Why.the-variants.{BadControl as NoControl, InMacro as NoMacro, BudgetUsedUp as UsedUp, AtWork as Stopped}
-use Rattle.feeding.specs.declared.Fed.{Fed}
+use Rattle.feeding.specs.Contract.{laidOut, Answers}
+use Rattle.replies.specs.Fed.{kindOf, passesOf, sizeOf}
+use Rattle.replies.specs.declared.Why.{Why}
+use Rattle.replies.specs.declared.Why.the-variants.{BadControl as NoControl, InMacro as NoMacro, BudgetUsedUp as UsedUp, AtWork as Stopped}
+use Rattle.replies.specs.declared.Fed.{Fed}
 
 -- a line that 21 and 22 do not refuse
 pub record Fits (t : List ℕ) : Type 0 where

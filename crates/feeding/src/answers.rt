@@ -1,11 +1,11 @@
 // A line's answer, and what is kept of it (01, part 6).
-use crate::Fed;
-use crate::Why;
 use crate::slots::count_macros;
 use controls::Order;
 use controls::Why as ControlWhy;
 use controls::control;
 use memories::lay_out;
+use replies::Fed;
+use replies::Why;
 use running::Ended;
 use running::Why as WorkWhy;
 use running::run_line;

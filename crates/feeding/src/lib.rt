@@ -3,29 +3,10 @@ mod answers;
 mod slots;
 
 use answers::take_line;
-use faults::Fault as WorkFault;
-use scanning::Fault as FileFault;
+use replies::Fed;
+use replies::Why;
 ghost use Rattle.feeding.specs.Contract.{Lent, Feeds};
 ghost use Rattle.feeding.specs.Answering.{Tested};
-
-// Why a line is refused.
-pub enum Why {
-    BudgetTooLarge,
-    LineTooLong,
-    BadByte,
-    BadControl,
-    InMacro(FileFault, usize),
-    BudgetUsedUp,
-    AtWork(WorkFault),
-}
-
-// A line's answer with the passes begun; one that goes out has its length too.
-pub enum Fed {
-    Out(usize, usize),
-    Withheld(usize),
-    Control(usize),
-    Refused(Why, usize),
-}
 
 // 22: "holds byte 0 or line feed".
 fn has_bad_byte(line: &[u8]) -> bool

@@ -24,10 +24,11 @@ use Rattle.states.specs.Check.{stateChecks}
 use Rattle.states.proofs.Decode.{state-check-exact}
 use Rattle.states.proofs.Held.{passed-is}
 use Rattle.memories.specs.Memory.{IsTable}
-use Rattle.feeding.specs.Contract.{Lent, kindOf, passesOf, sizeOf, laidOut, Answers}
+use Rattle.feeding.specs.Contract.{Lent, laidOut, Answers}
+use Rattle.replies.specs.Fed.{kindOf, passesOf, sizeOf}
 use Rattle.feeding.specs.Contract.{Feeds as FeedsLine}
-use Rattle.feeding.specs.declared.Fed.{Fed}
-use Rattle.feeding.specs.declared.Fed.the-variants.{Out, Withheld, Control, Refused}
+use Rattle.replies.specs.declared.Fed.{Fed}
+use Rattle.replies.specs.declared.Fed.the-variants.{Out, Withheld, Control, Refused}
 use Rattle.replies.specs.declared.Answer.{Answer}
 use Rattle.replies.specs.Replies.{reply, lineReply, told, Small}
 use Rattle.m7.specs.Feeding.{Call, answerOf, outputWith, sizedToFeed, Feeds}

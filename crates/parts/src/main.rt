@@ -1,4 +1,4 @@
 // The program on the example of the README.
 fn main() {
-    program::run();
+    program::run(b"parts.m7");
 }

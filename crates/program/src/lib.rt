@@ -1,4 +1,4 @@
-// The program of 01, part 8: macros from `parts.m7`, lines from standard input, lines that go out to standard output.
+// The program of 01, part 8: macros from a file, lines from standard input, lines that go out to standard output.
 mod parts;
 mod said;
 
@@ -21,22 +21,22 @@ ghost use Rattle.program.specs.Run.{Ran};
 // "Budget 10,000".
 const BUDGET: u32 = 10000;
 
-// No contract can say what is read or written, so this one says that the program ends; what the parts below do is said by theirs.
-pub fn run()
+// The program, with the name of its macro file. No contract can say what is read or written, so this one says that the program ends; what the parts below do is said by theirs.
+pub fn run(name: &[u8])
     ensures { λ r. ⌜ r ≡ tt ⌝ }
 {
     let mut table: [u8; 98304] = [0; 98304];
     let mut said = [0u8; 1100];
-    let n = read_and_answer(&mut table, &mut said);
+    let n = read_and_answer(&mut table, &mut said, name);
     flush(&said, n);
 }
 
 // Reads the file and answers the lines. "A refused file gives `! N 0` and nothing more", which the caller writes.
-fn read_and_answer(table: &mut [u8; 98304], said: &mut [u8; 1100]) -> usize
+fn read_and_answer(table: &mut [u8; 98304], said: &mut [u8; 1100], name: &[u8]) -> usize
     requires { ⌜ (now table ≡ replicate 98304 0) × (1100 ≡ length (now said)) ⌝ }
     ensures { λ r. ⌜ Within r (now (said .exit)) × Ran (now (table .exit)) (take r (now (said .exit))) ⌝ }
 {
-    let parts = read_parts(table);
+    let parts = read_parts(table, name);
     let Parts::Refused(number) = parts else {
         answer_lines(table);
         return 0;

@@ -1,4 +1,4 @@
-// The macro file `parts.m7`.
+// The macro file.
 ghost use mathlib.Core.Path.{_≡_};
 ghost use Prim.Native.Nat.{_+_, _≤_};
 ghost use lib.ListN.{length, take};
@@ -17,11 +17,11 @@ struct Got {
 }
 
 // Reads the file as a table. One byte more than it may have is read, so that a longer one shows.
-pub(crate) fn read_parts(table: &mut [u8; 98304]) -> Parts
+pub(crate) fn read_parts(table: &mut [u8; 98304], name: &[u8]) -> Parts
     ensures { λ r. ⌜ PartsRead (now (table .entry)) r (now (table .exit)) ⌝ }
 {
     let mut file: [u8; 32769] = [0; 32769];
-    let got = find_file(&mut file);
+    let got = find_file(&mut file, name);
     let size = got.size;
     if got.failed {
         return Parts::Refused(0);
@@ -41,10 +41,10 @@ fn parts_of(number: u32) -> Parts
 }
 
 // Opens the file and reads it.
-fn find_file(file: &mut [u8]) -> Got
+fn find_file(file: &mut [u8], name: &[u8]) -> Got
     ensures { λ r. ⌜ r .size ≤ length (now (file .entry)) ⌝ }
 {
-    let fd = os::open_read(b"parts.m7");
+    let fd = os::open_read(name);
     if fd < 0 {
         return Got {
             failed: true,

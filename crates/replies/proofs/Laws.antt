@@ -8,10 +8,10 @@ use Rattle.scanning.specs.Scan.{faultOf}
 use Rattle.scanning.specs.declared.Fault.{Fault}
 use Rattle.faults.specs.Faults.{refusalOf as workOf}
 use Rattle.faults.specs.declared.Fault.{Fault as WorkFault}
-use Rattle.feeding.specs.Contract.{refusalOf}
-use Rattle.feeding.specs.declared.Why.{Why}
-use Rattle.feeding.specs.declared.Why.the-variants.{InMacro, AtWork}
-use Rattle.feeding.specs.declared.Fed.{Fed}
+use Rattle.replies.specs.Fed.{refusalOf}
+use Rattle.replies.specs.declared.Why.{Why}
+use Rattle.replies.specs.declared.Why.the-variants.{InMacro, AtWork}
+use Rattle.replies.specs.declared.Fed.{Fed}
 use Rattle.replies.specs.declared.Answer.{Answer}
 use Rattle.replies.specs.Replies.{lineReply, told, Small}
 

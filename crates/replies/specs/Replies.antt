@@ -5,8 +5,8 @@ use Prim.Native.Nat.{ℕ, _≤_}
 use mathlib.Core.List.{[]}
 use Rattle.macros.specs.Bounds.{mostFileBytes, mostLineBytes, mostBudget}
 use Rattle.lines.specs.Feeding.{numberOf, placeOf, kindNumber}
-use Rattle.feeding.specs.Contract.{kindOf, passesOf, sizeOf}
-use Rattle.feeding.specs.declared.Fed.{Fed}
+use Rattle.replies.specs.Fed.{kindOf, passesOf, sizeOf}
+use Rattle.replies.specs.declared.Fed.{Fed}
 use Rattle.replies.specs.declared.Answer.{Answer}
 
 -- "It returns the number, the place (10 to 19, else 0) and the passes begun": here none, and no kind

@@ -1,7 +1,5 @@
 // What a call answers, in numbers.
 use faults::Fault as WorkFault;
-use feeding::Fed;
-use feeding::Why;
 use scanning::Fault;
 ghost use mathlib.Core.Path.{_≡_};
 ghost use Prim.Native.Nat.{_≤_};
@@ -9,8 +7,27 @@ ghost use Rattle.macros.specs.Bounds.{mostFileBytes, mostLineBytes, mostBudget}
 ghost use Rattle.macros.specs.Refusals.{fileNumber, workNumber, number, place};
 ghost use Rattle.scanning.specs.Scan.{faultOf};
 ghost use Rattle.faults.specs.Faults.{refusalOf as workOf};
-ghost use Rattle.feeding.specs.Contract.{refusalOf};
+ghost use Rattle.replies.specs.Fed.{refusalOf};
 ghost use Rattle.replies.specs.Replies.{lineReply, told, Small};
+
+// Why a line is refused.
+pub enum Why {
+    BudgetTooLarge,
+    LineTooLong,
+    BadByte,
+    BadControl,
+    InMacro(Fault, usize),
+    BudgetUsedUp,
+    AtWork(WorkFault),
+}
+
+// A line's answer with the passes begun; one that goes out has its length too.
+pub enum Fed {
+    Out(usize, usize),
+    Withheld(usize),
+    Control(usize),
+    Refused(Why, usize),
+}
 
 // What a call answers: 0 or a refusal's number, its place, the passes begun, a line's kind, and a length.
 #[repr(C)]

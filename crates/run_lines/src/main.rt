@@ -2,5 +2,5 @@
 // withheld lines and control lines, a line that is refused after it moved a counter and one that shows the counter,
 // more output than is held at once, and a last line that the input's end ends.
 fn main() {
-    program::run();
+    program::run(b"parts.m7");
 }

@@ -1,4 +1,7 @@
-// A file that is refused, by its 32,769th byte: its number, and nothing more.
+// Files that are refused: one by its 32,769th byte, one that is not there, and a folder, which opens and cannot be read.
+// Of each its number, and nothing more: no line is answered.
 fn main() {
-    program::run();
+    program::run(b"long.m7");
+    program::run(b"missing.m7");
+    program::run(b"folder.m7");
 }

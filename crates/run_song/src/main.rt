@@ -1,4 +1,4 @@
 // The program's song of 01.
 fn main() {
-    program::run();
+    program::run(b"parts.m7");
 }

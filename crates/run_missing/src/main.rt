@@ -1,4 +1,0 @@
-// No file `parts.m7`.
-fn main() {
-    program::run();
-}
