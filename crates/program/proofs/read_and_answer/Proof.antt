@@ -18,13 +18,13 @@ answer-lines-requires : tie.Need-answer-lines-requires
 answer-lines-requires c κs = search needs
 
 returns : tie.Need-returns
-returns c = ((omega arith, c .before .before .before .before .before .before .pre .1), ran-lines (c .before .before .before .before .before .before .pre .0) (c .before .before .before .before .read-parts .ensures) (c .before .before .enum-told .given .1) (c .answer-lines .ensures))
+returns c = ((omega arith, c .before .before .before .before .before .before .before .pre .1), ran-lines (c .before .before .before .before .before .before .before .pre .0) (c .before .before .before .before .read-parts .ensures) (c .before .before .enum-told .given .1) (c .answer-lines .ensures))
 
 refusal-said-requires : tie.Need-refusal-said-requires
 refusal-said-requires c κs = search needs
 
 returns-2 : tie.Need-returns-2
-returns-2 c = (c .refusal-said .ensures .0, ran-refused (c .before .before .before .before .before .before .before .pre .0) (c .before .before .before .before .before .read-parts .ensures) (c .before .before .before .parts .given .1) (c .refusal-said .ensures .1) refl)
+returns-2 c = (c .refusal-said .ensures .0, ran-refused (c .before .before .before .before .before .before .before .before .pre .0) (c .before .before .before .before .before .read-parts .ensures) (c .before .before .before .parts .given .1) (c .refusal-said .ensures .1) refl)
 
 pub read-and-answer-spec : {M : Type 1} → statement M
 read-and-answer-spec =
