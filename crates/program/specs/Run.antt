@@ -1,5 +1,5 @@
 -- THE WHOLE RUN (01, part 8), up to what is read and written: the macro file, then the lines, or the file's refusal.
--- It rules out, among others, a refused file that is said with line 1 (run_refused would show it).
+-- It rules out, among others, a refused file that is said with line 1 (run_files would show it).
 use Prim.Native.Nat.{ℕ}
 use mathlib.Core.Path.{_≡_}
 use mathlib.Core.List.{List, []}
