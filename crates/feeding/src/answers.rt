@@ -9,9 +9,9 @@ use replies::Why;
 use running::Ended;
 use running::Why as WorkWhy;
 use running::run_line;
-use states::nflag;
 ghost use mathlib.Core.Path.{_≡_};
 ghost use lib.ListN.{length};
+ghost use Rattle.states.specs.Access.{IsState, OfState};
 ghost use Rattle.feeding.specs.Contract.{Lent};
 ghost use Rattle.feeding.specs.Answering.{controlWhy, workWhy, withheldBy, Finished, GoesOut, keptBy, Ruling, Rules, Replying, Replies, Fits, Takes};
 
@@ -38,6 +38,14 @@ fn why_work(w: WorkWhy) -> Why
 }
 
 // THE END OF A LINE
+
+// The flag that `$NFLAG` sets.
+fn nflag(state: &[u8]) -> u8
+    requires { ⌜ IsState (now state) ⌝ }
+    ensures { λ r. ⌜ OfState (now (state .entry)) (λ st. r ≡ st .nflag) ⌝ }
+{
+    state[1]
+}
 
 // Whether a line without a refusal is withheld: "if NFLAG is 1 and it had no occurrence".
 fn withholds(flag: u8, occurred: bool) -> bool

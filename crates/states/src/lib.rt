@@ -1,4 +1,4 @@
-// The state as bytes: what is read of the stacks, counters and flags in one lent memory.
+// The state as bytes: what is read of the stacks and counters in one lent memory.
 ghost use Prim.Native.Nat.{_+_, _-_, _*_, _≤_};
 ghost use mathlib.Core.Path.{_≡_};
 ghost use lib.ListN.{length};
@@ -32,13 +32,6 @@ pub fn place(i: u8) -> usize
     ensures { λ r. ⌜ (r ≡ i - 97) × (r ≤ 25) ⌝ }
 {
     (i - 97) as usize
-}
-
-pub fn nflag(state: &[u8]) -> u8
-    requires { ⌜ IsState (now state) ⌝ }
-    ensures { λ r. ⌜ OfState (now (state .entry)) (λ st. r ≡ st .nflag) ⌝ }
-{
-    state[1]
 }
 
 pub fn pointer(state: &[u8], i: u8) -> u8

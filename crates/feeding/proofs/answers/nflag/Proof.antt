@@ -1,7 +1,7 @@
 use native.Mathlib.Omega.{arith}
 use Rattle.states.proofs.Held.{is-long, read-nflag}
-use Rattle.states.proofs.nflag.Statement.{statement}
-use Rattle.states.proofs.nflag.Tie as tie
+use Rattle.feeding.proofs.answers.nflag.Statement.{statement}
+use Rattle.feeding.proofs.answers.nflag.Tie as tie
 
 shared-slice-read-result : tie.Need-shared-slice-read-result
 shared-slice-read-result c = omega (arith, is-long (c .before .args .state .now) (c .before .pre))
