@@ -5,11 +5,11 @@ use mathlib.Core.Bool.{Bool, true, false}
 use mathlib.Core.List.{List, [], _∷_, _++_}
 use native.Mathlib.Nat.{add-zero}
 use native.Mathlib.Omega.{arith}
-use borrow.Author.Tests.{ne-eqb}
-use lib.Dec.{eqb}
+use borrow.Author.Tests.{ltb-true, ltb-false, lt-ltb, le-ltb, ne-eqb}
+use lib.Dec.{eqb, ltb}
 use lib.ListN.{length, getD, take, drop, length-drop, length-take, drop-of-length-le}
-use lib.Seq.{drop-cons, drop-drop, getD-drop, slice, take-add, drop-at, length-take-le}
-use Rattle.macros.specs.Macro.{Closure, Member, PatternUnit, Piece}
+use lib.Seq.{drop-cons, drop-drop, getD-drop, slice, slice-empty, take-add, drop-at, length-take-le}
+use Rattle.macros.specs.Macro.{Closure, Member, PatternUnit, Piece, pick}
 use Rattle.macros.specs.Macro.Member.{single, range}
 use Rattle.macros.specs.Macro.Mark.{stack, counter}
 use Rattle.macros.specs.Macro.PatternUnit.{literal, kind, class, callOf}
@@ -17,9 +17,10 @@ use Rattle.macros.specs.Macro.Piece.{element, start, end, left, right}
 use Rattle.tables.specs.Form.{closureCode, unitCode, memberItems, membersItems, unitRest, pieceItems, patternItems}
 use Rattle.macros.specs.Formed.{Bytes}
 use Rattle.lines.specs.Matching.{closing, tagText}
+use Rattle.lines.proofs.KeepTests.{by-pick}
 use Rattle.lines.proofs.KeepBytes.{bytes-take, bytes-drop}
 use Rattle.replacing.specs.Contract.{EndsFrom}
-use Rattle.replacing.specs.Tags.{closeStep, closeIn, tagStep, tagIn, Spans}
+use Rattle.replacing.specs.Tags.{closeStep, closeIn, tagStep, tagIn, Spans, Cut, Divided}
 
 -- AN ITEM
 
@@ -148,45 +149,69 @@ close-inside n (c ∷ b ∷ l) ends z h =
     step-inside (eqb c 1) (eqb c 2) n (getD ends 0 0) (λ k. closeIn k l (drop 2 ends)) z (h 0)
     (λ k. close-inside k l (drop 2 ends) z (λ i. let e : getD (drop 2 ends) i 0 ≡ getD ends (2 + i) 0 = getD-drop 2 ends i 0 in let g = h (2 + i) in omega arith))
 
+-- the lesser of two numbers
+module _ (a b : ℕ) where
+  pub least-second : b < a → b ≡ pick (ltb b a) b a
+  unfolding pick
+  least-second h = rw (lt-ltb b a h)
+
+  pub least-first : a ≤ b → a ≡ pick (ltb b a) b a
+  unfolding pick
+  least-first h = rw (le-ltb b a h)
+
+-- a tag that would end before its start is empty
+least-part : (t : List ℕ) (a b : ℕ) → slice (pick (ltb b a) b a) b t ≡ slice a b t
+least-part t a b =
+    by-pick (λ (r : ℕ). slice r b t ≡ slice a b t) (ltb b a) b a
+    (λ e. slice-empty b t ∙ sym (drop-of-length-le (take b t) {i = a} (let y = ltb-true b a e in let z = length-take b t in omega arith)))
+    (λ e. refl)
+
+least-below : (a b : ℕ) → pick (ltb b a) b a ≤ b
+least-below a b = by-pick (λ (r : ℕ). r ≤ b) (ltb b a) b a (λ e. omega arith) (λ e. ltb-false b a e)
+
 -- the tag's text, as it is found at item i
 pub spans-here : (pat ends : List ℕ) (n m i : ℕ) {from to : ℕ} → ((t : List ℕ) → tagIn t n pat ends ≡ tagIn t m (drop i pat) (drop i ends)) → i + 1 < length pat → getD pat i 0 ≡ 1 → m < 1
-    → from ≡ getD ends i 0 → to ≡ closeIn 0 (drop (i + 2) pat) (drop (i + 2) ends) → Spans pat ends n from to
-spans-here pat ends n m i {from} {to} inv h e l f g =
+    → (a : ℕ) → a ≡ getD ends i 0 → to ≡ closeIn 0 (drop (i + 2) pat) (drop (i + 2) ends) → from ≡ pick (ltb to a) to a → Spans (λ t. tagIn t n pat ends) ends from to
+spans-here pat ends n m i {from} {to} inv h e l a f g o =
     record {
-      text = λ t. inv t ∙ tag-here pat ends i h t m e l ∙ ap (λ (a : ℕ). slice a (closeIn 0 (drop (i + 2) pat) (drop (i + 2) ends)) t) (sym f) ∙ ap (λ (a : ℕ). slice from a t) (sym g);
-      inside = λ z w. (
-        let x = w i in omega arith,
-        let x = close-inside 0 (drop (i + 2) pat) (drop (i + 2) ends) z (λ j. let y = getD-drop (i + 2) ends j 0 in let v = w (i + 2 + j) in omega arith) in omega arith,
-      );
+      text = λ t.
+          inv t
+          ∙ tag-here pat ends i h t m e l
+          ∙ ap (λ (x : ℕ). slice x (closeIn 0 (drop (i + 2) pat) (drop (i + 2) ends)) t) (sym f)
+          ∙ ap (λ (x : ℕ). slice a x t) (sym g)
+          ∙ sym (least-part t a to)
+          ∙ ap (λ (x : ℕ). slice x to t) (sym o);
+      ordered = let x = least-below a to in omega arith;
+      inside = λ z w. let x = close-inside 0 (drop (i + 2) pat) (drop (i + 2) ends) z (λ j. let y = getD-drop (i + 2) ends j 0 in let v = w (i + 2 + j) in omega arith) in omega arith;
     }
 
-pub spans-none : (pat ends : List ℕ) (n m i : ℕ) → ((t : List ℕ) → tagIn t n pat ends ≡ tagIn t m (drop i pat) (drop i ends)) → length pat ≤ i + 1 → Spans pat ends n 0 0
-spans-none pat ends n m i inv h = record { text = λ t. inv t ∙ tag-end pat ends i t m h; inside = λ z w. (omega arith, omega arith) }
+pub spans-none : (pat ends : List ℕ) (n m i : ℕ) → ((t : List ℕ) → tagIn t n pat ends ≡ tagIn t m (drop i pat) (drop i ends)) → length pat ≤ i + 1 → Spans (λ t. tagIn t n pat ends) ends 0 0
+spans-none pat ends n m i inv h = record { text = λ t. inv t ∙ tag-end pat ends i t m h; ordered = omega arith; inside = λ z w. omega arith }
+
+-- the same for another way to take the text
+pub spans-by : {f g : List ℕ → List ℕ} {ends : List ℕ} {from to : ℕ} → ((t : List ℕ) → f t ≡ g t) → Spans f ends from to → Spans g ends from to
+spans-by e s = record { text = λ t. sym (e t) ∙ s .text t; ordered = s .ordered; inside = s .inside }
+
+pub spans-nothing : {f : List ℕ → List ℕ} {ends : List ℕ} → ((t : List ℕ) → [] ≡ f t) → Spans f ends 0 0
+spans-nothing e = record { text = λ t. sym (e t); ordered = omega arith; inside = λ z w. omega arith }
 
 -- the part of the line that is handed out
-pub part-is : (t : List ℕ) (from to : ℕ) → from ≤ to → to ≤ length t → take (to - from) (drop from t) ≡ slice from to t
-part-is t from to h l =
-    let e : to ≡ from + (to - from) = omega arith in
-    sym (ap (λ (k : ℕ). drop from (take k t)) e ∙ ap (drop from) (take-add from (to - from) t) ∙ drop-at (take from t) (take (to - from) (drop from t)) from (length-take-le from t (omega arith)))
+pub span-cut : {f : List ℕ → List ℕ} {line pat ends : List ℕ} {from to : ℕ} → Divided pat ends line → Spans f ends from to → Cut line from to
+span-cut {line = line} d s = record { ordered = s .ordered; inside = s .inside (length line) (d .inside); bytes = d .bytes }
 
-pub part-none : (t : List ℕ) (from to : ℕ) → to < from → take (to - to) (drop to t) ≡ slice from to t
-part-none t from to h =
-    ap (λ (k : ℕ). take k (drop to t)) (let z : to - to ≡ 0 = omega arith in z)
-    ∙ sym (drop-of-length-le (take to t) {i = from} (let z = length-take to t in omega arith))
+module _ {line : List ℕ} {from to : ℕ} (p : Cut line from to) where
+  pub cut-is : take (to - from) (drop from line) ≡ slice from to line
+  cut-is =
+      let h = p .ordered in
+      let l = p .inside in
+      let e : to ≡ from + (to - from) = omega arith in
+      sym
+      (ap (λ (k : ℕ). drop from (take k line)) e
+      ∙ ap (drop from) (take-add from (to - from) line)
+      ∙ drop-at (take from line) (take (to - from) (drop from line)) from (length-take-le from line (omega arith)))
 
-step-bytes : (l : Bool) (n : ℕ) (s : List ℕ) (on : ℕ → List ℕ) → Bytes s → ((k : ℕ) → Bytes (on k)) → Bytes (tagStep l n s on)
-unfolding tagStep
-step-bytes true zero s on h g = h
-step-bytes true (suc n) s on h g = g n
-step-bytes false n s on h g = g n
-
-pub tag-bytes : (t : List ℕ) (n : ℕ) (l ends : List ℕ) → Bytes t → Bytes (tagIn t n l ends)
-unfolding tagIn
-tag-bytes t n [] ends h = tt
-tag-bytes t n (c ∷ []) ends h = tt
-tag-bytes t n (c ∷ b ∷ l) ends h =
-    step-bytes (eqb c 1) n (slice (getD ends 0 0) (closeIn 0 l (drop 2 ends)) t) (λ k. tagIn t k l (drop 2 ends))
-    (bytes-drop (getD ends 0 0) (take (closeIn 0 l (drop 2 ends)) t) (bytes-take (closeIn 0 l (drop 2 ends)) t h)) (λ k. tag-bytes t k l (drop 2 ends) h)
+  pub cut-bytes : Bytes (take (to - from) (drop from line))
+  cut-bytes = bytes-take (to - from) (drop from line) (bytes-drop from line (p .bytes))
 
 -- THE PIECES OF A PATTERN
 

@@ -23,7 +23,7 @@ use Rattle.lines.proofs.KeepTests.{within-between}
 use Rattle.tables.specs.Actions.{numberIn, textIn, Held}
 use Rattle.tables.proofs.Actions.{even-taken, number-back, action-size, action-some, action-rest}
 use Rattle.replacing.specs.Tags.{tagIn}
-use Rattle.replacing.specs.Acting.{markIn, movesIn, setsIn, actIn, contentsIn, insertsIn, storedIn, accessIn, callIn, actionIn, Fit, Fits}
+use Rattle.replacing.specs.Acting.{taggedIn, markIn, moveIn, movesIn, setsIn, actIn, contentsIn, insertsIn, storedIn, accessIn, actionIn, actsIn, Fit, Fits}
 use Rattle.replacing.specs.Acting.Fits.{none, next}
 use Rattle.replacing.proofs.Inserting.{acts-cons}
 
@@ -32,6 +32,10 @@ use Rattle.replacing.proofs.Inserting.{acts-cons}
 bind-same : (a : Done) (f g : Work → Done) → ((w : Work) → f w ≡ g w) → (a >>= f) ≡ (a >>= g)
 bind-same (bad r w) f g h = refl
 bind-same (good w) f g h = h w
+
+bind-good : (a : Done) → (a >>= good) ≡ a
+bind-good (bad r w) = refl
+bind-good (good w) = refl
 
 bind-twice : (a : Done) (f g : Work → Done) → (a >>= (λ w. f w >>= g)) ≡ (a >>= f >>= g)
 bind-twice (bad r w) f g = refl
@@ -43,8 +47,8 @@ unfolding puts put onto
 put-puts b w = ap (λ (n : ℕ). unless (leb n mostLineBytes) newLineTooLong w (record { out = b ∷ w .out; size = n; state = w .state })) (add-one (w .size))
 
 module _ (line pat ends : List ℕ) (es : List Piece) (qs : List ℕ) (same : (n : ℕ) → tagIn line n pat ends ≡ tagText line n es qs) where
-  call-does : (c : Call) (r : List ℕ) (w : Work) → actionIn line pat ends (callItems c ++ r) w ≡ callActs line es qs c w
-  unfolding actionIn callIn movesIn accessIn insertsIn contentsIn storedIn setsIn markIn callItems moveCode four numberIn textIn callActs early late pick within
+  call-does : (c : Call) (r : List ℕ) (w : Work) → actsIn line pat ends (callItems c ++ r) w ≡ callActs line es qs c w
+  unfolding actsIn taggedIn actionIn movesIn moveIn accessIn insertsIn contentsIn storedIn setsIn markIn callItems moveCode four numberIn textIn callActs early late pick within
   call-does (insert stack i still) r w = refl
   call-does (insert stack i (before plus)) r w = refl
   call-does (insert stack i (before minus)) r w = refl
@@ -69,20 +73,20 @@ module _ (line pat ends : List ℕ) (es : List Piece) (qs : List ℕ) (same : (n
   call-does (storeText i (after minus) t) r w = ap (λ (x : List ℕ). early stack (after minus) i w >>= stores i x >>= late stack (after minus) i) (even-taken t r)
   call-does (setIncrement i n) r w = rw (number-back n)
 
-  action-does : (a : Action) (r : List ℕ) (w : Work) → actionIn line pat ends (actionItems a ++ r) w ≡ acts line es qs a w
-  unfolding actionIn insertsIn contentsIn actionItems acts pick
-  action-does (text b) r w = put-puts b w
-  action-does (tag n) r w = ap (λ (x : List ℕ). puts x w) (same (n - 1))
+  action-does : (a : Action) (r : List ℕ) (w : Work) → actsIn line pat ends (actionItems a ++ r) w ≡ acts line es qs a w
+  unfolding actsIn taggedIn actionIn movesIn moveIn accessIn insertsIn contentsIn actionItems acts pick within
+  action-does (text b) r w = bind-good (puts (b ∷ []) w) ∙ put-puts b w
+  action-does (tag n) r w = bind-good (puts (tagIn line (n - 1) pat ends) w) ∙ ap (λ (x : List ℕ). puts x w) (same (n - 1))
   action-does (call c) r w = call-does c r w
 
-  pub actions-do : (as₁ : List Action) (w : Work) → actIn (actionIn line pat ends) 0 (replacementItems as₁) w ≡ replaces line es qs as₁ w
+  pub actions-do : (as₁ : List Action) (w : Work) → actIn (actsIn line pat ends) 0 (replacementItems as₁) w ≡ replaces line es qs as₁ w
   unfolding replacementItems actIn replaces
   actions-do [] w = refl
   actions-do (a ∷ as₁) w =
       let items : List ℕ = actionItems a ++ replacementItems as₁ in
-      acts-cons (actionIn line pat ends) items w (let l = length-append (actionItems a) (replacementItems as₁) in let z = action-some a in omega arith)
-      ∙ ap (λ (x : List ℕ). actionIn line pat ends items w >>= actIn (actionIn line pat ends) 0 x) (action-rest a (replacementItems as₁))
-      ∙ ap (λ (x : Done). x >>= actIn (actionIn line pat ends) 0 (replacementItems as₁)) (action-does a (replacementItems as₁) w)
+      acts-cons (actsIn line pat ends) items w (let l = length-append (actionItems a) (replacementItems as₁) in let z = action-some a in omega arith)
+      ∙ ap (λ (x : List ℕ). actsIn line pat ends items w >>= actIn (actsIn line pat ends) 0 x) (action-rest a (replacementItems as₁))
+      ∙ ap (λ (x : Done). x >>= actIn (actsIn line pat ends) 0 (replacementItems as₁)) (action-does a (replacementItems as₁) w)
       ∙ bind-same (acts line es qs a w) _ _ (λ v. actions-do as₁ v)
 
 -- the replacement, and then the commands

@@ -5,9 +5,8 @@ use mathlib.Core.Bool.{Bool, true, false}
 use mathlib.Core.List.{List, [], _∷_, _++_}
 use native.Mathlib.Numerals.{add-one}
 use native.Mathlib.Omega.{arith}
-use native.Mathlib.Decide.{ℕ-discrete}
 use borrow.Author.Tests.{lt-ltb, le-ltb, eq-eqb, ne-eqb}
-use lib.Dec.{ltb}
+use lib.Dec.{eqb, ltb}
 use lib.ListN.{length, getD, set, take, drop, length-append, length-drop, drop-of-length-le}
 use lib.Seq.{drop-cons, drop-drop, take-suc-set, paste, paste-suc, take-take, length-take-le}
 use Rattle.macros.specs.Bounds.{mostLineBytes}
@@ -21,19 +20,19 @@ use Rattle.lines.specs.State.{State, counterOf, currentEntry, contents}
 use Rattle.lines.specs.Replacing.{Work, Done, _>>=_, puts, stores}
 use Rattle.lines.specs.Replacing.Done.{bad, good}
 use Rattle.states.specs.Access.{Holds, IsState}
-use Rattle.tables.specs.Actions.{actionSize}
+use Rattle.tables.specs.Actions.{numberIn, actionSize}
 use Rattle.tables.proofs.Digits.{digits-few, digits-last}
 use Rattle.tables.proofs.Actions.{some-size}
 use Rattle.replacing.specs.Contract.{sizeOf}
 use Rattle.replacing.specs.Tags.{tagIn}
-use Rattle.replacing.specs.Acting.{movesIn, setsIn, actIn, contentsIn, insertsIn, storedIn, accessIn, callIn, actionIn, Fit, Fits}
+use Rattle.replacing.specs.Acting.{taggedIn, movesIn, setsIn, actIn, contentsIn, insertsIn, storedIn, accessIn, actionIn, actsIn, Fit, Fits}
 use Rattle.replacing.specs.Acting.Fits.{none, next}
-use Rattle.replacing.specs.Moments.{Does, Inserts, Changes, Digits, Hands, Joins}
+use Rattle.replacing.specs.Moments.{Does, Inserts, Changes, Onward, Digits}
 use Rattle.faults.specs.declared.Fault.{Fault}
 use Rattle.faults.specs.declared.Outcome.{Outcome}
 use Rattle.faults.specs.declared.Outcome.the-variants.{Made, Refused}
 use Rattle.replacing.proofs.Moving.{mark-counter, mark-stack}
-use Rattle.replacing.proofs.Stepping.{does-then, does-stop, does-by, does-room, does-none, changes-does}
+use Rattle.replacing.proofs.Stepping.{does-then, does-stop, does-by, does-none, does-onward, changes-does}
 
 -- DIGITS
 
@@ -83,17 +82,9 @@ pub copy-next : (old out bytes : List ℕ) (at i : ℕ) → out ≡ paste old at
 copy-next old out bytes at i e h l = ap (λ (x : List ℕ). set x (at + i) (getD bytes i 0)) e ∙ paste-suc old at bytes i 0 h l ∙ ap (λ (k : ℕ). paste old at bytes k) (sym (add-one i))
 
 -- a text's first k bytes join the new line
-copied : (out out₁ text : List ℕ) (n k : ℕ) → k ≤ length text → out₁ ≡ paste out n (take k text) (length (take k text)) → out₁ ≡ paste out n text k
+pub copied : (out out₁ text : List ℕ) (n k : ℕ) → k ≤ length text → out₁ ≡ paste out n (take k text) (length (take k text)) → out₁ ≡ paste out n text k
 copied out out₁ text n k h e =
     e ∙ ap (λ (j : ℕ). paste out n (take k text) j) (length-take-le k text h) ∙ ap (λ (x : List ℕ). take n out ++ x ++ drop (n + k) out) (take-take k k text (omega arith))
-
-pub joins-made : {out out₁ text : List ℕ} {n k : ℕ} {done : Outcome} → done ≡ Made k → k ≤ length text → out₁ ≡ paste out n (take k text) (length (take k text)) → Joins out n text done out₁ (Made (n + k))
-joins-made {out} {out₁} {text} {n} {k} e h p =
-    subst (λ (o : Outcome). Joins out n text o out₁ (Made (n + k))) (sym e) (record { answer = refl; bytes = copied out out₁ text n k h p })
-
-pub joins-refused : {out out₁ text : List ℕ} {n k : ℕ} {done : Outcome} {fault : Fault} → done ≡ Refused fault k → k ≤ length text → out₁ ≡ paste out n (take k text) (length (take k text)) → Joins out n text done out₁ (Refused fault (n + k))
-joins-refused {out} {out₁} {text} {n} {k} {fault = fault} e h p =
-    subst (λ (o : Outcome). Joins out n text o out₁ (Refused fault (n + k))) (sym e) (record { answer = refl; bytes = copied out out₁ text n k h p })
 
 pub made-size : (n : ℕ) {done : Outcome} {k : ℕ} → done ≡ Made k → n + sizeOf done ≤ mostLineBytes → n + k ≤ mostLineBytes
 made-size n e h = subst (λ (o : Outcome). n + sizeOf o ≤ mostLineBytes) e h
@@ -108,15 +99,18 @@ changes-room n h p e = made-size n e (let z = p .size in omega arith)
 pub letter-of : (t : List ℕ) → Fit t → 48 ≤ getD t 0 0 → Letter (getD t 1 0)
 letter-of t f h = f .letter (λ e. omega arith) (λ e. omega arith)
 
+not-byte : {c : ℕ} {x : Bool} → x ≡ within 56 63 c → x ≡ true → c ≡ 40 → ⊥
+not-byte {c} e g z = let y = within-low 56 63 c (sym e ∙ g) in omega arith
+
 pub not-tag : {c : ℕ} {x : Bool} → x ≡ within 56 63 c → x ≡ true → c ≡ 41 → ⊥
 not-tag {c} e g z = let y = within-low 56 63 c (sym e ∙ g) in omega arith
 
 -- WHAT IS INSERTED
 
-pub inserts-does : (line pat ends t : List ℕ) {bytes text text₁ b : List ℕ} {n k : ℕ} {r : Outcome} → Inserts bytes n text k text₁ r → IsState b → ((st : State) → Holds b st → bytes ≡ contentsIn line pat ends t st)
-    → Does (insertsIn line pat ends t) n text b k text₁ b r
+pub inserts-does : (tag t : List ℕ) {bytes text text₁ b : List ℕ} {n k : ℕ} {r : Outcome} → Inserts bytes n text k text₁ r → IsState b → ((st : State) → Holds b st → bytes ≡ contentsIn tag t st)
+    → Does (insertsIn tag t) n text b k text₁ b r
 unfolding insertsIn
-inserts-does line pat ends t {b = b} p s e =
+inserts-does tag t {b = b} p s e =
     let q = p .does b s in
     record {
       comes = λ head l w m. let x = q .comes head l w m in (x .0, ap (λ (y : List ℕ). puts y w) (sym (e (w .state) (m .state))) ∙ x .1, x .2);
@@ -124,71 +118,71 @@ inserts-does line pat ends t {b = b} p s e =
       fits = q .fits;
     }
 
-module _ (line pat ends t : List ℕ) where
-  pub byte-is : 2 ≤ length t → getD t 0 0 ≡ 40 → (st : State) → take (2 - 1) (drop 1 t) ≡ contentsIn line pat ends t st
+pub part-tag : (tag x : List ℕ) (c : ℕ) → c ≡ 41 → tag ≡ pick (eqb c 41) tag x
+unfolding pick
+part-tag tag x c e = rw (eq-eqb c 41 e)
+
+pub part-entry : (tag x r : List ℕ) (c : ℕ) → (c ≡ 41 → ⊥) → r ≡ x → r ≡ pick (eqb c 41) tag x
+unfolding pick
+part-entry tag x r c f e = rw (ne-eqb c 41 f) e
+
+module _ (tag t : List ℕ) where
+  pub byte-is : 2 ≤ length t → getD t 0 0 ≡ 40 → (st : State) → take (2 - 1) (drop 1 t) ≡ contentsIn tag t st
   unfolding contentsIn pick
   byte-is h e st = rw (eq-eqb (getD t 0 0) 40 e) (ap (take 1) (drop-cons t 1 0 (omega arith)))
 
-  pub value-is : {x : Bool} {v : ℕ} → (getD t 0 0 ≡ 40 → ⊥) → x ≡ within 56 63 (getD t 0 0) → x ≡ true → (st : State) → v ≡ counterOf st (getD t 1 0) .value → digits v ≡ contentsIn line pat ends t st
+  pub part-is : {x : Bool} {r : List ℕ} → (getD t 0 0 ≡ 40 → ⊥) → x ≡ within 56 63 (getD t 0 0) → x ≡ false → (st : State) → r ≡ pick (eqb (getD t 0 0) 41) tag (currentEntry st (getD t 1 0)) → r ≡ contentsIn tag t st
   unfolding contentsIn pick contents
-  value-is f e g st q =
-      rw (ne-eqb (getD t 0 0) 40 f, ne-eqb (getD t 0 0) 41 (not-tag e g), ← mark-counter (getD t 0 0) e g) (ap digits q)
+  part-is f e g st q = rw (ne-eqb (getD t 0 0) 40 f, ← mark-stack (getD t 0 0) e g) q
 
-  pub hand-is : {x : Bool} {b r : List ℕ} → (getD t 0 0 ≡ 40 → ⊥) → x ≡ within 56 63 (getD t 0 0) → x ≡ false → Hands pat ends line b (getD t 0 0) (getD t 1 0) r → (st : State) → Holds b st
-      → r ≡ contentsIn line pat ends t st
+  pub value-is : {x : Bool} {v : ℕ} → x ≡ within 56 63 (getD t 0 0) → x ≡ true → (st : State) → v ≡ counterOf st (getD t 1 0) .value → digits v ≡ contentsIn tag t st
   unfolding contentsIn pick contents
-  hand-is {b = b} {r = r} f e g h st l = by (ℕ-discrete (getD t 0 0) 41)
-    where
-      by : Dec (getD t 0 0 ≡ 41) → r ≡ contentsIn line pat ends t st
-      by (yes z) = rw (ne-eqb (getD t 0 0) 40 f, eq-eqb (getD t 0 0) 41 z) (h .tag z)
-      by (no z) = rw (ne-eqb (getD t 0 0) 40 f, ne-eqb (getD t 0 0) 41 z, ← mark-stack (getD t 0 0) e g) (h .entry z st l)
-
-pub hands-tag : {pat ends line b r : List ℕ} {code n : ℕ} → code ≡ 41 → r ≡ tagIn line (n - 1) pat ends → Hands pat ends line b code n r
-hands-tag e p = record { tag = λ f. p; entry = λ f. absurd (f e) }
-
-pub hands-entry : {pat ends line b r : List ℕ} {code n : ℕ} → (code ≡ 41 → ⊥) → ((st : State) → Holds b st → r ≡ currentEntry st n) → Hands pat ends line b code n r
-hands-entry f p = record { tag = λ e. absurd (f e); entry = λ g. p }
+  value-is e g st q = rw (ne-eqb (getD t 0 0) 40 (not-byte e g), ne-eqb (getD t 0 0) 41 (not-tag e g), ← mark-counter (getD t 0 0) e g) (ap digits q)
 
 -- AN ACTION, by its code
 
-module _ (line pat ends t : List ℕ) {text b b₁ : List ℕ} {n k : ℕ} {r : Outcome} where
-  pub access-insert : {text₁ : List ℕ} → getD t 0 0 < 64 → Does (insertsIn line pat ends t) n text b k text₁ b₁ r → Does (accessIn line pat ends t) n text b k text₁ b₁ r
+module _ (tag t : List ℕ) {text b b₁ : List ℕ} {n k : ℕ} {r : Outcome} where
+  pub access-insert : {text₁ : List ℕ} → getD t 0 0 < 64 → Does (insertsIn tag t) n text b k text₁ b₁ r → Does (accessIn tag t) n text b k text₁ b₁ r
   unfolding accessIn pick
   access-insert h p = does-by (λ w. rw (lt-ltb (getD t 0 0) 64 h)) p
 
-  pub access-store : 64 ≤ getD t 0 0 → n + k ≤ mostLineBytes → Changes (stores (getD t 1 0) (storedIn line pat ends t)) b k b₁ r → Does (accessIn line pat ends t) n text b k text b₁ r
+  pub access-store : (x : List ℕ) → 64 ≤ getD t 0 0 → getD t 0 0 < 80 → n + k ≤ mostLineBytes → x ≡ storedIn tag t → Changes (stores (getD t 1 0) x) b k b₁ r → Does (accessIn tag t) n text b k text b₁ r
   unfolding accessIn pick
-  access-store h l p = does-by (λ w. rw (le-ltb (getD t 0 0) 64 h)) (changes-does n text p l)
+  access-store x g h l e p =
+      does-by (λ w. rw (le-ltb (getD t 0 0) 64 g, lt-ltb (getD t 0 0) 80 h, ← e)) (changes-does n text p l)
 
-  pub action-insert : {text₁ : List ℕ} → getD t 0 0 < 48 → Does (insertsIn line pat ends t) n text b k text₁ b₁ r → Does (actionIn line pat ends t) n text b k text₁ b₁ r
-  unfolding actionIn pick
-  action-insert h p = does-by (λ w. rw (lt-ltb (getD t 0 0) 48 h)) p
-
-  pub action-call : {text₁ : List ℕ} → 48 ≤ getD t 0 0 → getD t 0 0 < 80 → Does (callIn line pat ends t) n text b k text₁ b₁ r → Does (actionIn line pat ends t) n text b k text₁ b₁ r
-  unfolding actionIn pick
-  action-call g h p = does-by (λ w. rw (le-ltb (getD t 0 0) 48 g, lt-ltb (getD t 0 0) 80 h)) p
-
-  pub action-set : 80 ≤ getD t 0 0 → n + k ≤ mostLineBytes → Changes (setsIn t) b k b₁ r → Does (actionIn line pat ends t) n text b k text b₁ r
-  unfolding actionIn pick
-  action-set h l p = does-by (λ w. rw (le-ltb (getD t 0 0) 48 (omega arith), le-ltb (getD t 0 0) 80 h)) (changes-does n text p l)
+  pub access-set : {x : ℕ} → 80 ≤ getD t 0 0 → n + k ≤ mostLineBytes → x ≡ numberIn t → Changes (setsIn (getD t 0 0) (getD t 1 0) x) b k b₁ r → Does (accessIn tag t) n text b k text b₁ r
+  unfolding accessIn pick
+  access-set h l e p = does-by (λ w. rw (le-ltb (getD t 0 0) 64 (omega arith), le-ltb (getD t 0 0) 80 h, ← e)) (changes-does n text p l)
 
 -- the access between its two moves
-module _ (line pat ends t : List ℕ) {text b b₁ : List ℕ} {n k : ℕ} {r : Outcome} (l : n + k ≤ mostLineBytes) (p : Changes (movesIn 1 (getD t 0 0) (getD t 1 0)) b k b₁ r) where
-  pub call-before : {fault : Fault} {j : ℕ} → r ≡ Refused fault j → Does (callIn line pat ends t) n text b k text b₁ r
-  unfolding callIn
-  call-before e = does-stop (movesIn 3 (getD t 0 0) (getD t 1 0)) (does-stop (accessIn line pat ends t) (changes-does n text p l) e) e
+module _ (tag t : List ℕ) {text b b₁ : List ℕ} {n k : ℕ} {r : Outcome} (l : n + k ≤ mostLineBytes) (p : Changes (movesIn 1 (getD t 0 0) (getD t 1 0)) b k b₁ r) where
+  pub action-before : {fault : Fault} {j : ℕ} → r ≡ Refused fault j → Does (actionIn tag t) n text b k text b₁ r
+  unfolding actionIn
+  action-before e = does-stop (movesIn 3 (getD t 0 0) (getD t 1 0)) (does-stop (accessIn tag t) (changes-does n text p l) e) e
 
-  module _ {m : ℕ} (e : r ≡ Made m) {text₂ b₂ : List ℕ} {s : Outcome} (q : Does (accessIn line pat ends t) n text b₁ m text₂ b₂ s) where
-    accessed : Does (λ w. movesIn 1 (getD t 0 0) (getD t 1 0) w >>= accessIn line pat ends t) n text b k text₂ b₂ s
-    accessed = does-then (changes-does n text p l) e q
+  pub action-after : {m : ℕ} {text₂ b₂ b₃ : List ℕ} {s u : Outcome} → r ≡ Made m → Does (accessIn tag t) n text b₁ m text₂ b₂ s → Onward (movesIn 3 (getD t 0 0) (getD t 1 0)) b₂ s b₃ u
+      → Does (actionIn tag t) n text b k text₂ b₃ u
+  unfolding actionIn
+  action-after {s = s} e q x = does-onward s (does-then (changes-does n text p l) e q) x
 
-    pub call-access : {fault : Fault} {j : ℕ} → s ≡ Refused fault j → Does (callIn line pat ends t) n text b k text₂ b₂ s
-    unfolding callIn
-    call-access f = does-stop (movesIn 3 (getD t 0 0) (getD t 1 0)) accessed f
+-- the text of the tag
+module _ (line pat ends t : List ℕ) where
+  pub tagged-inserted : getD t 0 0 ≡ 41 → tagIn line (getD t 1 0 - 1) pat ends ≡ taggedIn line pat ends t
+  unfolding taggedIn pick
+  tagged-inserted e = rw e
 
-    pub call-after : {i : ℕ} {b₃ : List ℕ} {u : Outcome} → s ≡ Made i → Changes (movesIn 3 (getD t 0 0) (getD t 1 0)) b₂ i b₃ u → Does (callIn line pat ends t) n text b k text₂ b₃ u
-    unfolding callIn
-    call-after f x = does-then accessed f (changes-does n text₂ x (does-room q f))
+  pub tagged-stored : (getD t 0 0 ≡ 41 → ⊥) → within 64 71 (getD t 0 0) ≡ true → tagIn line (getD t 3 0 - 1) pat ends ≡ taggedIn line pat ends t
+  unfolding taggedIn pick
+  tagged-stored f e = rw (ne-eqb (getD t 0 0) 41 f, e)
+
+  pub tagged-none : (getD t 0 0 ≡ 41 → ⊥) → within 64 71 (getD t 0 0) ≡ false → [] ≡ taggedIn line pat ends t
+  unfolding taggedIn pick
+  tagged-none f e = rw (ne-eqb (getD t 0 0) 41 f, e)
+
+pub acts-tagged : (line pat ends t : List ℕ) {tag text b text₁ b₁ : List ℕ} {n k : ℕ} {r : Outcome} → tag ≡ taggedIn line pat ends t → Does (actionIn tag t) n text b k text₁ b₁ r → Does (actsIn line pat ends t) n text b k text₁ b₁ r
+unfolding actsIn
+acts-tagged line pat ends t e p = does-by (λ w. ap (λ (x : List ℕ). actionIn x t w) (sym e)) p
 
 -- ONE ACTION AFTER THE OTHER
 

@@ -4,7 +4,7 @@ use mathlib.Core.Path.{_≡_, refl, sym, ap, _∙_, subst}
 use mathlib.Core.List.{List, _++_, map, append-nil}
 use native.Mathlib.Omega.{arith}
 use lib.ListN.{length, take, drop}
-use lib.Seq.{take-add, drop-drop, take-paste, drop-paste, length-take-le}
+use lib.Seq.{paste, take-add, drop-drop, take-paste, drop-paste, length-take-le}
 use Rattle.macros.specs.Bounds.{mostLineBytes}
 use Rattle.macros.specs.Macro.{Piece, Action, Macro}
 use Rattle.macros.specs.Macro.Action.{call}
@@ -18,8 +18,8 @@ use Rattle.tables.proofs.Actions.{calls-items}
 use Rattle.tables.proofs.Actions.{slot-length}
 use Rattle.replacing.specs.Contract.{IsSlot, IsDivided, Lent, doneOf, sizeOf, Occurs}
 use Rattle.replacing.specs.Tags.{Divided}
-use Rattle.replacing.specs.Acting.{actIn, actionIn, Fits}
-use Rattle.replacing.specs.Moments.{Does, behind, Joins}
+use Rattle.replacing.specs.Acting.{actIn, actsIn, Fits}
+use Rattle.replacing.specs.Moments.{Does, behind}
 use Rattle.faults.specs.declared.Outcome.{Outcome}
 use Rattle.faults.specs.declared.Outcome.the-variants.{Made, Refused}
 use Rattle.replacing.proofs.Braces.{tag-is}
@@ -124,33 +124,33 @@ module _ {s ends t b out : List ℕ} {size : ℕ} (h : Lent s ends t b out size)
   abbrev items : List ℕ
   items = take (8 + x + y + z - (8 + x)) (drop (8 + x) s)
 
-  same-step : (m : Macro) (d : Division) → IsDivided s ends m d → (w : Work) → occur m t d w ≡ actIn (actionIn t pat ends) 0 items w
+  same-step : (m : Macro) (d : Division) → IsDivided s ends m d → (w : Work) → occur m t d w ≡ actIn (actsIn t pat ends) 0 items w
   unfolding occur
   same-step m d e w =
       let es : List Piece = m .pattern in
       let all : List Action = m .replacement ++ map call (m .commands) in
       sym (both-do t es (stops d) (m .replacement) (m .commands) w)
       ∙ sym (actions-do t (patternItems es) ends es (stops d) (tag-is t es ends (stops d) (e .spans)) all w)
-      ∙ ap (λ (l : List ℕ). actIn (actionIn t (patternItems es) ends) 0 l w) (items-all s m (e .macro) ∙ sym (items-here s m (e .macro) p q r))
-      ∙ ap (λ (l : List ℕ). actIn (actionIn t l ends) 0 items w) (sym (pattern-here s m (e .macro) p))
+      ∙ ap (λ (l : List ℕ). actIn (actsIn t (patternItems es) ends) 0 l w) (items-all s m (e .macro) ∙ sym (items-here s m (e .macro) p q r))
+      ∙ ap (λ (l : List ℕ). actIn (actsIn t l ends) 0 items w) (sym (pattern-here s m (e .macro) p))
 
-  pub occurs : {text text₁ b₁ out₁ : List ℕ} {done o : Outcome} → Does (actIn (actionIn t pat ends) 0 items) size text b 0 text₁ b₁ done → length text₁ ≡ mostLineBytes → Joins out size text₁ done out₁ o
+  pub occurs : {text text₁ b₁ out₁ : List ℕ} {done o : Outcome} → Does (actIn (actsIn t pat ends) 0 items) size text b 0 text₁ b₁ done → length text₁ ≡ mostLineBytes → o ≡ behind size done → out₁ ≡ paste out size text₁ (sizeOf done)
       → Occurs s ends t b b₁ out out₁ size o
-  occurs {text} {text₁} {b₁} {out₁} {done} {o} does long j =
+  occurs {text} {text₁} {b₁} {out₁} {done} {o} does long answer bytes =
       let few : size + sizeOf done ≤ mostLineBytes = does .fits in
       let room : length out ≡ mostLineBytes = h .room in
-      let n : sizeOf o ≡ size + sizeOf done = ap sizeOf (j .answer) ∙ behind-size size done in
+      let n : sizeOf o ≡ size + sizeOf done = ap sizeOf (answer) ∙ behind-size size done in
       let head : length (take size out) ≡ size = length-take-le size out (omega arith) in
       record {
         comes = λ m d e w im.
             let v = does .comes (take size out) head w (record { line = im .line ∙ sym (append-nil (take size out)); size = let g = im .size in omega arith; state = im .state }) in (
               v .0,
-              same-step m d e w ∙ v .1 ∙ sym (behind-done size done (v .0)) ∙ ap (λ (a : Outcome). doneOf a (v .0)) (sym (j .answer)),
+              same-step m d e w ∙ v .1 ∙ sym (behind-done size done (v .0)) ∙ ap (λ (a : Outcome). doneOf a (v .0)) (sym (answer)),
               record {
                 line =
                     v .2 .line
                     ∙ sym (take-paste out size text₁ (sizeOf done) (omega arith) (omega arith))
-                    ∙ ap (take (size + sizeOf done)) (sym (j .bytes))
+                    ∙ ap (take (size + sizeOf done)) (sym bytes)
                     ∙ ap (λ (k : ℕ). take k out₁) (sym n);
                 size = let g = v .2 .size in omega arith;
                 state = v .2 .state;
@@ -158,7 +158,7 @@ module _ {s ends t b out : List ℕ} {size : ℕ} (h : Lent s ends t b out size)
             );
         past =
             ap (λ (k : ℕ). drop k out₁) n
-            ∙ ap (drop (size + sizeOf done)) (j .bytes)
+            ∙ ap (drop (size + sizeOf done)) bytes
             ∙ drop-paste out size text₁ (sizeOf done) (omega arith) (omega arith)
             ∙ ap (λ (k : ℕ). drop k out) (sym n);
         within = omega arith;

@@ -13,7 +13,7 @@ use Rattle.lines.specs.Line.{textOf}
 use Rattle.states.specs.Access.{Holds, IsState, OfWork}
 use Rattle.faults.specs.Faults.{refusalOf}
 use Rattle.replacing.specs.Contract.{sizeOf}
-use Rattle.replacing.specs.Moments.{Does, Room, Inserts, Kept, Changes}
+use Rattle.replacing.specs.Moments.{Does, Room, Inserts, Kept, Changes, Onward}
 use Rattle.faults.specs.declared.Fault.{Fault}
 use Rattle.faults.specs.declared.Fault.the-variants.{NewLineTooLong}
 use Rattle.faults.specs.declared.Outcome.{Outcome}
@@ -79,6 +79,30 @@ changes-does {k = k} {r = r} n text p h =
       fits = omega arith;
     }
 
+-- a change behind what was done, or nothing behind a refusal
+abbrev IsMade : Outcome → Type 0
+IsMade (Made k) = Unit {0}
+IsMade (Refused f k) = ⊥
+
+apart : {k j : ℕ} {fault : Fault} → Made k ≡ Refused fault j → ⊥
+apart e = subst IsMade e tt
+
+pub onward-made : {f : Work → Done} {b b₁ : List ℕ} {s r : Outcome} {k : ℕ} → s ≡ Made k → Changes f b k b₁ r → Onward f b s b₁ r
+onward-made {f} {b} {b₁} {s} {r} e p =
+    record {
+      made = λ j g. subst (λ (x : ℕ). Changes f b x b₁ r) (ap sizeOf (sym e ∙ g)) p;
+      refused = λ fault j g. absurd (apart (sym e ∙ g));
+    }
+
+pub onward-stop : {f : Work → Done} {b : List ℕ} {s : Outcome} {fault : Fault} {j : ℕ} → s ≡ Refused fault j → Onward f b s b s
+onward-stop e = record { made = λ k g. absurd (apart (sym g ∙ e)); refused = λ fault j g. (refl, refl) }
+
+pub does-onward : {f g : Work → Done} {n k : ℕ} {text b text₁ b₁ b₂ : List ℕ} (s : Outcome) {r : Outcome} → Does f n text b k text₁ b₁ s → Onward g b₁ s b₂ r → Does (λ w. f w >>= g) n text b k text₁ b₂ r
+does-onward {text₁ = text₁} (Made j) p q = does-then p refl (changes-does _ text₁ (q .made j refl) (p .fits))
+does-onward {f} {g} {n} {k} {text} {b} {text₁} {b₁} {b₂} (Refused fault j) p q =
+    let z = q .refused fault j refl in
+    subst (λ (o : Outcome). Does (λ w. f w >>= g) n text b k text₁ b₂ o) (sym (z .1)) (subst (λ (x : List ℕ). Does (λ w. f w >>= g) n text b k text₁ x (Refused fault j)) (sym (z .0)) (does-stop g p refl))
+
 pub changes-none : {b : List ℕ} {k : ℕ} → IsState b → Changes good b k b (Made k)
 changes-none s = record { comes = λ w h. (w, refl, record { out = refl; size = refl }, h); state = s; size = refl }
 
@@ -110,6 +134,9 @@ onto-end (b ∷ o) r = onto-end o (b ∷ r) ∙ sym (append-assoc (onto o []) (b
 
 joined : (l o : List ℕ) → onto (onto l o) [] ≡ onto o [] ++ l
 joined l o = ontos l o [] ∙ ap (onto o) (append-nil l) ∙ onto-end o l
+
+pub inserts-by : {bytes bytes₁ text text₁ : List ℕ} {n k : ℕ} {r : Outcome} → bytes ≡ bytes₁ → Inserts bytes n text k text₁ r → Inserts bytes₁ n text k text₁ r
+inserts-by {text = text} {text₁ = text₁} {n = n} {k = k} {r = r} e p = subst (λ (x : List ℕ). Inserts x n text k text₁ r) e p
 
 pub put-refused : {bytes text : List ℕ} {n k : ℕ} → Room text n k → 1054 - (n + k) < length bytes → Inserts bytes n text k text (Refused NewLineTooLong k)
 unfolding puts unless

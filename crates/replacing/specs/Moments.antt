@@ -1,17 +1,15 @@
 -- What the functions inside an occurrence promise: from one moment to the next.
-use Prim.Native.Nat.{ℕ, _+_, _-_, _≤_}
+use Prim.Native.Nat.{ℕ, _+_, _≤_}
 use mathlib.Core.Path.{_≡_}
 use mathlib.Core.List.{List, _++_}
 use lib.ListN.{length, take}
-use lib.Seq.{paste}
 use Rattle.macros.specs.Bounds.{mostLineBytes}
 use Rattle.macros.specs.Write.{digits}
-use Rattle.lines.specs.State.{State, currentEntry}
 use Rattle.lines.specs.Replacing.{Work, Done, puts}
 use Rattle.lines.specs.Line.{textOf}
 use Rattle.states.specs.Access.{Holds, IsState}
 use Rattle.replacing.specs.Contract.{doneOf, sizeOf}
-use Rattle.replacing.specs.Tags.{tagIn}
+use Rattle.faults.specs.declared.Fault.{Fault}
 use Rattle.faults.specs.declared.Outcome.{Outcome}
 use Rattle.faults.specs.declared.Outcome.the-variants.{Made, Refused}
 
@@ -47,22 +45,17 @@ pub record Changes (f : Work → Done) (b : List ℕ) (k : ℕ) (b′ : List ℕ
   pub state : IsState b′
   pub size : sizeOf r ≡ k
 
+-- the same behind an answer: where that is a refusal, nothing is done
+pub record Onward (f : Work → Done) (b : List ℕ) (s : Outcome) (b′ : List ℕ) (r : Outcome) : Type 0 where
+  pub made : (k : ℕ) → s ≡ Made k → Changes f b k b′ r
+  pub refused : (e : Fault) (k : ℕ) → s ≡ Refused e k → (b′ ≡ b) × (r ≡ s)
+
 -- the first n bytes are the digits
 pub record Digits (v : ℕ) (new : List ℕ) (n : ℕ) : Type 0 where
   pub count : n ≡ length (digits v)
   pub text : take n new ≡ digits v
 
--- the part that is handed out: a tag's text, or the current entry of a stack
-pub record Hands (pat ends line b : List ℕ) (code n : ℕ) (r : List ℕ) : Type 0 where
-  pub tag : code ≡ 41 → r ≡ tagIn line (n - 1) pat ends
-  pub entry : (code ≡ 41 → ⊥) → (st : State) → Holds b st → r ≡ currentEntry st n
-
 -- an answer with n bytes more in front of its own
 abbrev pub behind : ℕ → Outcome → Outcome
 behind n (Made k) = Made (n + k)
 behind n (Refused f k) = Refused f (n + k)
-
--- the text that an answer tells of stands behind the first n bytes
-pub record Joins (out : List ℕ) (n : ℕ) (text : List ℕ) (done : Outcome) (out′ : List ℕ) (r : Outcome) : Type 0 where
-  pub answer : r ≡ behind n done
-  pub bytes : out′ ≡ paste out n text (sizeOf done)

@@ -40,10 +40,17 @@ pub record Ended (pat ends : List ℕ) : Type 0 where
   pub few : length pat ≤ bodyBytes
   pub count : length ends ≡ bodyBytes
 
--- where the tag's text stands in any line
-pub record Spans (pat ends : List ℕ) (n from to : ℕ) : Type 0 where
-  pub text : (t : List ℕ) → tagIn t n pat ends ≡ slice from to t
-  pub inside : (z : ℕ) → ((i : ℕ) → getD ends i 0 ≤ z) → (from ≤ z) × (to ≤ z)
+-- where the text stands that f takes from any line, not beyond the ends
+pub record Spans (f : List ℕ → List ℕ) (ends : List ℕ) (from to : ℕ) : Type 0 where
+  pub text : (t : List ℕ) → f t ≡ slice from to t
+  pub ordered : from ≤ to
+  pub inside : (z : ℕ) → ((i : ℕ) → getD ends i 0 ≤ z) → to ≤ z
+
+-- a part of the line
+pub record Cut (line : List ℕ) (from to : ℕ) : Type 0 where
+  pub ordered : from ≤ to
+  pub inside : to ≤ length line
+  pub bytes : Bytes line
 
 -- what the texts of tags are taken from
 pub record Divided (pat ends line : List ℕ) : Type 0 where

@@ -1,85 +1,87 @@
 // Replacement and commands (01, part 4), from their items.
+use crate::calls::number_in;
 use crate::calls::set;
 use crate::calls::shift;
 use crate::calls::store;
+use crate::calls::text_in;
+use crate::tags::Span;
+use crate::tags::tag_of;
 use crate::texts::insert;
+use crate::texts::is_within;
 use faults::Outcome;
 ghost use mathlib.Core.Path.{_≡_};
-ghost use Prim.Native.Nat.{_≤_, _<_};
-ghost use lib.ListN.{getD};
+ghost use lib.Seq.{slice};
 ghost use Rattle.states.specs.Access.{IsState};
 ghost use Rattle.tables.specs.Actions.{actionSize};
-ghost use Rattle.replacing.specs.Tags.{Divided};
-ghost use Rattle.replacing.specs.Acting.{Fit, Fits, accessIn, callIn, actionIn, actIn};
+ghost use Rattle.replacing.specs.Tags.{Ended, Spans, Cut, Divided};
+ghost use Rattle.replacing.specs.Acting.{Fit, Fits, taggedIn, accessIn, actionIn, actsIn, actIn};
 ghost use Rattle.replacing.specs.Moments.{Room, Does};
 
-// The access of a call that may move: it inserts or stores.
+// An action without its moves: it inserts, stores or sets. Where it stores, the state is written, so that only the line's part is lent meanwhile.
 fn access(
-    pat: &[u8],
-    ends: &[u16],
     line: &[u8],
+    span: Span,
     t: &[u8],
     state: &mut [u8],
     base: usize,
     text: &mut [u8],
     k: usize,
 ) -> Outcome
-    requires { ⌜ Divided (now pat) (now ends) (now line) × Fit (now t) × (48 ≤ getD (now t) 0 0) × (getD (now t) 0 0 < 80) × IsState (now state) × Room (now text) base k ⌝ }
-    ensures { λ r. ⌜ Does (accessIn (now (line .entry)) (now (pat .entry)) (now (ends .entry)) (now (t .entry))) base (now (text .entry)) (now (state .entry)) k (now (text .exit)) (now (state .exit)) r ⌝ }
+    requires { ⌜ Cut (now line) (span .from) (span .to) × Fit (now t) × IsState (now state) × Room (now text) base k ⌝ }
+    ensures { λ r. ⌜ Does (accessIn (slice (span .from) (span .to) (now (line .entry))) (now (t .entry))) base (now (text .entry)) (now (state .entry)) k (now (text .exit)) (now (state .exit)) r ⌝ }
 {
-    if t[0] < 64 {
-        return insert(pat, ends, line, t, state, base, text, k);
+    let code = t[0];
+    let i = t[1];
+    if code < 64 {
+        return insert(line, span, t, state, base, text, k);
     }
-    store(pat, ends, line, t, state, k)
+    if code < 72 {
+        let from = span.from;
+        let to = span.to;
+        return store(state, i, &line[from..to], k);
+    }
+    if code < 80 {
+        return store(state, i, text_in(t), k);
+    }
+    set(state, code, i, number_in(t), k)
 }
 
 // "the pointer moves before or after the access"; the counter likewise.
-fn call(
-    pat: &[u8],
-    ends: &[u16],
-    line: &[u8],
-    t: &[u8],
-    state: &mut [u8],
-    base: usize,
-    text: &mut [u8],
-    k: usize,
-) -> Outcome
-    requires { ⌜ Divided (now pat) (now ends) (now line) × Fit (now t) × (48 ≤ getD (now t) 0 0) × (getD (now t) 0 0 < 80) × IsState (now state) × Room (now text) base k ⌝ }
-    ensures { λ r. ⌜ Does (callIn (now (line .entry)) (now (pat .entry)) (now (ends .entry)) (now (t .entry))) base (now (text .entry)) (now (state .entry)) k (now (text .exit)) (now (state .exit)) r ⌝ }
-{
-    let before = shift(state, t[0], t[1], 1, k);
-    let Outcome::Made(m) = before else {
-        return before;
-    };
-    let done = access(pat, ends, line, t, state, base, text, m);
-    let Outcome::Made(n) = done else {
-        return done;
-    };
-    shift(state, t[0], t[1], 3, n)
-}
-
-// A byte, `{n}` or a call.
 fn action(
-    pat: &[u8],
-    ends: &[u16],
     line: &[u8],
+    span: Span,
     t: &[u8],
     state: &mut [u8],
     base: usize,
     text: &mut [u8],
     k: usize,
 ) -> Outcome
-    requires { ⌜ Divided (now pat) (now ends) (now line) × Fit (now t) × IsState (now state) × Room (now text) base k ⌝ }
-    ensures { λ r. ⌜ Does (actionIn (now (line .entry)) (now (pat .entry)) (now (ends .entry)) (now (t .entry))) base (now (text .entry)) (now (state .entry)) k (now (text .exit)) (now (state .exit)) r ⌝ }
+    requires { ⌜ Cut (now line) (span .from) (span .to) × Fit (now t) × IsState (now state) × Room (now text) base k ⌝ }
+    ensures { λ r. ⌜ Does (actionIn (slice (span .from) (span .to) (now (line .entry))) (now (t .entry))) base (now (text .entry)) (now (state .entry)) k (now (text .exit)) (now (state .exit)) r ⌝ }
 {
     let code = t[0];
-    if code < 48 {
-        return insert(pat, ends, line, t, state, base, text, k);
+    let i = t[1];
+    let ready = shift(state, code, i, 1, Outcome::Made(k));
+    let Outcome::Made(m) = ready else {
+        return ready;
+    };
+    let done = access(line, span, t, state, base, text, m);
+    shift(state, code, i, 3, done)
+}
+
+// The span of the tag that the action takes: `{n}` or `&(n,i)`; any other takes none.
+fn span_of(pat: &[u8], ends: &[u16], t: &[u8]) -> Span
+    requires { ⌜ Ended (now pat) (now ends) × Fit (now t) ⌝ }
+    ensures { λ r. ⌜ Spans (λ l. taggedIn l (now (pat .entry)) (now (ends .entry)) (now (t .entry))) (now (ends .entry)) (r .from) (r .to) ⌝ }
+{
+    let code = t[0];
+    if code == 41 {
+        return tag_of(pat, ends, t[1]);
     }
-    if code < 80 {
-        return call(pat, ends, line, t, state, base, text, k);
+    if is_within(64, 71, code) {
+        return tag_of(pat, ends, t[3]);
     }
-    set(t, state, k)
+    Span { from: 0, to: 0 }
 }
 
 // The bytes that the action takes.
@@ -112,13 +114,14 @@ pub(crate) fn act(
     text: &mut [u8],
 ) -> Outcome
     requires { ⌜ Divided (now pat) (now ends) (now line) × Fits (now items) × IsState (now state) × Room (now text) base 0 ⌝ }
-    ensures { λ r. ⌜ Does (actIn (actionIn (now (line .entry)) (now (pat .entry)) (now (ends .entry))) 0 (now (items .entry))) base (now (text .entry)) (now (state .entry)) 0 (now (text .exit)) (now (state .exit)) r ⌝ }
+    ensures { λ r. ⌜ Does (actIn (actsIn (now (line .entry)) (now (pat .entry)) (now (ends .entry))) 0 (now (items .entry))) base (now (text .entry)) (now (state .entry)) 0 (now (text .exit)) (now (state .exit)) r ⌝ }
 {
     let mut k = 0;
     let mut at = 0;
     while at < items.len() {
         let t = &items[at..];
-        let done = action(pat, ends, line, t, state, base, text, k);
+        let span = span_of(pat, ends, t);
+        let done = action(line, span, t, state, base, text, k);
         let Outcome::Made(m) = done else {
             return done;
         };

@@ -3,118 +3,110 @@ use crate::setting::set_entry;
 use crate::setting::set_increment;
 use crate::setting::set_pointer;
 use crate::setting::set_value;
-use crate::tags::tag;
-use crate::texts::is_value;
+use crate::texts::is_within;
 use faults::Fault;
 use faults::Outcome;
 use states::increment;
 use states::pointer;
 use states::value;
 ghost use mathlib.Core.Path.{_≡_};
-ghost use Prim.Native.Nat.{_+_, _≤_, _<_};
+ghost use Prim.Native.Nat.{_≤_, _<_};
 ghost use lib.ListN.{length, getD};
 ghost use Rattle.macros.specs.Macro.Mark.{stack, counter};
-ghost use Rattle.macros.specs.Macro.Sign.{plus, minus};
-ghost use Rattle.macros.specs.Formed.{Bytes, Letter};
+ghost use Rattle.macros.specs.Bounds.{mostEntries, mostCounter};
+ghost use Rattle.macros.specs.Formed.{Between, Bytes, Letter};
 ghost use Rattle.lines.specs.Replacing.{moves, stores};
 ghost use Rattle.states.specs.Access.{IsState};
-ghost use Rattle.tables.specs.Actions.{numberIn};
-ghost use Rattle.replacing.specs.Tags.{Divided};
-ghost use Rattle.replacing.specs.Acting.{Fit, markIn, movesIn, storedIn, setsIn};
-ghost use Rattle.replacing.specs.Moments.{Changes};
+ghost use Rattle.tables.specs.Actions.{numberIn, textIn};
+ghost use Rattle.replacing.specs.Acting.{Fit, movedIn, signIn, moveIn, movesIn, setsIn};
+ghost use Rattle.replacing.specs.Moments.{Changes, Onward};
 
-// 34: "pointer past 20".
-fn raise_pointer(state: &mut [u8], i: u8, k: usize) -> Outcome
-    requires { ⌜ IsState (now state) × Letter i ⌝ }
-    ensures { λ r. ⌜ Changes (moves stack plus i) (now (state .entry)) k (now (state .exit)) r ⌝ }
+fn wide(x: u8) -> u32
+    ensures { λ r. ⌜ (r ≡ x) × (r ≤ 255) ⌝ }
 {
-    let n = pointer(state, i);
-    if 20 <= n {
-        return Outcome::Refused(Fault::PointerTooHigh, k);
-    }
-    set_pointer(state, i, n + 1);
-    Outcome::Made(k)
+    x as u32
 }
 
 // "A pointer or counter that would fall below 1 is 1."
-fn lower_pointer(state: &mut [u8], i: u8, k: usize) -> Outcome
-    requires { ⌜ IsState (now state) × Letter i ⌝ }
-    ensures { λ r. ⌜ Changes (moves stack minus i) (now (state .entry)) k (now (state .exit)) r ⌝ }
+fn moved(n: u32, by: u32, up: bool) -> u32
+    requires { ⌜ (n ≤ mostCounter) × (by ≤ mostCounter) ⌝ }
+    ensures { λ r. ⌜ r ≡ movedIn n by up ⌝ }
 {
-    let n = pointer(state, i);
-    if 1 < n {
-        set_pointer(state, i, n - 1);
-        return Outcome::Made(k);
+    if up {
+        return n + by;
     }
-    set_pointer(state, i, 1);
+    if by < n {
+        return n - by;
+    }
+    1
+}
+
+// 34: "pointer past 20".
+fn move_pointer(state: &mut [u8], i: u8, up: bool, k: usize) -> Outcome
+    requires { ⌜ IsState (now state) × Letter i ⌝ }
+    ensures { λ r. ⌜ Changes (moves stack (signIn up) i) (now (state .entry)) k (now (state .exit)) r ⌝ }
+{
+    let n = moved(wide(pointer(state, i)), 1, up);
+    if 20 < n {
+        return Outcome::Refused(Fault::PointerTooHigh, k);
+    }
+    set_pointer(state, i, n as u8);
     Outcome::Made(k)
 }
 
 // 35: "counter past its end".
-fn raise_value(state: &mut [u8], i: u8, k: usize) -> Outcome
+fn move_value(state: &mut [u8], i: u8, up: bool, k: usize) -> Outcome
     requires { ⌜ IsState (now state) × Letter i ⌝ }
-    ensures { λ r. ⌜ Changes (moves counter plus i) (now (state .entry)) k (now (state .exit)) r ⌝ }
+    ensures { λ r. ⌜ Changes (moves counter (signIn up) i) (now (state .entry)) k (now (state .exit)) r ⌝ }
 {
-    let n = value(state, i);
-    let by = increment(state, i);
-    if 999999999 - n < by {
+    let n = moved(value(state, i), increment(state, i), up);
+    if 999999999 < n {
         return Outcome::Refused(Fault::CounterTooHigh, k);
     }
-    set_value(state, i, n + by);
+    set_value(state, i, n);
     Outcome::Made(k)
 }
 
-fn lower_value(state: &mut [u8], i: u8, k: usize) -> Outcome
-    requires { ⌜ IsState (now state) × Letter i ⌝ }
-    ensures { λ r. ⌜ Changes (moves counter minus i) (now (state .entry)) k (now (state .exit)) r ⌝ }
+// The move of an action's code; that of an action that moves nothing is 0.
+fn move_of(code: u8) -> u8
+    ensures { λ r. ⌜ (r ≡ moveIn code) × (0 < r → 48 ≤ code) ⌝ }
 {
-    let n = value(state, i);
-    let by = increment(state, i);
-    if by < n {
-        set_value(state, i, n - by);
-        return Outcome::Made(k);
+    if is_within(48, 79, code) {
+        return code % 8;
     }
-    set_value(state, i, 1);
+    0
+}
+
+// The move before the access, where first is 1, or after it, where first is 3. Behind a refusal nothing moves.
+pub(crate) fn shift(state: &mut [u8], code: u8, i: u8, first: u8, done: Outcome) -> Outcome
+    requires { ⌜ IsState (now state) × (1 ≤ first) × (first ≤ 3) × (48 ≤ code → Letter i) ⌝ }
+    ensures { λ r. ⌜ Onward (movesIn first code i) (now (state .entry)) done (now (state .exit)) r ⌝ }
+{
+    let Outcome::Made(k) = done else {
+        return done;
+    };
+    let m = move_of(code);
+    let up = m == first;
+    if up | (m == first + 1) {
+        if is_within(56, 63, code) {
+            return move_value(state, i, up, k);
+        }
+        return move_pointer(state, i, up, k);
+    }
     Outcome::Made(k)
 }
 
-fn raise(state: &mut [u8], code: u8, i: u8, k: usize) -> Outcome
-    requires { ⌜ IsState (now state) × Letter i ⌝ }
-    ensures { λ r. ⌜ Changes (moves (markIn code) plus i) (now (state .entry)) k (now (state .exit)) r ⌝ }
+// The text of `&(i:text:)`.
+pub(crate) fn text_in(t: &[u8]) -> &[u8]
+    requires { ⌜ Fit (now t) × (72 ≤ getD (now t) 0 0) × (getD (now t) 0 0 < 80) ⌝ }
+    ensures { λ r. ⌜ now r ≡ textIn (now (t .entry)) ⌝ }
 {
-    if is_value(code) {
-        return raise_value(state, i, k);
-    }
-    raise_pointer(state, i, k)
-}
-
-fn lower(state: &mut [u8], code: u8, i: u8, k: usize) -> Outcome
-    requires { ⌜ IsState (now state) × Letter i ⌝ }
-    ensures { λ r. ⌜ Changes (moves (markIn code) minus i) (now (state .entry)) k (now (state .exit)) r ⌝ }
-{
-    if is_value(code) {
-        return lower_value(state, i, k);
-    }
-    lower_pointer(state, i, k)
-}
-
-// The move before the access, where first is 1, or after it, where first is 3.
-pub(crate) fn shift(state: &mut [u8], code: u8, i: u8, first: u8, k: usize) -> Outcome
-    requires { ⌜ IsState (now state) × Letter i × (first ≤ 3) ⌝ }
-    ensures { λ r. ⌜ Changes (movesIn first code i) (now (state .entry)) k (now (state .exit)) r ⌝ }
-{
-    let m = code % 8;
-    if m == first {
-        return raise(state, code, i, k);
-    }
-    if m == first + 1 {
-        return lower(state, code, i, k);
-    }
-    Outcome::Made(k)
+    let end = 4 + t[3] as usize;
+    &t[4..end]
 }
 
 // 33: "a stored tag over 50 bytes".
-fn store_text(state: &mut [u8], i: u8, text: &[u8], k: usize) -> Outcome
+pub(crate) fn store(state: &mut [u8], i: u8, text: &[u8], k: usize) -> Outcome
     requires { ⌜ IsState (now state) × Letter i × Bytes (now text) ⌝ }
     ensures { λ r. ⌜ Changes (stores i (now (text .entry))) (now (state .entry)) k (now (state .exit)) r ⌝ }
 {
@@ -125,33 +117,8 @@ fn store_text(state: &mut [u8], i: u8, text: &[u8], k: usize) -> Outcome
     Outcome::Made(k)
 }
 
-// `&(n,i)` and `&(i:text:)`. The state is written, so that only the line's part is lent meanwhile.
-pub(crate) fn store(
-    pat: &[u8],
-    ends: &[u16],
-    line: &[u8],
-    t: &[u8],
-    state: &mut [u8],
-    k: usize,
-) -> Outcome
-    requires { ⌜ Divided (now pat) (now ends) (now line) × Fit (now t) × (64 ≤ getD (now t) 0 0) × (getD (now t) 0 0 < 80) × IsState (now state) ⌝ }
-    ensures { λ r. ⌜ Changes (stores (getD (now (t .entry)) 1 0) (storedIn (now (line .entry)) (now (pat .entry)) (now (ends .entry)) (now (t .entry)))) (now (state .entry)) k (now (state .exit)) r ⌝ }
-{
-    if t[0] < 72 {
-        return store_text(state, t[1], tag(pat, ends, line, t[3]), k);
-    }
-    let end = 4 + t[3] as usize;
-    store_text(state, t[1], &t[4..end], k)
-}
-
-fn wide(x: u8) -> u32
-    ensures { λ r. ⌜ (r ≡ x) × (r ≤ 255) ⌝ }
-{
-    x as u32
-}
-
 // The number in four bytes, low byte first.
-fn number_in(t: &[u8]) -> u32
+pub(crate) fn number_in(t: &[u8]) -> u32
     requires { ⌜ 6 ≤ length (now t) ⌝ }
     ensures { λ r. ⌜ r ≡ numberIn (now (t .entry)) ⌝ }
 {
@@ -159,19 +126,18 @@ fn number_in(t: &[u8]) -> u32
 }
 
 // `&(i=n)`, `#(i=n)` and `#(i,n)`.
-pub(crate) fn set(t: &[u8], state: &mut [u8], k: usize) -> Outcome
-    requires { ⌜ Fit (now t) × (80 ≤ getD (now t) 0 0) × IsState (now state) ⌝ }
-    ensures { λ r. ⌜ Changes (setsIn (now (t .entry))) (now (state .entry)) k (now (state .exit)) r ⌝ }
+pub(crate) fn set(state: &mut [u8], code: u8, i: u8, n: u32, k: usize) -> Outcome
+    requires { ⌜ IsState (now state) × Letter i × (code < 88 → Between 1 mostEntries n) × (88 ≤ code → Between 1 mostCounter n) ⌝ }
+    ensures { λ r. ⌜ Changes (setsIn code i n) (now (state .entry)) k (now (state .exit)) r ⌝ }
 {
-    let n = number_in(t);
-    if t[0] < 88 {
-        set_pointer(state, t[1], n as u8);
+    if code < 88 {
+        set_pointer(state, i, n as u8);
         return Outcome::Made(k);
     }
-    if t[0] < 96 {
-        set_value(state, t[1], n);
+    if code < 96 {
+        set_value(state, i, n);
         return Outcome::Made(k);
     }
-    set_increment(state, t[1], n);
+    set_increment(state, i, n);
     Outcome::Made(k)
 }

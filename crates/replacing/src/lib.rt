@@ -14,7 +14,7 @@ ghost use lib.ListN.{length};
 ghost use Rattle.macros.specs.Bounds.{mostLineBytes};
 ghost use Rattle.tables.specs.Check.{twoAt};
 ghost use Rattle.replacing.specs.Contract.{Lent, Occurs, sizeOf};
-ghost use Rattle.replacing.specs.Moments.{Joins};
+ghost use Rattle.replacing.specs.Moments.{behind as behindOf};
 
 // The length in two bytes of a slot's header.
 fn size_at(slot: &[u8], i: usize) -> usize
@@ -26,20 +26,24 @@ fn size_at(slot: &[u8], i: usize) -> usize
     low + 256 * high
 }
 
-// The occurrence's text, so far as it came, joins the new line.
-fn append(out: &mut [u8], size: usize, text: &[u8], done: Outcome) -> Outcome
-    requires { ⌜ (length (now out) ≡ mostLineBytes) × (length (now text) ≡ mostLineBytes) × (size + sizeOf done ≤ mostLineBytes) ⌝ }
-    ensures { λ r. ⌜ Joins (now (out .entry)) size (now (text .entry)) done (now (out .exit)) r ⌝ }
+// The bytes that an answer tells of.
+fn size_of(done: Outcome) -> usize
+    ensures { λ r. ⌜ r ≡ sizeOf done ⌝ }
 {
     match done {
-        Outcome::Made(k) => {
-            copy(out, size, &text[..k]);
-            Outcome::Made(size + k)
-        }
-        Outcome::Refused(fault, k) => {
-            copy(out, size, &text[..k]);
-            Outcome::Refused(fault, size + k)
-        }
+        Outcome::Made(k) => k,
+        Outcome::Refused(_, k) => k,
+    }
+}
+
+// The answer with size bytes in front of its own.
+fn behind(done: Outcome, size: usize) -> Outcome
+    requires { ⌜ size + sizeOf done ≤ mostLineBytes ⌝ }
+    ensures { λ r. ⌜ r ≡ behindOf size done ⌝ }
+{
+    match done {
+        Outcome::Made(k) => Outcome::Made(size + k),
+        Outcome::Refused(fault, k) => Outcome::Refused(fault, size + k),
     }
 }
 
@@ -69,5 +73,7 @@ pub fn occurrence(
         size,
         &mut text,
     );
-    append(out, size, &text, done)
+    let k = size_of(done);
+    copy(out, size, &text[..k]);
+    behind(done, size)
 }

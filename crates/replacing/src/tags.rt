@@ -1,13 +1,16 @@
 // Tags (01, part 3): where the text of a tag stands in the line.
 ghost use mathlib.Core.Path.{_≡_};
 ghost use Prim.Native.Nat.{_-_, _≤_};
+ghost use lib.Dec.{ltb};
 ghost use lib.ListN.{drop};
+ghost use Rattle.macros.specs.Macro.{pick};
 ghost use Rattle.tables.specs.Form.{bodyBytes};
-ghost use Rattle.replacing.specs.Tags.{closeIn, tagIn, Ended, Spans, Divided};
+ghost use Rattle.replacing.specs.Tags.{closeIn, tagIn, Ended, Spans};
 
-struct Span {
-    from: usize,
-    to: usize,
+// A part of the line: from a place up to another.
+pub(crate) struct Span {
+    pub(crate) from: usize,
+    pub(crate) to: usize,
 }
 
 fn wide(x: u16) -> usize
@@ -43,18 +46,27 @@ fn close_of(pat: &[u8], ends: &[u16], first: usize) -> usize
     0
 }
 
-// The span of the tag that has n left braces before its own.
-fn tag_of(pat: &[u8], ends: &[u16], n: usize) -> Span
+fn least(a: usize, b: usize) -> usize
+    ensures { λ r. ⌜ r ≡ pick (ltb b a) b a ⌝ }
+{
+    if b < a {
+        return b;
+    }
+    a
+}
+
+// The span of tag n, empty where it would end before its start. Tags count from 1.
+pub(crate) fn tag_of(pat: &[u8], ends: &[u16], n: u8) -> Span
     requires { ⌜ Ended (now pat) (now ends) ⌝ }
-    ensures { λ r. ⌜ Spans (now (pat .entry)) (now (ends .entry)) n (r .from) (r .to) ⌝ }
+    ensures { λ r. ⌜ Spans (λ l. tagIn l (n - 1) (now (pat .entry)) (now (ends .entry))) (now (ends .entry)) (r .from) (r .to) ⌝ }
 {
     let mut left = n;
     let mut i = 0;
     while i + 1 < pat.len() {
         if pat[i] == 1 {
-            if left < 1 {
-                let from = wide(ends[i]);
+            if left < 2 {
                 let to = close_of(pat, ends, i + 2);
+                let from = least(wide(ends[i]), to);
                 return Span { from, to };
             }
             left -= 1;
@@ -64,28 +76,4 @@ fn tag_of(pat: &[u8], ends: &[u16], n: usize) -> Span
         }
     }
     Span { from: 0, to: 0 }
-}
-
-// Tags count from 1.
-fn before(n: u8) -> usize
-    ensures { λ r. ⌜ r ≡ n - 1 ⌝ }
-{
-    if n < 1 {
-        return 0;
-    }
-    (n - 1) as usize
-}
-
-// The text of tag n, empty where it would end before its start.
-pub(crate) fn tag<'a>(pat: &[u8], ends: &[u16], line: &'a [u8], n: u8) -> &'a [u8]
-    requires { ⌜ Divided (now pat) (now ends) (now line) ⌝ }
-    ensures { λ r. ⌜ now r ≡ tagIn (now (line .entry)) (n - 1) (now (pat .entry)) (now (ends .entry)) ⌝ }
-{
-    let s = tag_of(pat, ends, before(n));
-    let from = s.from;
-    let to = s.to;
-    if to < from {
-        return &line[to..to];
-    }
-    &line[from..to]
 }

@@ -1,20 +1,23 @@
 // What an action inserts (01, part 4).
-use crate::tags::tag;
+use crate::tags::Span;
 use faults::Fault;
 use faults::Outcome;
 use states::entry;
 use states::value;
 ghost use mathlib.Core.Path.{_≡_};
 ghost use Prim.Native.Nat.{_+_, _≤_, _<_};
-ghost use lib.ListN.{length, getD};
-ghost use lib.Seq.{paste};
-ghost use Rattle.macros.specs.Macro.{within};
+ghost use lib.Dec.{eqb};
+ghost use lib.ListN.{length};
+ghost use lib.Seq.{paste, slice};
+ghost use Rattle.macros.specs.Bounds.{mostCounter};
+ghost use Rattle.macros.specs.Macro.{pick, within};
 ghost use Rattle.macros.specs.Formed.{Letter};
 ghost use Rattle.macros.specs.Write.{digits};
-ghost use Rattle.states.specs.Access.{IsState};
-ghost use Rattle.replacing.specs.Tags.{Divided};
+ghost use Rattle.lines.specs.State.{currentEntry};
+ghost use Rattle.states.specs.Access.{IsState, OfState};
+ghost use Rattle.replacing.specs.Tags.{Cut};
 ghost use Rattle.replacing.specs.Acting.{Fit, insertsIn};
-ghost use Rattle.replacing.specs.Moments.{Room, Inserts, Does, Digits, Hands};
+ghost use Rattle.replacing.specs.Moments.{Room, Inserts, Does, Digits};
 
 // The bytes of a text from a place on.
 pub(crate) fn copy(out: &mut [u8], at: usize, bytes: &[u8])
@@ -61,47 +64,55 @@ fn put_digits(out: &mut [u8], v: u32) -> usize
     n + 1
 }
 
-// Whether a call's code is of a counter that it inserts.
-pub(crate) fn is_value(code: u8) -> bool
-    ensures { λ r. ⌜ r ≡ within 56 63 code ⌝ }
+pub(crate) fn is_within(a: u8, z: u8, b: u8) -> bool
+    ensures { λ r. ⌜ r ≡ within a z b ⌝ }
 {
-    (56 <= code) & (code <= 63)
+    (a <= b) & (b <= z)
+}
+
+// `#(i)`.
+fn put_value(v: u32, base: usize, text: &mut [u8], k: usize) -> Outcome
+    requires { ⌜ (v ≤ mostCounter) × Room (now text) base k ⌝ }
+    ensures { λ r. ⌜ Inserts (digits v) base (now (text .entry)) k (now (text .exit)) r ⌝ }
+{
+    let mut figures = [0u8; 9];
+    let n = put_digits(&mut figures, v);
+    put(text, base, k, &figures[..n])
 }
 
 // "The text of a tag or stack call is handed out as a part of the line or of the stack memory."
-fn part<'a>(pat: &[u8], ends: &[u16], line: &'a [u8], state: &'a [u8], code: u8, n: u8) -> &'a [u8]
-    requires { ⌜ Divided (now pat) (now ends) (now line) × IsState (now state) × ((code ≡ 41 → ⊥) → Letter n) ⌝ }
-    ensures { λ r. ⌜ Hands (now (pat .entry)) (now (ends .entry)) (now (line .entry)) (now (state .entry)) code n (now r) ⌝ }
+fn part<'a>(line: &'a [u8], span: Span, state: &'a [u8], code: u8, i: u8) -> &'a [u8]
+    requires { ⌜ Cut (now line) (span .from) (span .to) × IsState (now state) × ((code ≡ 41 → ⊥) → Letter i) ⌝ }
+    ensures { λ r. ⌜ OfState (now (state .entry)) (λ st. now r ≡ pick (eqb code 41) (slice (span .from) (span .to) (now (line .entry))) (currentEntry st i)) ⌝ }
 {
     if code == 41 {
-        return tag(pat, ends, line, n);
+        let from = span.from;
+        let to = span.to;
+        return &line[from..to];
     }
-    entry(state, n)
+    entry(state, i)
 }
 
 // A byte, `{n}`, `&(i)` or `#(i)`: what it stands for is inserted.
 pub(crate) fn insert<'a>(
-    pat: &[u8],
-    ends: &[u16],
     line: &'a [u8],
+    span: Span,
     t: &[u8],
     state: &'a [u8],
     base: usize,
     text: &mut [u8],
     k: usize,
 ) -> Outcome
-    requires { ⌜ Divided (now pat) (now ends) (now line) × Fit (now t) × (getD (now t) 0 0 < 64) × IsState (now state) × Room (now text) base k ⌝ }
-    ensures { λ r. ⌜ Does (insertsIn (now (line .entry)) (now (pat .entry)) (now (ends .entry)) (now (t .entry))) base (now (text .entry)) (now (state .entry)) k (now (text .exit)) (now (state .entry)) r ⌝ }
+    requires { ⌜ Cut (now line) (span .from) (span .to) × Fit (now t) × IsState (now state) × Room (now text) base k ⌝ }
+    ensures { λ r. ⌜ Does (insertsIn (slice (span .from) (span .to) (now (line .entry))) (now (t .entry))) base (now (text .entry)) (now (state .entry)) k (now (text .exit)) (now (state .entry)) r ⌝ }
 {
     let code = t[0];
     let i = t[1];
     if code == 40 {
         return put(text, base, k, &t[1..2]);
     }
-    if is_value(code) {
-        let mut figures = [0u8; 9];
-        let n = put_digits(&mut figures, value(state, i));
-        return put(text, base, k, &figures[..n]);
+    if is_within(56, 63, code) {
+        return put_value(value(state, i), base, text, k);
     }
-    put(text, base, k, part(pat, ends, line, state, code, i))
+    put(text, base, k, part(line, span, state, code, i))
 }

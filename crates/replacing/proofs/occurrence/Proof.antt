@@ -1,5 +1,9 @@
-use mathlib.Core.Path.{refl}
+use Prim.Native.Nat.{ℕ}
+use mathlib.Core.Path.{refl, sym, ap, _∙_}
 use native.Mathlib.Omega.{arith}
+use lib.ListN.{length-take}
+use lib.Seq.{paste, length-take-le}
+use Rattle.replacing.proofs.Inserting.{copied}
 use Rattle.replacing.proofs.Occurring.{slot-size, parts-fit, is-divided, are-fit, occurs}
 use borrow.Author.Needs.{needs}
 use Rattle.replacing.proofs.occurrence.Statement.{statement}
@@ -47,11 +51,20 @@ slice-aggregate-act c = search needs
 act-requires : tie.Need-act-requires
 act-requires c κs = (is-divided (c .before .before .before .before .before .before .before .before .before .before .before .before .pre) (c .before .before .before .before .before .before .size-at .ensures), are-fit (c .before .before .before .before .before .before .before .before .before .before .before .before .pre) (c .before .before .before .before .before .before .size-at .ensures) (c .before .before .before .before .before .size-at2 .ensures) (c .before .before .before .before .size-at3 .ensures), c .before .before .before .before .before .before .before .before .before .before .before .before .pre .state, record { room = refl; fits = omega (arith, c .before .before .before .before .before .before .before .before .before .before .before .before .pre .sized) })
 
-slice-aggregate-append : tie.Need-slice-aggregate-append
-slice-aggregate-append c = search needs
+size-of-requires : tie.Need-size-of-requires
+size-of-requires c κs = search needs
 
-append-requires : tie.Need-append-requires
-append-requires c κs = (c .before .before .before .before .before .before .before .before .before .before .before .before .before .before .before .before .before .before .pre .room, c .before .before .before .before .before .act .kept .1 .1 .1 .1 .1 .1 .0, c .before .before .before .before .before .act .ensures .fits)
+array-share-prefix-text : tie.Need-array-share-prefix-text
+array-share-prefix-text c = omega (arith, c .before .size-of .ensures, c .before .before .before .before .before .act .ensures .fits)
+
+slice-aggregate-copy : tie.Need-slice-aggregate-copy
+slice-aggregate-copy c = sym (length-take-le (c .before .before .size-of .result) (c .before .before .before .before .before .before .act .last .1 .1 .1 .1 .1 .1 .0) (omega (arith, c .before .before .size-of .ensures, c .before .before .before .before .before .before .act .ensures .fits, (c .before .before .before .before .before .before .act .kept .1 .1 .1 .1 .1 .1 .0))))
+
+copy-requires : tie.Need-copy-requires
+copy-requires c κs = simp length-take (omega (arith, c .before .before .size-of .ensures, c .before .before .before .before .before .before .act .ensures .fits, c .before .before .before .before .before .before .before .before .before .before .before .before .before .before .before .before .before .before .before .pre .room, (c .before .before .before .before .before .before .act .kept .1 .1 .1 .1 .1 .1 .0)))
+
+behind-requires : tie.Need-behind-requires
+behind-requires c κs = c .before .before .before .before .before .before .before .before .before .act .ensures .fits
 
 same-length : tie.Need-same-length
 same-length c = search needs
@@ -60,7 +73,7 @@ same-length-2 : tie.Need-same-length-2
 same-length-2 c = search needs
 
 returns : tie.Need-returns
-returns c = occurs (c .before .before .before .before .before .before .before .before .before .before .before .before .before .before .before .before .before .before .before .before .before .pre) (c .before .before .before .before .before .before .before .before .before .before .before .before .before .before .before .size-at .ensures) (c .before .before .before .before .before .before .before .before .before .before .before .before .before .before .size-at2 .ensures) (c .before .before .before .before .before .before .before .before .before .before .before .before .before .size-at3 .ensures) (c .before .before .before .before .before .before .before .before .act .ensures) (c .before .before .before .before .before .before .before .before .act .kept .1 .1 .1 .1 .1 .1 .0) (c .before .before .append .ensures)
+returns c = occurs (c .before .before .before .before .before .before .before .before .before .before .before .before .before .before .before .before .before .before .before .before .before .before .before .pre) (c .before .before .before .before .before .before .before .before .before .before .before .before .before .before .before .before .before .size-at .ensures) (c .before .before .before .before .before .before .before .before .before .before .before .before .before .before .before .before .size-at2 .ensures) (c .before .before .before .before .before .before .before .before .before .before .before .before .before .before .before .size-at3 .ensures) (c .before .before .before .before .before .before .before .before .before .before .act .ensures) (c .before .before .before .before .before .before .before .before .before .before .act .kept .1 .1 .1 .1 .1 .1 .0) (c .behind .ensures) (copied (c .before .before .before .before .before .before .before .before .before .before .before .before .before .before .before .before .before .before .before .before .before .before .before .args .out .now) _ (c .before .before .before .before .before .before .before .before .before .before .act .last .1 .1 .1 .1 .1 .1 .0) (c .before .before .before .before .before .before .before .before .before .before .before .before .before .before .before .before .before .before .before .before .before .before .before .args .size) (c .before .before .before .before .before .before .size-of .result) (omega (arith, c .before .before .before .before .before .before .size-of .ensures, c .before .before .before .before .before .before .before .before .before .before .act .ensures .fits, (c .before .before .before .before .before .before .before .before .before .before .act .kept .1 .1 .1 .1 .1 .1 .0))) (c .before .before .before .copy .ensures) ∙ ap (λ (k : ℕ). paste (c .before .before .before .before .before .before .before .before .before .before .before .before .before .before .before .before .before .before .before .before .before .before .before .args .out .now) (c .before .before .before .before .before .before .before .before .before .before .before .before .before .before .before .before .before .before .before .before .before .before .before .args .size) (c .before .before .before .before .before .before .before .before .before .before .act .last .1 .1 .1 .1 .1 .1 .0) k) (c .before .before .before .before .before .before .size-of .ensures))
 
 pub occurrence-spec : {M : Type 1} → statement M
 occurrence-spec =
@@ -80,8 +93,11 @@ occurrence-spec =
     part-act-end-2
     slice-aggregate-act
     act-requires
-    slice-aggregate-append
-    append-requires
+    size-of-requires
+    array-share-prefix-text
+    slice-aggregate-copy
+    copy-requires
+    behind-requires
     same-length
     same-length-2
     returns)

@@ -1,59 +1,60 @@
+use mathlib.Core.Path.{refl}
 use native.Mathlib.Omega.{arith}
 use Rattle.tables.proofs.Actions.{some-size}
-use Rattle.replacing.proofs.Inserting.{action-insert, action-call, action-set}
+use Rattle.replacing.proofs.Inserting.{letter-of, changes-room, action-before, action-after}
 use borrow.Author.Needs.{needs}
 use Rattle.replacing.proofs.actions.action.Statement.{statement}
 use Rattle.replacing.proofs.actions.action.Tie as tie
 
 shared-slice-read-code : tie.Need-shared-slice-read-code
-shared-slice-read-code c = omega (arith, some-size (c .before .before .before .before .before .before .before .args .t .now), c .before .before .before .before .before .before .before .pre .1 .held)
+shared-slice-read-code c = omega (arith, some-size (c .before .before .before .before .before .args .t .now), c .before .before .before .before .before .pre .1 .held)
 
-insert-requires : tie.Need-insert-requires
-insert-requires c κs = (c .before .before .before .before .before .before .before .before .before .before .pre .0, c .before .before .before .before .before .before .before .before .before .before .pre .1, omega (arith, c .before .before .if1 .taken), c .before .before .before .before .before .before .before .before .before .before .pre .2, c .before .before .before .before .before .before .before .before .before .before .pre .3)
+shared-slice-read-i : tie.Need-shared-slice-read-i
+shared-slice-read-i c = omega (arith, some-size (c .before .before .before .before .before .before .args .t .now), c .before .before .before .before .before .before .pre .1 .held)
+
+shift-requires : tie.Need-shift-requires
+shift-requires c κs = (c .before .before .before .before .before .before .before .pre .2, omega arith, omega arith, (λ h. letter-of (c .before .before .before .before .before .before .before .args .t .now) (c .before .before .before .before .before .before .before .pre .1) h))
+
+enum-known-ready : tie.Need-enum-known-ready
+enum-known-ready c = search needs
+
+enum-told : tie.Need-enum-told
+enum-told c = search needs
 
 same-length : tie.Need-same-length
 same-length c = search needs
 
+returns : tie.Need-returns
+returns c = action-before _ (c .before .before .before .before .before .before .before .before .before .before .before .before .args .t .now) (c .before .before .before .before .before .before .before .before .before .before .before .before .pre .3 .fits) (c .before .before .before .before .shift .ensures .made (c .before .before .before .before .before .before .before .before .before .before .before .before .args .k) refl) (c .enum-told .given .1)
+
+access-requires : tie.Need-access-requires
+access-requires c κs = (c .before .before .before .before .before .before .before .before .before .before .before .before .before .before .before .pre .0, c .before .before .before .before .before .before .before .before .before .before .before .before .before .before .before .pre .1, (c .before .before .before .before .before .before .before .shift .ensures .made (c .before .before .before .before .before .before .before .before .before .before .before .before .before .before .before .args .k) refl) .state, record { room = c .before .before .before .before .before .before .before .before .before .before .before .before .before .before .before .pre .3 .room; fits = changes-room (c .before .before .before .before .before .before .before .before .before .before .before .before .before .before .before .args .base) (c .before .before .before .before .before .before .before .before .before .before .before .before .before .before .before .pre .3 .fits) (c .before .before .before .before .before .before .before .shift .ensures .made (c .before .before .before .before .before .before .before .before .before .before .before .before .before .before .before .args .k) refl) (c .before .before .before .ready .given .1) })
+
+shift-requires-2 : tie.Need-shift-requires-2
+shift-requires-2 c κs = (c .before .before .before .before .before .access .ensures .state, omega arith, omega arith, (λ h. letter-of (c .before .before .before .before .before .before .before .before .before .before .before .before .before .before .before .before .before .before .before .before .before .args .t .now) (c .before .before .before .before .before .before .before .before .before .before .before .before .before .before .before .before .before .before .before .before .before .pre .1) h))
+
 same-length-2 : tie.Need-same-length-2
 same-length-2 c = search needs
-
-returns : tie.Need-returns
-returns c = action-insert (c .before .before .before .before .before .before .before .before .before .before .before .before .before .args .line .now) (c .before .before .before .before .before .before .before .before .before .before .before .before .before .args .pat .now) (c .before .before .before .before .before .before .before .before .before .before .before .before .before .args .ends .now) (c .before .before .before .before .before .before .before .before .before .before .before .before .before .args .t .now) (c .before .before .before .before .before .if1 .taken) (c .before .before .insert .ensures)
-
-call-requires : tie.Need-call-requires
-call-requires c κs = (c .before .before .before .before .before .before .before .before .before .before .before .pre .0, c .before .before .before .before .before .before .before .before .before .before .before .pre .1, c .before .before .before .if1 .left, c .before .before .if2 .taken, c .before .before .before .before .before .before .before .before .before .before .before .pre .2, c .before .before .before .before .before .before .before .before .before .before .before .pre .3)
 
 same-length-3 : tie.Need-same-length-3
 same-length-3 c = search needs
 
-same-length-4 : tie.Need-same-length-4
-same-length-4 c = search needs
-
 returns-2 : tie.Need-returns-2
-returns-2 c = action-call (c .before .before .before .before .before .before .before .before .before .before .before .before .before .before .before .before .args .line .now) (c .before .before .before .before .before .before .before .before .before .before .before .before .before .before .before .before .args .pat .now) (c .before .before .before .before .before .before .before .before .before .before .before .before .before .before .before .before .args .ends .now) (c .before .before .before .before .before .before .before .before .before .before .before .before .before .before .before .before .args .t .now) (c .before .before .before .before .before .before .before .before .if1 .left) (c .before .before .before .before .before .before .before .if2 .taken) (c .before .before .before .before .call .ensures)
-
-set-requires : tie.Need-set-requires
-set-requires c κs = (c .before .before .before .before .before .before .before .before .before .before .pre .1, c .before .if2 .left, c .before .before .before .before .before .before .before .before .before .before .pre .2)
-
-same-length-5 : tie.Need-same-length-5
-same-length-5 c = search needs
-
-returns-3 : tie.Need-returns-3
-returns-3 c = action-set (c .before .before .before .before .before .before .before .before .before .before .before .before .before .args .line .now) (c .before .before .before .before .before .before .before .before .before .before .before .before .before .args .pat .now) (c .before .before .before .before .before .before .before .before .before .before .before .before .before .args .ends .now) (c .before .before .before .before .before .before .before .before .before .before .before .before .before .args .t .now) (c .before .before .before .before .if2 .left) (c .before .before .before .before .before .before .before .before .before .before .before .before .before .pre .3 .fits) (c .before .before .set .ensures)
+returns-2 c = action-after _ (c .before .before .before .before .before .before .before .before .before .before .before .before .before .before .before .before .before .before .before .before .before .before .before .before .args .t .now) (c .before .before .before .before .before .before .before .before .before .before .before .before .before .before .before .before .before .before .before .before .before .before .before .before .pre .3 .fits) (c .before .before .before .before .before .before .before .before .before .before .before .before .before .before .before .before .shift .ensures .made (c .before .before .before .before .before .before .before .before .before .before .before .before .before .before .before .before .before .before .before .before .before .before .before .before .args .k) refl) (c .before .before .before .before .before .before .before .before .before .before .before .before .ready .given .1) (c .before .before .before .before .before .before .before .before .access .ensures) (c .before .before .shift2 .ensures)
 
 pub action-spec : {M : Type 1} → statement M
 action-spec =
     tie.close
     (tie.spec
     shared-slice-read-code
-    insert-requires
+    shared-slice-read-i
+    shift-requires
+    enum-known-ready
+    enum-told
     same-length
-    same-length-2
     returns
-    call-requires
+    access-requires
+    shift-requires-2
+    same-length-2
     same-length-3
-    same-length-4
-    returns-2
-    set-requires
-    same-length-5
-    returns-3)
+    returns-2)
