@@ -22,14 +22,15 @@ use Rattle.tables.proofs.Basics.{clash}
 use Rattle.tables.proofs.Tables.{checkExact}
 use Rattle.replies.specs.declared.Answer.{Answer}
 use Rattle.replies.specs.Replies.{reply}
-use Rattle.m7.specs.Contract.{Result, Gives, refuses, takes, ofReading, reads, ofWriting, sized, FormOf, Writes}
+use Rattle.memories.specs.Memory.{IsTable}
+use Rattle.m7.specs.Contract.{Result, Gives, refuses, takes, ofReading, reads, ofWriting, sized, Writes}
 use Rattle.demands.specs.OneResult.{OneResult}
 use Rattle.demands.specs.Demand2.{Back, Demand2}
 use Rattle.m7.proofs.Results.{reads-sized}
 
 -- bytes that do not pass the check are the form of no table
-no-form : (t : List ℕ) → Octets t → checks t ≡ false → (ms : Table) → FormOf t ms → ⊥
-no-form t o e ms f = clash (checkExact t o .1 (ms, f .accepted, f .bytes)) e
+no-form : (t : List ℕ) → Octets t → checks t ≡ false → (ms : Table) → IsTable t ms → ⊥
+no-form t o e ms f = clash (checkExact t o .1 (ms, f .accepted, f .form)) e
 
 -- ONE RESULT
 
@@ -37,7 +38,7 @@ module _ (t old : List ℕ) (o : Octets t) where
   of-tests : (c d : Bool) → sized t old ≡ c → checks t ≡ d → (w : Result) × ((r : Answer) (b : List ℕ) → Writes t old r b → Gives w r b)
   of-tests false d y e = (refuses (ofHost badMemory) old, λ r b h. h .otherSize y)
   of-tests true false y e = (refuses (ofHost badTable) old, λ r b h. h .noTable y (no-form t o e))
-  of-tests true true y e = let k = checkExact t o .0 e in (ofWriting old (writeOut (k .0)), λ r b h. h .written y (k .0) (record { accepted = k .1; bytes = k .2 }))
+  of-tests true true y e = let k = checkExact t o .0 e in (ofWriting old (writeOut (k .0)), λ r b h. h .written y (k .0) (record { accepted = k .1; form = k .2 }))
 
 pub one-result : OneResult
 one-result t old o = of-tests t old o (sized t old) (checks t) refl refl
@@ -61,7 +62,7 @@ module _ (t old s new : List ℕ) (r : Answer) (z : r .number ≡ 0) (l : length
   number-of : {w : Result} → Gives w r s → w .answer .number ≡ 0
   number-of g = sym (ap (λ (a : Answer). a .number) (g .answers)) ∙ z
 
-  of-file : (ms : Table) (w : Written) → FormOf t ms → writeOut ms ≡ w → Gives (ofWriting old w) r s → Back t (reads (take (r .length) s) new)
+  of-file : (ms : Table) (w : Written) → IsTable t ms → writeOut ms ≡ w → Gives (ofWriting old w) r s → Back t (reads (take (r .length) s) new)
   unfolding ofWriting refuses takes reply number ofReading
   of-file ms (refused f p) k e g = absurd (not-zero f (number-of g))
   of-file ms (file u) k e g =
@@ -69,7 +70,7 @@ module _ (t old s new : List ℕ) (r : Answer) (z : r .number ≡ 0) (l : length
       let first : take (r .length) s ≡ u = ap (λ (i : ℕ). take i s) n ∙ ap (take (length u)) (g .holds) ∙ take-append-seam u (replicate (mostFileBytes - length u) 0) in
       let back = round-trip ms u (k .accepted) e .back in
       let same : reads (take (r .length) s) new ≡ takes (length ms) (form ms) = ap (λ (x : List ℕ). reads x new) first ∙ reads-sized u new l ∙ ap (ofReading new) back in
-      record { taken = ap (λ (w : Result). w .answer .number) same; same = ap (λ (w : Result). w .memory) same ∙ k .bytes }
+      record { taken = ap (λ (w : Result). w .answer .number) same; same = ap (λ (w : Result). w .memory) same ∙ k .form }
 
   module _ (o : Octets t) (h : Writes t old r s) where
     of-table : (c : Bool) → checks t ≡ c → sized t old ≡ true → Back t (reads (take (r .length) s) new)
@@ -80,7 +81,7 @@ module _ (t old s new : List ℕ) (r : Answer) (z : r .number ≡ 0) (l : length
         absurd (omega arith)
     of-table true e y =
         let k = checkExact t o .0 e in
-        let f : FormOf t (k .0) = record { accepted = k .1; bytes = k .2 } in
+        let f : IsTable t (k .0) = record { accepted = k .1; form = k .2 } in
         of-file (k .0) (writeOut (k .0)) f refl (h .written y (k .0) f)
 
     of-sizes : (c : Bool) → sized t old ≡ c → Back t (reads (take (r .length) s) new)

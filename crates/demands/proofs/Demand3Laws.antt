@@ -18,8 +18,9 @@ use Rattle.lines.proofs.Demand3.{fed-holds}
 use Rattle.states.specs.Form.{stateForm}
 use Rattle.states.specs.Access.{Holds}
 use Rattle.lines.proofs.KeepState.{fresh-in-range}
-use Rattle.m7.specs.Contract.{FormOf}
-use Rattle.m7.specs.Feeding.{Call, Feeds, Returns, Refuses, sizedToFeed, answerOf, outputWith}
+use Rattle.memories.specs.Memory.{IsTable}
+use Rattle.feeding.specs.Contract.{laidOut}
+use Rattle.m7.specs.Feeding.{Call, Feeds, Returns, Refuses, sizedToFeed, answerOf}
 use Rattle.demands.specs.Demand3.{InTurn, Keeps, Holds3, Demand3}
 use Rattle.replies.specs.declared.Answer.{Answer}
 
@@ -31,7 +32,7 @@ pub record One (ms : Table) (st : State) (c : Call) : Type 0 where
   pub keeps : Keeps c
 
 -- a line that was fed and refused
-module _ (ms : Table) (st : State) (c : Call) (f : FormOf (c .table) ms) (h : Holds (c .state) st) where
+module _ (ms : Table) (st : State) (c : Call) (f : IsTable (c .table) ms) (h : Holds (c .state) st) where
   abbrev fed : Answered
   fed = feed ms st (c .budget) (c .line)
 
@@ -41,19 +42,19 @@ module _ (ms : Table) (st : State) (c : Call) (f : FormOf (c .table) ms) (h : Ho
     number-is k e = ap (λ (a : Answer). a .number) (r .answers) ∙ ap numberOf e
 
     by-kind : (k : Kind) → fed .kind ≡ k → Keeps c
-    unfolding numberOf outputWith
+    unfolding numberOf laidOut
     by-kind (refusedWith x) e n =
         let z = subst (λ (k : Kind). ByKind ms st (c .line) (lineOf ms st (c .budget) (c .line)) fed k) e (fed-holds ms st (c .budget) (c .line)) in (
-          sym (r .tableHolds .bytes) ∙ (ap form (z .0) ∙ f .bytes),
+          sym (r .tableHolds .form) ∙ (ap form (z .0) ∙ f .form),
           sym (r .stateHolds .form) ∙ (ap stateForm (z .1) ∙ h .form),
-          r .outputHolds ∙ ap (λ (k : Kind). outputWith k (c .output)) e,
+          r .outputHolds ∙ ap (λ (k : Kind). laidOut k (c .output)) e,
         )
     by-kind (out t) e n = absurd (n (number-is (out t) e))
     by-kind withheld e n = absurd (n (number-is withheld e))
     by-kind controlled e n = absurd (n (number-is controlled e))
 
-one : (ms : Table) (st : State) (c : Call) → FormOf (c .table) ms → Holds (c .state) st → Feeds c → One ms st c
-unfolding refusal answerOf outputWith numberOf placeOf kindNumber outputOf place
+one : (ms : Table) (st : State) (c : Call) → IsTable (c .table) ms → Holds (c .state) st → Feeds c → One ms st c
+unfolding refusal answerOf laidOut numberOf placeOf kindNumber outputOf place
 one ms st c f h k = go (sizedToFeed c) refl
   where
     go : (b : Bool) → sizedToFeed c ≡ b → One ms st c
@@ -67,7 +68,7 @@ one ms st c f h k = go (sizedToFeed c) refl
           keeps = λ n. (r .table, r .state, r .output);
         }
 
-calls : (ms : Table) (st : State) (t b : List ℕ) (cs : List Call) → FormOf t ms → Holds b st → InTurn t b cs → Holds3 ms st cs
+calls : (ms : Table) (st : State) (t b : List ℕ) (cs : List Call) → IsTable t ms → Holds b st → InTurn t b cs → Holds3 ms st cs
 calls ms st t b [] f h k = record { answers = []; returned = tt; demand = tt; kept = tt }
 calls ms st t b (c ∷ cs) f h k =
     let o : One ms st c = one ms st c (rw (k .0) f) (rw (k .1) h) (k .2) in

@@ -14,7 +14,7 @@ use Rattle.lines.specs.Feeding.{Answer as Answered}
 use Rattle.states.specs.Check.{stateChecks}
 use Rattle.states.specs.Access.{Holds}
 use Rattle.states.proofs.Decode.{state-check-exact}
-use Rattle.m7.specs.Contract.{FormOf}
+use Rattle.memories.specs.Memory.{IsTable}
 use Rattle.m7.specs.Feeding.{Feeds, Returns, Refuses, sizedToFeed}
 use Rattle.demands.specs.OneFeed.{Left, calledWith, Same, OneFeed}
 
@@ -27,13 +27,13 @@ module _ (l : List ℕ) (n : ℕ) (t b o : List ℕ) (ot : Octets t) (ob : Octet
   both-return a x y =
       record {
         answers = x .answers ∙ sym (y .answers);
-        tables = sym (x .tableHolds .bytes) ∙ y .tableHolds .bytes;
+        tables = sym (x .tableHolds .form) ∙ y .tableHolds .form;
         states = sym (x .stateHolds .form) ∙ y .stateHolds .form;
         outputs = x .outputHolds ∙ sym (y .outputHolds);
       }
 
   module _ (x : Feeds (calledWith l n t b o w)) (y : Feeds (calledWith l n t b o v)) where
-    of-state : (ms : Table) → FormOf t ms → (d : Bool) → stateChecks b ≡ d → sizedToFeed (calledWith l n t b o w) ≡ true → sizedToFeed (calledWith l n t b o v) ≡ true → Same w v
+    of-state : (ms : Table) → IsTable t ms → (d : Bool) → stateChecks b ≡ d → sizedToFeed (calledWith l n t b o w) ≡ true → sizedToFeed (calledWith l n t b o v) ≡ true → Same w v
     of-state ms f false e p q =
         let no : (st : State) → Holds b st → ⊥ = λ st h. clash (state-check-exact b ob .1 (st, h .inRange, h .form)) e in
         both-refuse _ (x .noState p ms f no) (y .noState q ms f no)
@@ -44,9 +44,9 @@ module _ (l : List ℕ) (n : ℕ) (t b o : List ℕ) (ot : Octets t) (ob : Octet
 
     of-table : (d : Bool) → checks t ≡ d → sizedToFeed (calledWith l n t b o w) ≡ true → sizedToFeed (calledWith l n t b o v) ≡ true → Same w v
     of-table false e p q =
-        let no : (ms : Table) → FormOf t ms → ⊥ = λ ms f. clash (checkExact t ot .1 (ms, f .accepted, f .bytes)) e in
+        let no : (ms : Table) → IsTable t ms → ⊥ = λ ms f. clash (checkExact t ot .1 (ms, f .accepted, f .form)) e in
         both-refuse _ (x .noTable p no) (y .noTable q no)
-    of-table true e p q = let k = checkExact t ot .0 e in of-state (k .0) (record { accepted = k .1; bytes = k .2 }) (stateChecks b) refl p q
+    of-table true e p q = let k = checkExact t ot .0 e in of-state (k .0) (record { accepted = k .1; form = k .2 }) (stateChecks b) refl p q
 
     of-sizes : (d : Bool) → sizedToFeed (calledWith l n t b o w) ≡ d → sizedToFeed (calledWith l n t b o v) ≡ d → Same w v
     of-sizes false p q = both-refuse _ (x .otherSize p) (y .otherSize q)

@@ -9,7 +9,7 @@ use Rattle.lines.specs.Feeding.{Fed}
 use Rattle.lines.specs.Feeding.{Answer as Answered}
 use Rattle.lines.specs.Demand.{Lines}
 use Rattle.states.specs.Form.{stateForm}
-use Rattle.m7.specs.Contract.{FormOf}
+use Rattle.memories.specs.Memory.{IsTable}
 use Rattle.m7.specs.Feeding.{Call, Feeds, Returns}
 
 -- calls in turn, nothing else writing the memories meanwhile: each is lent the table and the state that the last returned or left
@@ -46,4 +46,4 @@ pub record Holds3 (ms : Table) (st : State) (cs : List Call) : Type 0 where
 
 -- "For every list of lines .. fed in turn from a fresh state and any accepted table, each with any budget": t is that table's bytes
 abbrev pub Demand3 : Type 0
-Demand3 = (t : List ℕ) (ms : Table) (cs : List Call) → FormOf t ms → InTurn t (stateForm fresh) cs → Holds3 ms fresh cs
+Demand3 = (t : List ℕ) (ms : Table) (cs : List Call) → IsTable t ms → InTurn t (stateForm fresh) cs → Holds3 ms fresh cs

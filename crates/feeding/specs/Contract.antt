@@ -20,7 +20,7 @@ pub record Lent (t b o : List ℕ) : Type 0 where
   pub state : IsState b
   pub room : length o ≡ mostLineBytes
 
--- the output: the line and zeros; a refusal leaves it as it was
+-- "Output past the line is zero"; a refusal leaves the output as it was
 unfoldable pub laidOut : Kind → List ℕ → List ℕ
 laidOut (refusedWith r) old = old
 laidOut (out t) old = t ++ replicate (mostLineBytes - length t) 0

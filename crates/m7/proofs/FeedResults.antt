@@ -17,21 +17,20 @@ use Rattle.tables.proofs.Basics.{clash, and-right}
 use Rattle.tables.proofs.Tables.{checkExact}
 use Rattle.lines.specs.Feeding.{Kind, numberOf, placeOf, kindNumber, feed}
 use Rattle.lines.specs.Feeding.{Answer as Answered}
-use Rattle.lines.specs.Feeding.Kind.{refusedWith, out, withheld, controlled}
 use Rattle.lines.proofs.FeedKeeps.{feed-keeps}
 use Rattle.states.specs.Form.{stateBytes}
 use Rattle.states.specs.Check.{stateChecks}
 use Rattle.states.proofs.Decode.{state-check-exact}
 use Rattle.states.proofs.Held.{passed-is}
 use Rattle.memories.specs.Memory.{IsTable}
-use Rattle.feeding.specs.Contract.{Lent, laidOut, Answers}
+use Rattle.feeding.specs.Contract.{Lent, Answers}
 use Rattle.replies.specs.Fed.{kindOf, passesOf, sizeOf}
 use Rattle.feeding.specs.Contract.{Feeds as FeedsLine}
 use Rattle.replies.specs.declared.Fed.{Fed}
 use Rattle.replies.specs.declared.Fed.the-variants.{Out, Withheld, Control, Refused}
 use Rattle.replies.specs.declared.Answer.{Answer}
 use Rattle.replies.specs.Replies.{reply, lineReply, told, Small}
-use Rattle.m7.specs.Feeding.{Call, answerOf, outputWith, sizedToFeed, Feeds}
+use Rattle.m7.specs.Feeding.{Call, answerOf, sizedToFeed, Feeds}
 use Rattle.m7.specs.HostRefusal.{hostRefusal}
 use Rattle.m7.proofs.FeedBounds.{feed-place, feed-passes}
 
@@ -54,13 +53,6 @@ place-any (Out p n) o = refl
 place-any (Withheld p) o = refl
 place-any (Control p) o = refl
 place-any (Refused w p) o = refl
-
-laid : (k : Kind) (o : List ℕ) → laidOut k o ≡ outputWith k o
-unfolding laidOut outputWith
-laid (refusedWith r) o = refl
-laid (out t) o = refl
-laid withheld o = refl
-laid controlled o = refl
 
 module _ {a : Answered} {t′ b′ o o′ : List ℕ} {r : Fed} (h : Answers a t′ b′ o o′ r) where
   told-is : told r ≡ answerOf a
@@ -99,8 +91,8 @@ module _ (l : List ℕ) (n : ℕ) (t b o : List ℕ) where
         record {
           otherSize = λ y. clash all-sized y;
           noTable = λ y no. record { answer = e; table = refl; state = refl; output = refl };
-          noState = λ y ms f no. clash (checkExact t ot .1 (ms, f .accepted, f .bytes)) z;
-          fed = λ y ms f st s. clash (checkExact t ot .1 (ms, f .accepted, f .bytes)) z;
+          noState = λ y ms f no. clash (checkExact t ot .1 (ms, f .accepted, f .form)) z;
+          fed = λ y ms f st s. clash (checkExact t ot .1 (ms, f .accepted, f .form)) z;
         }
 
     module _ (z : checks t ≡ true) (ob : Octets b) where
@@ -113,7 +105,7 @@ module _ (l : List ℕ) (n : ℕ) (t b o : List ℕ) where
       no-state v e =
           record {
             otherSize = λ y. clash all-sized y;
-            noTable = λ y no. let s = some-table in absurd (no (s .0) (record { accepted = s .1 .accepted; bytes = s .1 .form }));
+            noTable = λ y no. let s = some-table in absurd (no (s .0) (s .1));
             noState = λ y ms f no. record { answer = e; table = refl; state = refl; output = refl };
             fed = λ y ms f st s. clash (state-check-exact b ob .1 (st, s .inRange, s .form)) v;
           }
@@ -144,15 +136,15 @@ module _ (l : List ℕ) (n : ℕ) (t b o : List ℕ) where
           is-fed e =
               record {
                 otherSize = λ y. clash all-sized y;
-                noTable = λ y no. let s = some-table in absurd (no (s .0) (record { accepted = s .1 .accepted; bytes = s .1 .form }));
+                noTable = λ y no. let s = some-table in absurd (no (s .0) (s .1));
                 noState = λ y ms f no. let u = passed-is b ob v in absurd (no (u .0) (u .1));
                 fed = λ y ms f st s.
-                    let d = w ms (record { accepted = f .accepted; form = f .bytes }) st s in
+                    let d = w ms f st s in
                     record {
                       answers = e ∙ told-is d;
-                      tableHolds = record { accepted = d .table .accepted; bytes = d .table .form };
+                      tableHolds = d .table;
                       stateHolds = d .state;
-                      outputHolds = d .output ∙ laid (feed ms st n l .kind) o;
+                      outputHolds = d .output;
                     };
               }
 

@@ -167,7 +167,7 @@ module _ (t old : List ℕ) where
         record {
           otherSize = λ y. clash (both-sized g h) y;
           noTable = λ y n. gives refl e refl;
-          written = λ y ms f. clash (checkExact t o .1 (ms, f .accepted, f .bytes)) z;
+          written = λ y ms f. clash (checkExact t o .1 (ms, f .accepted, f .form)) z;
         }
 
     pub some-table : checks t ≡ true → SomeTable t
@@ -181,8 +181,8 @@ module _ (t old : List ℕ) where
       write-gives e =
           record {
             otherSize = λ y. clash (both-sized g h) y;
-            noTable = λ y n. let s = some-table z in absurd (n (s .0) (record { accepted = s .1 .0; bytes = s .1 .1 }));
-            written = λ y ms f. let k : Holds t ms = (f .accepted, f .bytes) in record { answers = e ∙ ap answerOf (w .answers ms k) ∙ told old (writeOut ms); holds = w .holds ms k ∙ laid old (writeOut ms) };
+            noTable = λ y n. let s = some-table z in absurd (n (s .0) (record { accepted = s .1 .0; form = s .1 .1 }));
+            written = λ y ms f. let k : Holds t ms = (f .accepted, f .form) in record { answers = e ∙ ap answerOf (w .answers ms k) ∙ told old (writeOut ms); holds = w .holds ms k ∙ laid old (writeOut ms) };
           }
 
       pub write-size : {n : ℕ} → r ≡ WrittenOut n → n ≤ mostFileBytes

@@ -14,10 +14,10 @@ use Rattle.macros.specs.Read.{Read, readFile}
 use Rattle.macros.specs.Read.Read.{refusedAt, table}
 use Rattle.macros.specs.Write.{Written, writeOut}
 use Rattle.macros.specs.Write.Written.{refused, file}
-use Rattle.macros.specs.Accepted.{Accepted}
 use Rattle.tables.specs.Form.{tableBytes, form}
 use Rattle.lines.specs.State.{fresh}
 use Rattle.states.specs.Form.{stateBytes, stateForm}
+use Rattle.memories.specs.Memory.{IsTable}
 use Rattle.replies.specs.declared.Answer.{Answer}
 use Rattle.replies.specs.Replies.{reply}
 
@@ -61,19 +61,14 @@ ofWriting old (file s) = takes (length s) (s ++ replicate (mostFileBytes - lengt
 unfoldable pub sized : (t old : List ℕ) → Bool
 sized t old = eqb (length t) tableBytes && eqb (length old) mostFileBytes
 
--- the bytes are the form of the accepted table ms; no other table has that form, by the law OneForm of crates/tables
-pub record FormOf (t : List ℕ) (ms : Table) : Type 0 where
-  pub accepted : Accepted ms
-  pub bytes : form ms ≡ t
-
 -- m7_write, of the table's bytes t and the file's memory: the answer r, and the bytes b that the file's memory holds at exit
 pub record Writes (t old : List ℕ) (r : Answer) (b : List ℕ) : Type 0 where
   -- 3, a lent memory of another size
   pub otherSize : sized t old ≡ false → Gives (refuses (ofHost badMemory) old) r b
   -- 1, bytes that are the form of no accepted table
-  pub noTable : sized t old ≡ true → ((ms : Table) → FormOf t ms → ⊥) → Gives (refuses (ofHost badTable) old) r b
+  pub noTable : sized t old ≡ true → ((ms : Table) → IsTable t ms → ⊥) → Gives (refuses (ofHost badTable) old) r b
   -- else what writing out the table gives
-  pub written : sized t old ≡ true → (ms : Table) → FormOf t ms → Gives (ofWriting old (writeOut ms)) r b
+  pub written : sized t old ≡ true → (ms : Table) → IsTable t ms → Gives (ofWriting old (writeOut ms)) r b
 
 -- THE FRESH STATE
 

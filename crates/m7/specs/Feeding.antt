@@ -1,12 +1,12 @@
 -- THE CONTRACT OF m7_feed: from the lent bytes at entry, the whole answer and what each memory then holds.
 -- It rules out, among others, the edits state_number (1 for bytes that are no state), feed_budget_lost (each line is fed with budget 0)
 -- and fresh_smaller (a state of another size than the docs state is taken); what the answer's numbers rule out stands in crates/replies.
-use Prim.Native.Nat.{ℕ, _-_}
+use Prim.Native.Nat.{ℕ}
 use mathlib.Core.Path.{_≡_}
 use mathlib.Core.Bool.{Bool, true, false, _&&_}
-use mathlib.Core.List.{List, _++_}
+use mathlib.Core.List.{List}
 use lib.Dec.{eqb}
-use lib.ListN.{length, replicate}
+use lib.ListN.{length}
 use Rattle.macros.specs.Bounds.{mostLineBytes}
 use Rattle.macros.specs.Refusals.{HostRefusal, number}
 use Rattle.macros.specs.Refusals.Refusal.{ofHost}
@@ -14,13 +14,13 @@ use Rattle.macros.specs.Refusals.HostRefusal.{badMemory, badTable, badState}
 use Rattle.macros.specs.Macro.{Table}
 use Rattle.tables.specs.Form.{tableBytes}
 use Rattle.lines.specs.State.{State}
-use Rattle.lines.specs.Feeding.{Kind, numberOf, placeOf, kindNumber, outputOf, feed}
+use Rattle.lines.specs.Feeding.{numberOf, placeOf, kindNumber, outputOf, feed}
 use Rattle.lines.specs.Feeding.{Answer as Answered}
-use Rattle.lines.specs.Feeding.Kind.{refusedWith, out, withheld, controlled}
 use Rattle.states.specs.Form.{stateBytes}
 use Rattle.states.specs.Access.{Holds}
+use Rattle.memories.specs.Memory.{IsTable}
+use Rattle.feeding.specs.Contract.{laidOut}
 use Rattle.replies.specs.declared.Answer.{Answer}
-use Rattle.m7.specs.Contract.{FormOf}
 
 -- a call: the line and its budget, the memories at entry and at exit, and the answer
 pub record Call : Type 0 where
@@ -38,19 +38,12 @@ pub record Call : Type 0 where
 unfoldable pub answerOf : Answered → Answer
 answerOf a = record { number = numberOf (a .kind); place = placeOf (a .kind); passes = a .passes; kind = kindNumber (a .kind); length = length (outputOf (a .kind)) }
 
--- "Output past the line is zero"; a refusal leaves the output as it was
-unfoldable pub outputWith : Kind → List ℕ → List ℕ
-outputWith (refusedWith r) old = old
-outputWith (out t) old = t ++ replicate (mostLineBytes - length t) 0
-outputWith withheld old = replicate mostLineBytes 0
-outputWith controlled old = replicate mostLineBytes 0
-
 -- the call returns what the answer a says, in its answer and in every byte of its memories
 pub record Returns (c : Call) (a : Answered) : Type 0 where
   pub answers : c .answer ≡ answerOf a
-  pub tableHolds : FormOf (c .table′) (a .table)
+  pub tableHolds : IsTable (c .table′) (a .table)
   pub stateHolds : Holds (c .state′) (a .state)
-  pub outputHolds : c .output′ ≡ outputWith (a .kind) (c .output)
+  pub outputHolds : c .output′ ≡ laidOut (a .kind) (c .output)
 
 -- the call returns a host's refusal, and every memory is as it was
 pub record Refuses (c : Call) (r : HostRefusal) : Type 0 where
@@ -67,8 +60,8 @@ pub record Feeds (c : Call) : Type 0 where
   -- 3, a lent memory of another size
   pub otherSize : sizedToFeed c ≡ false → Refuses c badMemory
   -- 1, bytes that are the form of no accepted table
-  pub noTable : sizedToFeed c ≡ true → ((ms : Table) → FormOf (c .table) ms → ⊥) → Refuses c badTable
+  pub noTable : sizedToFeed c ≡ true → ((ms : Table) → IsTable (c .table) ms → ⊥) → Refuses c badTable
   -- 2, bytes that are the form of no state in range
-  pub noState : sizedToFeed c ≡ true → (ms : Table) → FormOf (c .table) ms → ((st : State) → Holds (c .state) st → ⊥) → Refuses c badState
+  pub noState : sizedToFeed c ≡ true → (ms : Table) → IsTable (c .table) ms → ((st : State) → Holds (c .state) st → ⊥) → Refuses c badState
   -- else what feeding the line gives
-  pub fed : sizedToFeed c ≡ true → (ms : Table) → FormOf (c .table) ms → (st : State) → Holds (c .state) st → Returns c (feed ms st (c .budget) (c .line))
+  pub fed : sizedToFeed c ≡ true → (ms : Table) → IsTable (c .table) ms → (st : State) → Holds (c .state) st → Returns c (feed ms st (c .budget) (c .line))

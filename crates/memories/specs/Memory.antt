@@ -7,7 +7,7 @@ use Rattle.macros.specs.Macro.{Table}
 use Rattle.macros.specs.Accepted.{Accepted}
 use Rattle.tables.specs.Form.{form}
 
--- the bytes are the form of the accepted table ms
+-- the bytes are the form of the accepted table ms; no other table has that form, by the law OneForm of crates/tables
 pub record IsTable (table : List ℕ) (ms : Table) : Type 0 where
   pub accepted : Accepted ms
   pub form : form ms ≡ table
