@@ -232,9 +232,6 @@ pub stored-text : (tag t : List ℕ) → 72 ≤ getD t 0 0 → textIn t ≡ stor
 unfolding storedIn pick
 stored-text tag t h = rw (le-ltb (getD t 0 0) 72 h)
 
-pub by-text : (i : ℕ) {k : ℕ} {x y b b₁ : List ℕ} {r : Outcome} → x ≡ y → Changes (stores i x) b k b₁ r → Changes (stores i y) b k b₁ r
-by-text i {k} {b = b} {b₁ = b₁} {r = r} e p = subst (λ (z : List ℕ). Changes (stores i z) b k b₁ r) e p
-
 module _ (c i n : ℕ) (b : List ℕ) (k : ℕ) (s : IsState b) {b₁ : List ℕ} where
   pub sets-pointer : c < 88 → OfWork b (λ w. Holds b₁ (withPointer i n w .state)) → Changes (setsIn c i n) b k b₁ (Made k)
   unfolding setsIn pick
