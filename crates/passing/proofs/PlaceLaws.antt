@@ -29,17 +29,17 @@ use Rattle.faults.specs.declared.Fault.{Fault}
 use Rattle.faults.specs.declared.Fault.the-variants.{NewLineTooLong}
 use Rattle.faults.specs.declared.Outcome.{Outcome}
 use Rattle.faults.specs.declared.Outcome.the-variants.{Made, Refused as MadeRefused}
-use Rattle.replacing.specs.Contract.{EndsFrom, IsSlot, IsDivided, IsMoment, Occurs, doneOf, sizeOf}
+use Rattle.replacing.specs.Contract.{EndsFrom, IsSlot, IsDivided, IsMoment, Lent, Occurs, doneOf, sizeOf}
 use Rattle.passing.specs.declared.Found.{Found}
 use Rattle.passing.specs.declared.Found.the-variants.{Matched, NoMatch}
 use Rattle.moments.specs.declared.At.{At}
 use Rattle.passing.specs.Contract.{SaysOccurred, doneOf as passDone}
-use Rattle.passing.specs.Finding.{Ready, FoundAt, countedOf, Finds, lastOf}
+use Rattle.passing.specs.Finding.{Ready, FoundAt, countedOf, Finds, lastOf, Differs}
 use Rattle.passing.specs.Trying.{Tried}
-use Rattle.passing.specs.Seen.{Seen, Renewed}
+use Rattle.passing.specs.Seen.{Seen, Renewing, Renewed}
 use Rattle.moments.specs.Moments.{movedTo, refusedAt, afterOf, passedOf, Copies, CopiesEmpty}
-use Rattle.passing.specs.Places.{from, matchAt, AtPlace, Acting, Acts, Onward, Goes}
-use Rattle.passing.proofs.FindLaws.{find-counted}
+use Rattle.passing.specs.Places.{from, matchAt, AtPlace, Onward, Goes, GoesBy}
+use Rattle.passing.proofs.FindLaws.{find-counted, find-differs}
 use Rattle.passing.proofs.GrowLaws.{Grown, occur-grown}
 
 -- THE LAST MATCH
@@ -175,14 +175,6 @@ found-some (some d) p q es ends h = (d, refl, h .0, h .1)
 match-divides : (st : State) (es : List Piece) (t : List ℕ) (last : Option ℕ) (p : ℕ) (d : Division) → match st es last p (drop p t) ≡ some d → Divides st t es p d
 match-divides st es t last p d e = subst (Matches (Divides st t es p) last p) e (match-matches st es t last p) .0
 
-pub acting-state : (s items t b out marks seen ends : List ℕ) (n : ℕ) → Acting s items t b out marks seen ends n → IsState b
-acting-state s items t b out marks seen ends n a = (a .moment .0 .state, a .moment .1 .state)
-
-pub acted-state : (s items t b b′ out out′ marks seen ends : List ℕ) (n : ℕ) (o : Outcome) → Acting s items t b out marks seen ends n → Occurs s ends t b b′ out out′ n o → IsState b′
-acted-state s items t b b′ out out′ marks seen ends n o a oc =
-    let c = oc .comes (a .divided .0) (a .divided .1) (a .divided .2) (a .moment .0) (a .moment .1) in
-    (c .0 .state, c .2 .state)
-
 pub ready : (s items kinds t b out marks ends : List ℕ) (p n : ℕ) → AtPlace s items kinds t b out marks ends p n → Ready items kinds b t p marks ends
 ready s items kinds t b out marks ends p n y =
     let m = y .macro .0 in
@@ -201,6 +193,9 @@ ready s items kinds t b out marks ends p n y =
 
 pub finds : (s items kinds t b out marks ends : List ℕ) (a : At) → AtPlace s items kinds t b out marks ends (a .place) (a .size) → (marks′ ends′ : List ℕ) (f r : Found) → Tried items b t 0 (a .place) marks marks′ ends′ f → r ≡ countedOf f (a .last) (a .place) → Finds items b t (a .last) (a .place) marks marks′ ends′ r
 finds s items kinds t b out marks ends a y marks′ ends′ f r k e = find-counted items b t (a .last) (a .place) marks marks′ ends′ (let p = y .place in let l = y .short in omega arith) f r k e
+
+pub finds-none : (s items kinds t b out marks ends : List ℕ) (a : At) → AtPlace s items kinds t b out marks ends (a .place) (a .size) → (x : Bool) → Differs items t (a .place) x → x ≡ true → Finds items b t (a .last) (a .place) marks marks ends NoMatch
+finds-none s items kinds t b out marks ends a y x d e = find-differs items b t (a .last) (a .place) marks marks ends kinds ends (ready s items kinds t b out marks ends (a .place) (a .size) y) x d e
 
 module _ (s items kinds t b out marks ends : List ℕ) (a : At) (y : AtPlace s items kinds t b out marks ends (a .place) (a .size)) (seen : List ℕ) (sn : Seen items seen b) (r : Found) (marks′ ends′ : List ℕ) (fi : Finds items b t (a .last) (a .place) marks marks′ ends′ r) where
   abbrev found : Macro → Work → Option Division
@@ -251,8 +246,11 @@ module _ (s items kinds t b out marks ends : List ℕ) (a : At) (y : AtPlace s i
         (omega arith)
         (omega arith)
 
-    pub go-free : (z : At) (l : List ℕ) → Copies t out l a z → Went z l
+    go-free : (z : At) (l : List ℕ) → Copies t out l a z → Went z l
     go-free z l c = copies-by Went t out l a z c free-end free-full-here free-copied
+
+    pub goes-free : GoesBy s items t b b out out marks marks′ seen ends′ a a
+    goes-free = record { copied = λ z l k. go-free z l (k .empty (omega arith)) }
 
   -- with a match that ends at q
   module _ (q : ℕ) (e : r ≡ Matched q) where
@@ -275,24 +273,18 @@ module _ (s items kinds t b out marks ends : List ℕ) (a : At) (y : AtPlace s i
     held : IsState b
     held = (y .moment .0 .state, y .moment .1 .state)
 
-    pub acting : length marks′ ≡ length marks → length ends′ ≡ length ends → Acting s items t b out marks′ seen ends′ (a .size)
-    acting lm le =
+    pub occurring : length ends′ ≡ length ends → Lent s ends′ t b out (a .size)
+    occurring le =
         let m = y .macro .0 in
         let f = divided m (y .macro .1) (y .moment .0) (y .moment .1) in
-        record {
-          divided = (m, f .0, f .3);
-          count = le ∙ y .count;
-          inside = fi .inside;
-          bytes = y .bytes;
-          short = y .short;
-          moment = y .moment;
-          room = y .room;
-          size = y .size;
-          pattern = (m .pattern, y .pattern .pattern m (y .macro .1));
-          fits = y .pattern .fits;
-          old = sn .state;
-          rows = lm ∙ y .rows;
-        }
+        record { divided = (m, f .0, f .3); count = le ∙ y .count; inside = fi .inside; bytes = y .bytes; short = y .short; state = held; room = y .room; sized = y .size }
+
+    pub renewing : length marks′ ≡ length marks → (b′ out′ : List ℕ) (o : Outcome) → Occurs s ends′ t b b′ out out′ (a .size) o → Renewing items b′ seen marks′
+    renewing lm b′ out′ o oc =
+        let m = y .macro .0 in
+        let f = divided m (y .macro .1) (y .moment .0) (y .moment .1) in
+        let c = oc .comes m (f .0) (f .3) (y .moment .0) (y .moment .1) in
+        record { pattern = (m .pattern, y .pattern .pattern m (y .macro .1)); fits = y .pattern .fits; state = (c .0 .state, c .2 .state); old = sn .state; size = lm ∙ y .rows }
 
     module _ (b′ out′ marks″ seen′ : List ℕ) (rn : Renewed items b′ seen seen′ marks′ marks″) where
       abbrev Acted : At → List ℕ → Type 0
@@ -411,5 +403,5 @@ module _ (s items kinds t b out marks ends : List ℕ) (a : At) (y : AtPlace s i
           (λ g. both Acted z _ l _ (c .further g) (act-on k oc g))
           (λ g. let i = within in let e : q ≡ a .place = omega arith in copies-by Acted t out′ l (next k oc) z (c .empty g) (empty-end k oc e) (empty-full-here k oc e) (empty-copied k oc e lo))
 
-    pub go-acted : (b′ out′ marks″ seen′ : List ℕ) (x : At) → Acts s items t b b′ out out′ marks′ marks″ seen seen′ ends′ q (a .size) x → length out′ ≡ mostLineBytes → (z : At) (l : List ℕ) → CopiesEmpty t out′ l (a .place) x z → Goes s items t b b′ out l marks marks″ seen′ ends′ a z
-    go-acted b′ out′ marks″ seen′ x h lo z l c = go-made b′ out′ marks″ seen′ (h .renewed) lo (h .made .0) (h .made .2) z l (subst (λ (u : At). CopiesEmpty t out′ l (a .place) u z) (h .made .1) c)
+    pub goes-acted : (b′ out′ marks″ seen′ : List ℕ) (o : Outcome) → Occurs s ends′ t b b′ out out′ (a .size) o → Renewed items b′ seen seen′ marks′ marks″ → length out′ ≡ mostLineBytes → (x : At) → x ≡ afterOf o q → GoesBy s items t b b′ out out′ marks marks″ seen′ ends′ a x
+    goes-acted b′ out′ marks″ seen′ o oc rn lo x h = record { copied = λ z l c. go-made b′ out′ marks″ seen′ rn lo o oc z l (subst (λ (u : At). CopiesEmpty t out′ l (a .place) u z) h c) }

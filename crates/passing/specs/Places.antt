@@ -7,21 +7,19 @@ use mathlib.Core.Option.{Option}
 use lib.ListN.{length, getD, drop}
 use Rattle.kinds.specs.Kind.{kindTable}
 use Rattle.macros.specs.Bounds.{mostLineBytes}
-use Rattle.macros.specs.Macro.{Macro, Piece}
+use Rattle.macros.specs.Macro.{Macro}
 use Rattle.macros.specs.Formed.{Bytes}
 use Rattle.tables.specs.Form.{bodyBytes}
 use Rattle.lines.specs.Matching.{Division}
 use Rattle.lines.specs.Replacing.{Work}
 use Rattle.lines.specs.Pass.{Walk, match, walk, occurred, outcome}
-use Rattle.states.specs.Access.{IsState}
-use Rattle.faults.specs.declared.Outcome.{Outcome}
 use Rattle.moments.specs.declared.At.{At}
-use Rattle.moments.specs.Moments.{afterOf, passedOf}
-use Rattle.replacing.specs.Contract.{IsSlot, IsMoment, IsDivided, Occurs}
+use Rattle.moments.specs.Moments.{passedOf, CopiesEmpty}
+use Rattle.replacing.specs.Contract.{IsSlot, IsMoment}
 use Rattle.passing.specs.Contract.{marksBytes, doneOf, SaysOccurred}
 use Rattle.passing.specs.Marks.{Sound}
 use Rattle.passing.specs.Finding.{IsPattern, lastOf}
-use Rattle.passing.specs.Seen.{Seen, Renewed}
+use Rattle.passing.specs.Seen.{Seen}
 
 -- the pass from place p on
 abbrev pub from : Macro → List ℕ → ℕ → ℕ → Work → Walk
@@ -38,26 +36,6 @@ SomeSlot s = (m : Macro) × IsSlot s m
 pub record ItemsOf (s items : List ℕ) : Type 0 where
   pub pattern : (m : Macro) → IsSlot s m → IsPattern items (m .pattern)
   pub fits : length items ≤ bodyBytes
-
--- AN OCCURRENCE, its match found
-
-pub record Acting (s items t b out marks seen ends : List ℕ) (n : ℕ) : Type 0 where
-  pub divided : (m : Macro) × (d : Division) × IsDivided s ends m d
-  pub count : length ends ≡ bodyBytes
-  pub inside : (i : ℕ) → getD ends i 0 ≤ length t
-  pub bytes : Bytes t
-  pub short : length t ≤ mostLineBytes
-  pub moment : (w : Work) × IsMoment out b n w
-  pub room : length out ≡ mostLineBytes
-  pub size : n ≤ mostLineBytes
-  pub pattern : (es : List Piece) × IsPattern items es
-  pub fits : length items ≤ bodyBytes
-  pub old : 0 < length seen → IsState seen
-  pub rows : length marks ≡ marksBytes
-
-pub record Acts (s items t b b′ out out′ marks marks′ seen seen′ ends : List ℕ) (q n : ℕ) (r : At) : Type 0 where
-  pub made : (o : Outcome) × (r ≡ afterOf o q) × Occurs s ends t b b′ out out′ n o
-  pub renewed : Renewed items b′ seen seen′ marks marks′
 
 -- GOING ON FROM A PLACE
 
@@ -93,3 +71,7 @@ pub record Goes (s items t b b′ out out′ marks marks′ seen ends : List ℕ
   pub sees : Seen items seen b′
   pub outside : drop (66 * length items) marks′ ≡ drop (66 * length items) marks
   pub inside : (i : ℕ) → getD ends i 0 ≤ length t
+
+-- the same, once the byte at an empty match, or at a place without one, is copied
+pub record GoesBy (s items t b b′ out out′ marks marks′ seen ends : List ℕ) (a r : At) : Type 0 where
+  pub copied : (z : At) (l : List ℕ) → CopiesEmpty t out′ l (a .place) r z → Goes s items t b b′ out l marks marks′ seen ends a z
