@@ -89,29 +89,13 @@ fn closure_of(code: u8) -> Closure
     Closure::Once
 }
 
-// The unit of the piece at a place of the items.
-fn unit_at(items: &[u8], at: usize) -> Unit
-    requires { ⌜ Stands (now items) at ⌝ }
-    ensures { λ r. ⌜ IsUnit (now (items .entry)) at r ⌝ }
-{
-    unit_of(items[at], items[at + 1])
-}
-
-// Its closure.
-fn closure_at(items: &[u8], at: usize) -> Closure
-    requires { ⌜ Stands (now items) at ⌝ }
-    ensures { λ r. ⌜ OfPiece (now (items .entry)) at (λ e. closureOf e ≡ r) ⌝ }
-{
-    closure_of(items[at])
-}
-
 // The element at a place of the items.
 pub(crate) fn element_at(items: &[u8], at: usize) -> Element
     requires { ⌜ Stands (now items) at ⌝ }
     ensures { λ r. ⌜ IsElement (now (items .entry)) at r ⌝ }
 {
-    let unit = unit_at(items, at);
-    let closure = closure_at(items, at);
+    let unit = unit_of(items[at], items[at + 1]);
+    let closure = closure_of(items[at]);
     Element { unit, closure }
 }
 
@@ -179,8 +163,7 @@ pub(crate) fn behind(items: &[u8], at: usize, u: Unit) -> usize
     ensures { λ r. ⌜ OfPiece (now (items .entry)) at (λ e. r ≡ at + length (pieceItems e)) ⌝ }
 {
     match u {
-        Unit::Class => members_end(items, at + 2),
-        Unit::ClassNot => members_end(items, at + 2),
+        Unit::Class | Unit::ClassNot => members_end(items, at + 2),
         _ => at + 2,
     }
 }
@@ -310,30 +293,9 @@ pub(crate) fn width_of(state: &[u8], u: Unit) -> usize
     match u {
         Unit::StackCall(i) => entry(state, i).len(),
         Unit::CounterCall(i) => number_width(value(state, i)),
-        Unit::Start => 0,
-        Unit::End => 0,
-        Unit::Brace => 0,
+        Unit::Start | Unit::End | Unit::Brace => 0,
         _ => 1,
     }
-}
-
-fn copy_end(
-    items: &[u8],
-    kinds: &[u8; 256],
-    state: &[u8],
-    line: &[u8],
-    at: usize,
-    u: Unit,
-    w: usize,
-    p: usize,
-) -> Lead
-    requires { ⌜ Leading (now items) (now kinds) (now state) (now line) at u w p ⌝ }
-    ensures { λ r. ⌜ OfPiece (now (items .entry)) at (λ e. OfState (now (state .entry)) (λ st. r ≡ ledTo (fitU st u (membersOf e) p (drop p (now (line .entry)))) (p + w))) ⌝ }
-{
-    if copy_at(items, kinds, state, line, at, u, p) {
-        return Lead::After(p + w);
-    }
-    Lead::Nothing
 }
 
 // The place behind the copies that the closure must have at p.
@@ -351,11 +313,13 @@ pub(crate) fn lead_at(
     requires { ⌜ Leading (now items) (now kinds) (now state) (now line) at u w p ⌝ }
     ensures { λ r. ⌜ OfPiece (now (items .entry)) at (λ e. OfState (now (state .entry)) (λ st. r ≡ leadOf c (fitU st u (membersOf e) p (drop p (now (line .entry)))) w p)) ⌝ }
 {
-    match c {
-        Closure::ZeroOrMore => Lead::After(p),
-        Closure::Once => copy_end(items, kinds, state, line, at, u, w, p),
-        Closure::OneOrMore => copy_end(items, kinds, state, line, at, u, w, p),
+    if let Closure::ZeroOrMore = c {
+        return Lead::After(p);
     }
+    if copy_at(items, kinds, state, line, at, u, p) {
+        return Lead::After(p + w);
+    }
+    Lead::Nothing
 }
 
 // Whether further copies can follow.
@@ -364,7 +328,6 @@ pub(crate) fn may_repeat(c: Closure, w: usize) -> bool
 {
     match c {
         Closure::Once => false,
-        Closure::OneOrMore => 0 < w,
-        Closure::ZeroOrMore => 0 < w,
+        _ => 0 < w,
     }
 }

@@ -1,27 +1,26 @@
 use Prim.Native.Nat.{ℕ}
-use mathlib.Core.Path.{sym, _∙_}
+use mathlib.Core.Path.{refl, sym, _∙_}
 use native.Mathlib.Omega.{arith}
 use lib.ListN.{length-replicate}
 use Rattle.states.proofs.Held.{is-long}
 use Rattle.passing.proofs.CallLaws.{pattern-letters, seen-none, seen-self}
-use borrow.Author.Needs.{needs}
 use Rattle.passing.proofs.pass.Statement.{statement}
 use Rattle.passing.proofs.pass.Tie as tie
 
 items-of-requires : tie.Need-items-of-requires
-items-of-requires c κs = search needs
+items-of-requires c κs = c .before .before .before .before .before .pre .macro
 
 has-calls-requires : tie.Need-has-calls-requires
 has-calls-requires c κs = let y = c .before .before .before .before .before .before .pre in let i = c .items-of .ensures in (pattern-letters _ (y .macro .0 .pattern) (i .pattern (y .macro .0) (y .macro .1)), i .fits)
 
 slice-aggregate-copy-state : tie.Need-slice-aggregate-copy-state
-slice-aggregate-copy-state c = search needs
+slice-aggregate-copy-state c = sym (length-replicate {A = ℕ} 26236 0)
 
 copy-state-requires : tie.Need-copy-state-requires
 copy-state-requires c κs = is-long _ (c .before .before .before .before .before .before .before .before .before .before .pre .state) ∙ sym (length-replicate {A = ℕ} 26236 0)
 
 slice-aggregate-walk : tie.Need-slice-aggregate-walk
-slice-aggregate-walk c = search needs
+slice-aggregate-walk c = sym (c .before .before .before .before .before .copy-state .kept .1 .0 ∙ length-replicate {A = ℕ} 26236 0)
 
 walk-requires : tie.Need-walk-requires
 walk-requires c κs = let y = c .before .before .before .before .before .before .before .before .before .before .before .before .before .before .before .before .pre in let i = c .before .before .before .before .before .before .before .before .before .before .items-of .ensures in (y, i, seen-self _ _ _ (y .macro .0 .pattern) (i .pattern (y .macro .0) (y .macro .1)) (y .state) (omega (arith, c .before .before .before .before .before .copy-state .kept .1 .0, length-replicate {A = ℕ} 26236 0)) (c .before .before .before .before .before .copy-state .ensures))
@@ -39,7 +38,7 @@ returns : tie.Need-returns
 returns c = c .before .before .before .before .before .before .before .walk .ensures
 
 slice-aggregate-walk-2 : tie.Need-slice-aggregate-walk-2
-slice-aggregate-walk-2 c = search needs
+slice-aggregate-walk-2 c = refl
 
 walk-requires-2 : tie.Need-walk-requires-2
 walk-requires-2 c κs = (c .before .before .before .before .before .before .before .before .before .before .before .before .pre, c .before .before .before .before .before .before .items-of .ensures, seen-none _ _ (c .before .before .before .before .before .has-calls .ensures (c .before .before .before .before .if1 .left)))

@@ -26,6 +26,17 @@ one-wide Start h st = absurd (miss (0 ∷ 1 ∷ 2 ∷ 3 ∷ []) 6 tt h)
 one-wide End h st = absurd (miss (0 ∷ 1 ∷ 2 ∷ 3 ∷ []) 7 tt h)
 one-wide Brace h st = absurd (miss (0 ∷ 1 ∷ 2 ∷ 3 ∷ []) 8 tt h)
 
+none-wide : (u : CodeUnit) → OneOf (6 ∷ 7 ∷ 8 ∷ []) (tagOf the-type u) → (st : State) → 0 ≡ widthU st u
+none-wide (Literal c) h st = absurd (miss (6 ∷ 7 ∷ 8 ∷ []) 0 tt h)
+none-wide (Kind n) h st = absurd (miss (6 ∷ 7 ∷ 8 ∷ []) 1 tt h)
+none-wide Class h st = absurd (miss (6 ∷ 7 ∷ 8 ∷ []) 2 tt h)
+none-wide ClassNot h st = absurd (miss (6 ∷ 7 ∷ 8 ∷ []) 3 tt h)
+none-wide (StackCall i) h st = absurd (miss (6 ∷ 7 ∷ 8 ∷ []) 4 tt h)
+none-wide (CounterCall i) h st = absurd (miss (6 ∷ 7 ∷ 8 ∷ []) 5 tt h)
+none-wide Start h st = refl
+none-wide End h st = refl
+none-wide Brace h st = refl
+
 enum-known-u : tie.Need-enum-known-u
 enum-known-u c = search needs
 
@@ -41,15 +52,6 @@ value-requires c κs = (c .before .before .before .before .pre .0, rw (c .before
 number-width-requires : tie.Need-number-width-requires
 number-width-requires c κs = search needs
 
-enum-told : tie.Need-enum-told
-enum-told c = search needs
-
-enum-told-2 : tie.Need-enum-told-2
-enum-told-2 c = search needs
-
-enum-told-3 : tie.Need-enum-told-3
-enum-told-3 c = search needs
-
 returns : tie.Need-returns
 unfolding width contents
 returns c = λ st h. ap length (c .entry .ensures st h) ∙ rw (c .before .before .u .given .1)
@@ -59,16 +61,10 @@ unfolding width contents
 returns-2 c = λ st h. c .number-width .ensures ∙ rw (c .before .value .ensures st h, c .before .before .before .u2 .given .1)
 
 returns-3 : tie.Need-returns-3
-returns-3 c = λ st h. rw (c .enum-told .given .1)
+returns-3 c = λ st h. none-wide (c .before .before .args .u) (c .match .keys3) st
 
 returns-4 : tie.Need-returns-4
-returns-4 c = λ st h. rw (c .enum-told2 .given .1)
-
-returns-5 : tie.Need-returns-5
-returns-5 c = λ st h. rw (c .enum-told3 .given .1)
-
-returns-6 : tie.Need-returns-6
-returns-6 c = λ st h. one-wide (c .before .before .args .u) (c .match .keys6) st
+returns-4 c = λ st h. one-wide (c .before .before .args .u) (c .match .keys4) st
 
 pub width-of-spec : {M : Type 1} → statement M
 width-of-spec =
@@ -79,12 +75,7 @@ width-of-spec =
     enum-known-u-2
     value-requires
     number-width-requires
-    enum-told
-    enum-told-2
-    enum-told-3
     returns
     returns-2
     returns-3
-    returns-4
-    returns-5
-    returns-6)
+    returns-4)

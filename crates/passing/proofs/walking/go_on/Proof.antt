@@ -1,12 +1,11 @@
 use mathlib.Core.Path.{refl, _∙_}
 use Rattle.passing.proofs.FindLaws.{ready-trying}
 use Rattle.passing.proofs.PlaceLaws.{ready, finds, finds-none, goes-free, occurring, renewing, goes-acted}
-use borrow.Author.Needs.{needs}
 use Rattle.passing.proofs.walking.go_on.Statement.{statement}
 use Rattle.passing.proofs.walking.go_on.Tie as tie
 
 differs-requires : tie.Need-differs-requires
-differs-requires c κs = search needs
+differs-requires c κs = tt
 
 returns : tie.Need-returns
 returns c = goes-free _ _ _ _ _ _ _ _ _ (c .before .before .before .before .before .before .before .before .before .before .pre .0) _ (c .before .before .before .before .before .before .before .before .before .before .pre .1) _ _ _ (finds-none _ _ _ _ _ _ _ _ (c .before .before .before .before .before .before .before .before .before .before .args .at) (c .before .before .before .before .before .before .before .before .before .before .pre .0) _ (c .before .differs .ensures) (c .if1 .taken)) refl
@@ -15,13 +14,13 @@ elements-requires : tie.Need-elements-requires
 elements-requires c κs = ready-trying _ _ _ _ _ _ _ (ready _ _ _ _ _ _ _ _ _ _ (c .before .before .before .before .before .before .before .before .before .before .before .before .before .pre .0))
 
 counted-requires : tie.Need-counted-requires
-counted-requires c κs = search needs
+counted-requires c κs = tt
 
 enum-known-found : tie.Need-enum-known-found
-enum-known-found c = search needs
+enum-known-found c = c .match .keys1
 
 enum-told : tie.Need-enum-told
-enum-told c = search needs
+enum-told c = c .match .keys2
 
 same-length : tie.Need-same-length
 same-length c = refl
@@ -42,7 +41,7 @@ renew-requires : tie.Need-renew-requires
 renew-requires c κs = renewing _ _ _ _ _ _ _ _ (c .before .before .before .before .before .before .before .before .before .before .before .before .before .before .before .before .before .before .before .before .before .before .before .before .before .before .before .before .before .before .before .before .before .args .at) (c .before .before .before .before .before .before .before .before .before .before .before .before .before .before .before .before .before .before .before .before .before .before .before .before .before .before .before .before .before .before .before .before .before .pre .0) _ (c .before .before .before .before .before .before .before .before .before .before .before .before .before .before .before .before .before .before .before .before .before .before .before .before .before .before .before .before .before .before .before .before .before .pre .1) _ _ _ (finds _ _ _ _ _ _ _ _ (c .before .before .before .before .before .before .before .before .before .before .before .before .before .before .before .before .before .before .before .before .before .before .before .before .before .before .before .before .before .before .before .before .before .args .at) (c .before .before .before .before .before .before .before .before .before .before .before .before .before .before .before .before .before .before .before .before .before .before .before .before .before .before .before .before .before .before .before .before .before .pre .0) _ _ _ _ (c .before .before .before .before .before .before .before .before .before .before .before .before .before .before .before .before .before .before .before .elements .ensures) (c .before .before .before .before .before .before .before .before .before .before .before .before .before .before .counted .ensures)) _ (c .before .before .before .before .before .before .before .before .before .before .before .before .found .given .1) (c .before .before .before .before .before .before .before .before .before .before .before .before .before .before .before .before .before .before .before .elements .kept .1 .1 .1 .1 .1 .1 .0) _ _ _ (c .before .before .before .before .before .before .before .occurrence .ensures)
 
 after-requires : tie.Need-after-requires
-after-requires c κs = search needs
+after-requires c κs = tt
 
 same-length-4 : tie.Need-same-length-4
 same-length-4 c = c .before .before .before .before .before .before .before .before .before .before .before .before .before .occurrence .kept .1 .1 .1 .0
