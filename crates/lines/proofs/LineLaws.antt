@@ -10,15 +10,16 @@ use lib.ListN.{length, getElem?}
 use lib.Seq.{slice, take-length}
 use Rattle.macros.specs.Refusals.{WorkRefusal}
 use Rattle.macros.specs.Refusals.WorkRefusal.{budgetUsedUp}
-use Rattle.macros.specs.Macro.{Macro, Table, pick}
+use Rattle.macros.specs.Macro.{Symbol, Macro, Table, pick}
+use Rattle.macros.specs.Macro.Symbol.{equal, less}
 use Rattle.lines.specs.State.{State}
 use Rattle.lines.specs.Matching.{Divides}
 use Rattle.lines.specs.Replacing.{Work, Done, onto}
 use Rattle.lines.specs.Replacing.Done.{bad, good}
 use Rattle.lines.specs.Pass.{Walk, ended, occurs, pass, occurred, outcome}
-use Rattle.lines.specs.Line.{Numbered, Pass, Line, passed, refused, done, control, isIn, newestFirst, closedBy, isControl, due, follow, afterPass, textOf, passes, lineOf, ending}
+use Rattle.lines.specs.Line.{Numbered, Pass, Line, passed, refused, done, control, isIn, newestFirst, closing, closedBy, isControl, due, follow, afterPass, textOf, passes, lineOf, ending}
 use Rattle.lines.specs.Line.{Line.ended as lineEnded}
-use Rattle.lines.specs.Demand.{Nowhere, Walks, Copied, Due, PassHolds, closedAfter, sinceAfter, Passes, closedIn}
+use Rattle.lines.specs.Demand.{Nowhere, Walks, Copied, Due, PassHolds, closedIf, closedAfter, sinceAfter, Passes, closedIn}
 use Rattle.lines.proofs.PassLaws.{Good, pass-walks}
 use Rattle.lines.proofs.OpenLaws.{in-cons, Todo, todo-next, todo-all}
 
@@ -61,6 +62,15 @@ module _ (m : Macro) (t : List ℕ) (st : State) where
 
 -- THE PASSES
 
+-- what a pass with an occurrence closes
+closed-by : (e : Numbered) (closed : List ℕ) → closedBy e closed ≡ closedIf true (e .macro .symbol) (e .number) closed
+unfolding closedBy closing
+closed-by e closed = by (e .macro .symbol)
+  where
+    by : (y : Symbol) → closing y (e .number) closed ≡ closedIf true y (e .number) closed
+    by less = refl
+    by equal = refl
+
 module _ (ms : Table) (closed since : List ℕ) (st : State) (t : List ℕ) where
   due-holds : (b : Bool) → isControl t ≡ b → (todo : List Numbered) (next : Numbered → List Numbered → Line) → Todo (Due ms closed since) todo → NotRefused (due b t st todo next)
       → ((e : Numbered) (es : List Numbered) → isControl t ≡ false → Todo (Due ms closed since) (e ∷ es) → NotRefused (next e es) → Passes ms closed since t st (next e es))
@@ -80,13 +90,13 @@ module _ (ms : Table) (closed since : List ℕ) (st : State) (t : List ℕ) wher
     follow-good h r v z = h r (ap (λ (a : Done). ending (follow a (occurred k) on again)) z)
 
     follow-holds : Good k → (a : Done) (o : Bool) → outcome k ≡ a → occurred k ≡ o → NotRefused (follow a o on again)
-        → (v : Work) × (a ≡ good v) × Passes ms (pick o (closedBy e closed) closed) (pick o [] (e .number ∷ since)) (textOf v) (v .state) (follow a o on again)
+        → (v : Work) × (a ≡ good v) × Passes ms (closedIf o (e .macro .symbol) (e .number) closed) (pick o [] (e .number ∷ since)) (textOf v) (v .state) (follow a o on again)
     unfolding follow ending pick
     follow-holds g (bad r w) o ea eo h = absurd (g r w ea)
     follow-holds g (good w) false ea eo h =
         let c = nothing-changed (e .macro) t st k (walks g) w ea eo in
         (w, refl, subst (λ (s : List ℕ). Passes ms closed (e .number ∷ since) s (w .state) (on w)) (sym (c .0)) (subst (λ (s : State). Passes ms closed (e .number ∷ since) t s (on w)) (sym (c .1)) (ons w h)))
-    follow-holds g (good w) true ea eo h = (w, refl, agains w h)
+    follow-holds g (good w) true ea eo h = (w, refl, subst (λ (c : List ℕ). Passes ms c [] (textOf w) (w .state) (again w)) (closed-by e closed) (agains w h))
 
     after-holds : NotRefused (afterPass (record { which = e; text = t; state = st; events = k }) on again)
         → Passes ms closed since t st (afterPass (record { which = e; text = t; state = st; events = k }) on again)
@@ -128,7 +138,7 @@ Empty ms closed since t st = (i : ℕ) (m : Macro) → getElem? ms i ≡ some m 
 
 empty-next : (ms : Table) (closed since : List ℕ) (t : List ℕ) (st : State) (x : Pass) → PassHolds ms closed since t st x → (v : Work) → outcome (x .events) ≡ good v
     → Empty ms closed since t st → (o : Bool) → occurred (x .events) ≡ o
-    → Empty ms (pick o (closedBy (x .which) closed) closed) (pick o [] (x .which .number ∷ since)) (textOf v) (v .state)
+    → Empty ms (closedIf o (x .which .macro .symbol) (x .which .number) closed) (pick o [] (x .which .number ∷ since)) (textOf v) (v .state)
 unfolding pick isIn
 empty-next ms closed since t st x h v e g true o i m at f s = absurd (false≢true s)
 empty-next ms closed since t st x h v e g false o i m at f s =

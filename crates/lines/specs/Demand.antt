@@ -1,15 +1,16 @@
 -- Demand 3, over every list of lines. It speaks of divisions (Divides, Fewer), never of the chooser. Quoted is the demand, or the part of 01 that is named.
--- In brackets stand the edits of must-fail/ that a clause rules out. less_left_open is ruled out by lineCases, budget_off_by_one and line_too_long by FeedKeeps and by lineCases and lineBounds.
+-- In brackets stand the edits of must-fail/ that a clause rules out. budget_off_by_one and line_too_long are ruled out by FeedKeeps and by lineCases and lineBounds.
 use mathlib.Core.Path.{_≡_}
 use Prim.Native.Nat.{ℕ, suc, _≤_, _<_}
-use mathlib.Core.Bool.{true, false}
+use mathlib.Core.Bool.{Bool, true, false}
 use mathlib.Core.Logic.{_⊎_, _↔_}
 use mathlib.Core.List.{List, [], _∷_, _++_}
 use mathlib.Core.Option.{Option, none, some}
 use lib.Dec.{eqb}
 use lib.ListN.{length, getElem?}
 use lib.Seq.{slice}
-use Rattle.macros.specs.Macro.{Macro, Table, pick}
+use Rattle.macros.specs.Macro.{Symbol, Macro, Table, pick}
+use Rattle.macros.specs.Macro.Symbol.{equal, less}
 use Rattle.macros.specs.Accepted.{Accepted}
 use Rattle.lines.specs.State.{State, fresh}
 use Rattle.lines.specs.Matching.{Division, Divides, Fewer, endOf}
@@ -18,7 +19,7 @@ use Rattle.lines.specs.Replacing.{Work, occur}
 use Rattle.lines.specs.Replacing.Done.{bad, good}
 use Rattle.lines.specs.Pass.{Occurrence, Walk, occurred, outcome}
 use Rattle.lines.specs.Pass.Walk.{ended, occurs}
-use Rattle.lines.specs.Line.{Pass, Line, isIn, closedBy, isControl, textOf, lineOf, passesOf, hadOccurrence, ending}
+use Rattle.lines.specs.Line.{Pass, Line, isIn, isControl, textOf, lineOf, passesOf, hadOccurrence, ending}
 use Rattle.lines.specs.Line.Ending.{refused, done, control}
 use Rattle.lines.specs.Line.{Line.ended as lineEnded, Line.passed as passed}
 use Rattle.lines.specs.Feeding.{orderOf, Kind, Answer, kindOfDone, Fed, feeds}
@@ -101,9 +102,14 @@ pub record PassHolds (ms : Table) (closed since : List ℕ) (t : List ℕ) (st :
   -- it tries place 0 first, with nothing of the new line made
   pub walks : Walks (x .which .macro) t 0 none (record { out = []; size = 0; state = st }) (x .events)
 
--- "A `<` macro that occurred is closed to this line; all others are open." (01, part 6)
+-- "A `<` macro that occurred is closed to this line; all others are open." (01, part 6) [less_left_open, equal_closed]
+abbrev pub closedIf : (occurred : Bool) → Symbol → ℕ → List ℕ → List ℕ
+closedIf true less n closed = n ∷ closed
+closedIf true equal n closed = closed
+closedIf false y n closed = closed
+
 abbrev pub closedAfter : Pass → List ℕ → List ℕ
-closedAfter x closed = pick (occurred (x .events)) (closedBy (x .which) closed) closed
+closedAfter x closed = closedIf (occurred (x .events)) (x .which .macro .symbol) (x .which .number) closed
 
 -- "after a pass with an occurrence, again with the newest" (01, part 6)
 abbrev pub sinceAfter : Pass → List ℕ → List ℕ
