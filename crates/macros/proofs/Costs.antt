@@ -8,6 +8,7 @@ use native.Mathlib.Omega.{arith}
 use lib.ListN.{length, length-append}
 use Rattle.macros.specs.Bounds.{mostEntryBytes}
 use Rattle.macros.specs.Refusals.{FileRefusal}
+use Rattle.macros.specs.Refusals.FileRefusal.{fileTooLong, zeroByte, incomplete, badClass, noUnit, badBrace, badCall, noElement, macroTooLong, tooManyMacros}
 use Rattle.macros.specs.Macro.{Action, Call, Macro, Mark, Member, Move, PatternUnit, Piece, among, pick, tags}
 use Rattle.macros.specs.Macro.Closure.{once, oneOrMore, zeroOrMore}
 use Rattle.macros.specs.Macro.Member.{single}
@@ -225,11 +226,24 @@ Fit (callText pl i h t) = FitPlace pl × Letter i × Bytes t × (length t ≤ mo
 Fit (callTextEscape pl i h t) = FitPlace pl × Letter i × Bytes t × (length t < mostEntryBytes)
 Fit (commands a f ps cs) = Done f ps × FormedCommands (tags (f .pieces)) cs
 
+-- a fault that a byte or the file's end shows: not 10 or 11, which are looked for before
+abbrev pub Shows : FileRefusal → Type 0
+Shows fileTooLong = ⊥
+Shows zeroByte = ⊥
+Shows incomplete = Unit {0}
+Shows badClass = Unit {0}
+Shows noUnit = Unit {0}
+Shows badBrace = Unit {0}
+Shows badCall = Unit {0}
+Shows noElement = Unit {0}
+Shows macroTooLong = Unit {0}
+Shows tooManyMacros = Unit {0}
+
 -- a step from a part that n bytes have paid for
 pub data Good (n : ℕ) : Step → Type 0 where
   fine : {st : Part} → load st ≤ suc n → Fit st → Good n (on st)
   whole : {m : Macro} → Formed m → length (shortest m) ≤ suc n → Good n (done m)
-  fault : {k : FileRefusal} → Good n (stop k)
+  fault : {k : FileRefusal} → Shows k → Good n (stop k)
 
 -- a branch, by both its cases
 pub either : {n : ℕ} {c : Bool} {x y : Step} → (c ≡ true → Good n x) → (c ≡ false → Good n y) → Good n (pick c x y)

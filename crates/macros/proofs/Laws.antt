@@ -1,14 +1,14 @@
 -- The promises of specs/RoundTrip.antt, Spelling.antt and ReadKeeps.antt, proved.
-use mathlib.Core.Path.{ap, sym, _∙_}
+use mathlib.Core.Path.{ap, subst, sym, _∙_, _≡_}
 use mathlib.Core.Bool.{false}
-use mathlib.Core.List.{List, [], append-nil, reverse-reverse, _∷_}
-use Prim.Native.Nat.{_+_, ℕ}
+use mathlib.Core.List.{_++_, List, [], append-cancel-left, append-nil, reverse-reverse, _∷_}
+use Prim.Native.Nat.{ℕ}
 use native.Mathlib.Omega.{arith}
 use lib.ListN.{length}
-use Rattle.macros.specs.Bounds.{mostMacroBytes}
 use Rattle.macros.specs.Macro.{Macro, Table, pick}
 use Rattle.macros.specs.Formed.{Bytes, Octets}
-use Rattle.macros.specs.Read.{atEnd, readFile, readFrom}
+use Rattle.macros.specs.Read.{atEnd, readFile, readFrom, readOnto}
+use Rattle.macros.specs.Read.Read.{table}
 use Rattle.macros.specs.Read.Reader.{between}
 use Rattle.macros.specs.Write.{writeOut}
 use Rattle.macros.specs.Spell.{shortest}
@@ -50,9 +50,15 @@ shortest-reads m g h =
     (ap (readFrom 0 (between false [])) (sym (append-nil (spelled bare m)))
     ∙ read-macro bare fair-bare m g (rw e at h) 0 [] [] (omega arith))
 
+-- a macro that bytes were read as, whatever was there before
+spelled-in : (older : Table) (m : Macro) (s : List ℕ) → Octets s → readOnto older s ≡ table (older ++ (m ∷ [])) → SpelledIn (length s) m
+spelled-in older m s g e =
+    let p = produced older s (older ++ (m ∷ [])) g e in
+    let z : p .new ≡ m ∷ [] = sym (append-cancel-left older (m ∷ []) (p .new) (p .behind)) in
+    subst (λ (l : Table). Each (SpelledIn (length s)) l) z (p .each) .0
+
 pub no-shorter : NoShorter
-unfolding readFile
-no-shorter m s g e = let p = produced [] 0 s (m ∷ []) tt (omega arith) g e in omega (arith, p .each .0 .least)
+no-shorter older m s g e = spelled-in older m s g e .least
 
 octets : (s : List ℕ) → Bytes s → Octets s
 octets [] g = tt
@@ -62,7 +68,7 @@ pub some-file-spells : SomeFileSpells
 unfolding readFile
 some-file-spells m = (
   λ h. (shortest m, octets (shortest m) (rw (shortest-bare m) (whole-spelled bare m (h .0))), shortest-reads m (h .0) (h .1)),
-  λ f. let r = produced [] 0 (f .0) (m ∷ []) tt (omega arith) (f .1) (f .2) in (r .each .0 .formed, r .each .0 .short),
+  λ f. let r = spelled-in [] m (f .0) (f .1) (f .2) in (r .formed, r .short),
 )
 
 each-map : (P Q : Macro → Type 0) → ((m : Macro) → P m → Q m) → (ms : Table) → Each P ms → Each Q ms
@@ -77,18 +83,15 @@ accepted-means ms = (
 
 -- READING
 
-spelled-in : (ms : Table) → Each Spellable ms → Each (SpelledIn mostMacroBytes) ms
-spelled-in [] e = tt
-spelled-in (m ∷ ms) e = (record { formed = e .0 .0; short = e .0 .1; least = e .0 .1 }, spelled-in ms (e .1))
-
-spellable : (q : ℕ) (ms : Table) → Each (SpelledIn q) ms → Each Spellable ms
-spellable q [] e = tt
-spellable q (m ∷ ms) e = ((e .0 .formed, e .0 .short), spellable q ms (e .1))
+each-append : (P : Macro → Type 0) (ms new : Table) → Each P ms → Each P new → Each P (ms ++ new)
+each-append P [] new e f = f
+each-append P (m ∷ ms) new e f = (e .0, each-append P ms new (e .1) f)
 
 pub read-keeps : ReadKeeps
 read-keeps older s ms a g e =
-    let p = produced older mostMacroBytes s ms (spelled-in older (a .macros)) (a .count) g e in
+    let p = produced older s ms g e in
+    let new : Each Spellable (p .new) = each-map (SpelledIn (length s)) Spellable (λ m x. (x .formed, x .short)) (p .new) (p .each) in
     record {
-      accepted = record { count = p .count; macros = spellable (mostMacroBytes + length s) ms (p .each) };
-      behind = p .behind;
+      accepted = record { count = p .count (a .count); macros = rw (p .behind) (each-append Spellable older (p .new) (a .macros) new) };
+      behind = (p .new, p .behind);
     }

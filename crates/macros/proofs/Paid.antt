@@ -4,11 +4,11 @@ use mathlib.Core.Bool.{_&&_, Bool, false, true}
 use mathlib.Core.List.{_++_, List, [], reverse, reverse-append, reverse-reverse, reverseAux, _∷_}
 use mathlib.Core.Option.{Option, none, some}
 use Prim.Native.Nat.{_+_, _<_, suc, ℕ, _≤_}
-use native.Mathlib.Nat.{add-zero}
+use native.Mathlib.Nat.{add-zero, zero-add}
 use native.Mathlib.Omega.{arith}
 use lib.ListN.{length, length-reverse}
 use lib.Dec.{eqb, ltb}
-use borrow.Author.Tests.{eqb-false, ltb-true}
+use borrow.Author.Tests.{eqb-false, le-ltb, ltb-true}
 use Rattle.macros.specs.Bounds.{mostFileBytes, mostMacroBytes, mostMacros}
 use Rattle.macros.specs.Refusals.{FileRefusal}
 use Rattle.macros.specs.Refusals.FileRefusal.{fileTooLong, zeroByte}
@@ -27,8 +27,8 @@ use Rattle.macros.specs.Spell.{behind, leavesUnit, shortest, spellUnit}
 use Rattle.macros.specs.Accepted.{Each}
 use Rattle.macros.specs.Spell.{callTextSigns}
 use Rattle.macros.proofs.Readings.{settled, withMark}
-use Rattle.macros.proofs.Round.{read-go, read-refuse}
-use Rattle.macros.proofs.Costs.{Done, Fit, Good, byte-most, cost, cost-once, costActions, costText, either, figures, gap, gapMark, load, loadCall, slack, slackMark, top, topMark}
+use Rattle.macros.proofs.Round.{no-zero, read-go, read-refuse}
+use Rattle.macros.proofs.Costs.{Done, Fit, Good, Shows, byte-most, cost, cost-once, costActions, costText, either, figures, gap, gapMark, load, loadCall, slack, slackMark, top, topMark}
 use Rattle.macros.proofs.Costs.Good.{fault, fine, whole}
 use Rattle.macros.proofs.PaidPattern.{escaped-byte, escaped-load, literal-length, members-good, new-good, new-most, opened-good, pattern-good}
 use Rattle.macros.proofs.PaidCalls.{call-good, call-text-good, commands-good, cost-text, escaped-text-load, figures-more, low-name, otherwise-good, replacement-good, tag-good, turned-good}
@@ -57,16 +57,16 @@ keeps (patternCalled m ps i) n b g s l f =
     either (λ e. fine (omega (arith, cost-once (callOf m i) ps, call-of-length m i (top ps))) (f .1, f .0)) (λ e. otherwise-good n (patternCalled m ps i) b l f)
 keeps (awaitSymbol ps) n b g s l f =
     either (λ e. fine (omega arith) f)
-    (λ e. either (λ k. fine (omega arith) f) (λ k. either (λ j. fault) (λ j. fine (omega arith) f)))
+    (λ e. either (λ k. fine (omega arith) f) (λ k. either (λ j. fault tt) (λ j. fine (omega arith) f)))
 keeps (awaitQuote fr) n b g s l f =
-    either (λ e. fine (omega (arith, gap-none)) (f, tt)) (λ e. either (λ k. fault) (λ k. fine (omega arith) f))
+    either (λ e. fine (omega (arith, gap-none)) (f, tt)) (λ e. either (λ k. fault tt) (λ k. fine (omega arith) f))
 keeps (replacement a fr ps) n b g s l f = replacement-good n b g fr a ps s l f
 keeps (replacementEscape fr ps) n b g s l f =
     let c = escaped b in
     fine {st = replacement none fr (text c ∷ ps)} (omega (arith, escaped-text-load c ps, cost-text ps c)) (f .0, (escaped-byte b g, f .1))
 keeps (tagNumber o fr ps) n b g s l f =
     either (λ e. fine (omega (arith, figures-more o b e)) f)
-    (λ e. either (λ k. tag-good n o fr ps l f) (λ k. either (λ j. fault) (λ j. fault)))
+    (λ e. either (λ k. tag-good n o fr ps l f) (λ k. either (λ j. fault tt) (λ j. fault tt)))
 keeps (calling pl ph) n b g s l f =
     turned-good n pl ph b (callByte (isCommand pl) ph b) (call-good (isCommand pl) ph b (loadCall ph) (omega arith) (f .1)) l (f .0) (f .1)
 keeps (callText pl i j t) n b g s l f = call-text-good n b g pl i j t s l f
@@ -83,36 +83,41 @@ pub record SpelledIn (q : ℕ) (m : Macro) : Type 0 where
   pub short : length (shortest m) ≤ mostMacroBytes
   pub least : length (shortest m) ≤ q
 
--- the macros so far, newest first: those that were there before, and behind q bytes those that were read
-pub record Onto (old : List Macro) (q : ℕ) (ms : List Macro) : Type 0 where
-  pub each : Each (SpelledIn q) ms
-  pub added : (new : List Macro) × (ms ≡ new ++ old)
+-- the macros so far, newest first: those that q bytes were read as, and behind them those that were there before
+record Onto (old : List Macro) (q : ℕ) (ms : List Macro) : Type 0 where
+  new : List Macro
+  added : ms ≡ new ++ old
+  each : Each (SpelledIn q) new
 
 each-more : (q : ℕ) (ms : List Macro) → Each (SpelledIn q) ms → Each (SpelledIn (suc q)) ms
 each-more q [] e = tt
 each-more q (m ∷ ms) e = (record { formed = e .0 .formed; short = e .0 .short; least = omega (arith, e .0 .least) }, each-more q ms (e .1))
 
-pub each-onto : (q : ℕ) (ms l : List Macro) → Each (SpelledIn q) ms → Each (SpelledIn q) l → Each (SpelledIn q) (reverseAux ms l)
+each-onto : (q : ℕ) (ms l : List Macro) → Each (SpelledIn q) ms → Each (SpelledIn q) l → Each (SpelledIn q) (reverseAux ms l)
 each-onto q [] l e f = f
 each-onto q (m ∷ ms) l e f = each-onto q ms (m ∷ l) (e .1) (e .0, f)
 
 module _ (old : List Macro) where
   -- one more byte
   later : (q : ℕ) (ms : List Macro) → Onto old q ms → Onto old (suc q) ms
-  later q ms o = record { each = each-more q ms (o .each); added = o .added }
+  later q ms o = record { new = o .new; added = o .added; each = each-more q (o .new) (o .each) }
 
   -- one more macro
   longer : (q : ℕ) (m : Macro) (ms : List Macro) → SpelledIn q m → Onto old q ms → Onto old q (m ∷ ms)
-  longer q m ms f o = record { each = (f, o .each); added = (m ∷ o .added .0, ap (λ (l : List Macro). m ∷ l) (o .added .1)) }
+  longer q m ms f o = record { new = m ∷ o .new; added = ap (λ (l : List Macro). m ∷ l) (o .added); each = (f, o .each) }
+
+-- at most 96 macros, if those before were no more
+abbrev pub Few : List Macro → List Macro → Type 0
+Few old ms = length old ≤ mostMacros → length ms ≤ mostMacros
 
 -- what holds of the reader behind p bytes
 Sound : List Macro → ℕ → Reader → Type 0
-Sound old p (between skip ms) = Onto old p ms × (length ms ≤ mostMacros)
+Sound old p (between skip ms) = Onto old p ms × Few old ms
 Sound old p (inside skip n st ms) = (load st ≤ n) × Fit st × (n ≤ mostMacroBytes) × (n ≤ p) × Onto old p ms × (length ms < mostMacros)
 
 data Sure (old : List Macro) (p : ℕ) : Next → Type 0 where
   ahead : {r : Reader} → Sound old p r → Sure old p (go r)
-  back : {k : FileRefusal} → Sure old p (refuse k)
+  back : {k : FileRefusal} → Shows k → Sure old p (refuse k)
 
 which : {old : List Macro} {p : ℕ} {c : Bool} {x y : Next} → (c ≡ true → Sure old p x) → (c ≡ false → Sure old p y) → Sure old p (pick c x y)
 unfolding pick
@@ -123,47 +128,50 @@ taken-sure : (old : List Macro) (p n : ℕ) (ms : List Macro) (x : Step) → Goo
     → Sure old (suc p) (taken n ms x)
 unfolding taken count Sound
 taken-sure old p n ms (on st) (fine l f) h k e z =
-    which (λ t. ahead (l, f, ltb-true n 512 t, omega arith, later old p ms e, z)) (λ t. back)
+    which (λ t. ahead (l, f, ltb-true n 512 t, omega arith, later old p ms e, z)) (λ t. back tt)
 taken-sure old p n ms (done m) (whole f l) h k e z =
     which
-    (λ t. let w : n < 512 = ltb-true n 512 t in ahead (longer old (suc p) m ms (record { formed = f; short = omega arith; least = omega arith }) (later old p ms e), omega arith))
-    (λ t. back)
-taken-sure old p n ms (stop j) fault h k e z = back
+    (λ t. let w : n < 512 = ltb-true n 512 t in ahead (longer old (suc p) m ms (record { formed = f; short = omega arith; least = omega arith }) (later old p ms e), λ i. omega arith))
+    (λ t. back tt)
+taken-sure old p n ms (stop j) (fault w) h k e z = back w
 
 step-sure : (old : List Macro) (r : Reader) (p b : ℕ) → Byte b → Sound old p r → Sure old (suc p) (step r b)
 unfolding step Sound count load Fit settled slack cost top gap
 step-sure old (between skip ms) p b g s =
     which (λ e. ahead (later old p ms (s .0), s .1))
-    (λ e. which (λ q. which (λ t. ahead (omega arith, tt, omega arith, omega arith, later old p ms (s .0), ltb-true (length ms) 96 t)) (λ t. back))
+    (λ e. which (λ q. which (λ t. ahead (omega arith, tt, omega arith, omega arith, later old p ms (s .0), ltb-true (length ms) 96 t)) (λ t. back tt))
     (λ q. ahead (later old p ms (s .0), s .1)))
 step-sure old (inside skip n st ms) p b g s =
-    which (λ e. which (λ t. ahead (omega (arith, s .0), s .1, ltb-true n 512 t, omega (arith, s .3), later old p ms (s .4), s .5)) (λ t. back))
-    (λ e. which (λ k. which (λ t. ahead (omega (arith, s .0), s .1, ltb-true n 512 t, omega (arith, s .3), later old p ms (s .4), s .5)) (λ t. back))
+    which (λ e. which (λ t. ahead (omega (arith, s .0), s .1, ltb-true n 512 t, omega (arith, s .3), later old p ms (s .4), s .5)) (λ t. back tt))
+    (λ e. which (λ k. which (λ t. ahead (omega (arith, s .0), s .1, ltb-true n 512 t, omega (arith, s .3), later old p ms (s .4), s .5)) (λ t. back tt))
     (λ k. taken-sure old p n ms (partByte st b) (keeps st n b g e (s .0) (s .1)) (s .2) (s .3) (s .4) (s .5)))
 
 -- what holds of a table that was read onto another from q bytes, both oldest first
 pub record Produced (older : Table) (q : ℕ) (ms : Table) : Type 0 where
-  pub each : Each (SpelledIn q) ms
-  pub count : length ms ≤ mostMacros
-  pub behind : (new : Table) × (ms ≡ older ++ new)
+  pub new : Table
+  pub behind : ms ≡ older ++ new
+  pub each : Each (SpelledIn q) new
+  pub count : Few older ms
 
+-- what holds of what was read
 data Right (older : Table) (q : ℕ) : Read → Type 0 where
   macros : {ms : Table} → Produced older q ms → Right older q (table ms)
-  refusal : {n : FileRefusal} {p : ℕ} → Right older q (refusedAt n p)
+  refusal : {n : FileRefusal} {p : ℕ} → Shows n → Right older q (refusedAt n p)
 
-finished : (old : List Macro) (q : ℕ) (ms : List Macro) → Onto old q ms → length ms ≤ mostMacros → Produced (reverse old) q (reverse ms)
+finished : (old : List Macro) (q : ℕ) (ms : List Macro) → Onto old q ms → Few old ms → Produced (reverse old) q (reverse ms)
 finished old q ms o h =
     record {
-      each = each-onto q ms [] (o .each) tt;
-      count = rw (length-reverse ms) h;
-      behind = (reverse (o .added .0), ap reverse (o .added .1) ∙ reverse-append (o .added .0) old);
+      new = reverse (o .new);
+      behind = ap reverse (o .added) ∙ reverse-append (o .new) old;
+      each = each-onto q (o .new) [] (o .each) tt;
+      count = λ l. rw (length-reverse ms) (h (rw (length-reverse old) at l));
     }
 
 read-right : (old : List Macro) (s : List ℕ) (p q : ℕ) (r : Reader) → Bytes s → Sound old q r → Right (reverse old) (q + length s) (readFrom p r s)
 unfolding readFrom Sound atEnd
-read-right old [] p q (between true ms) g h = unfold pick in refusal
+read-right old [] p q (between true ms) g h = unfold pick in refusal tt
 read-right old [] p q (between false ms) g h = unfold pick in macros {ms = reverse ms} (rw add-zero (finished old q ms (h .0) (h .1)))
-read-right old [] p q (inside skip n st ms) g h = refusal
+read-right old [] p q (inside skip n st ms) g h = refusal tt
 read-right old (b ∷ s) p q r g h = by (step r b) refl (step-sure old r q b (g .0) h) (λ r′ i. read-right old s (suc p) (suc q) r′ (g .1) i)
   where
     by : (v : Next) → step r b ≡ v → Sure old (suc q) v → ((r′ : Reader) → Sound old (suc q) r′ → Right (reverse old) (suc q + length s) (readFrom (suc p) r′ s))
@@ -171,7 +179,7 @@ read-right old (b ∷ s) p q r g h = by (step r b) refl (step-sure old r q b (g 
     by (go r′) e (ahead i) ih =
         let k : q + suc (length s) ≡ suc q + length s = omega arith in
         rw (k, read-go p r r′ b s e) (ih r′ i)
-    by (refuse k) e back ih = rw (read-refuse p k r b s e) refusal
+    by (refuse k) e (back w) ih = rw (read-refuse p k r b s e) (refusal w)
 
 no-zeros : (p : ℕ) (s : List ℕ) → Octets s → firstZero p s ≡ none → Bytes s
 unfolding firstZero
@@ -182,24 +190,33 @@ no-zeros p (b ∷ s) g e = by (eqb b 0) refl e (λ f. no-zeros (suc p) s (g .1) 
     by true q f ih = unfold pick in let z : _≡_ {A = ℕ} 0 1 = cc in absurd (omega arith)
     by false q f ih = unfold pick in (omega (arith, eqb-false b 0 q, g .0), ih f)
 
+-- bytes read onto a table, whatever its macros
+read-onto : (older : Table) (s : List ℕ) → Bytes s → Right older (length s) (readFrom 0 (between false (reverse older)) s)
+unfolding Sound
+read-onto older s g =
+    let o : Onto (reverse older) 0 (reverse older) = record { new = []; added = refl; each = tt } in
+    rw (reverse-reverse older, zero-add (length s)) at (read-right (reverse older) s 0 0 (between false (reverse older)) g (o, λ l. l))
+
 right-table : (older : Table) (q : ℕ) (r : Read) (ms : Table) → Right older q r → r ≡ table ms → Produced older q ms
 right-table older q (table l) ms (macros e) t = let z : l ≡ ms = cc in rw (← z) e
-right-table older q (refusedAt n p) ms refusal t = let z : _≡_ {A = ℕ} 0 1 = cc in absurd (omega arith)
+right-table older q (refusedAt n p) ms (refusal w) t = let z : _≡_ {A = ℕ} 0 1 = cc in absurd (omega arith)
 
--- reading onto a table whose macros have spellings of at most q bytes
-pub produced : (older : Table) (q : ℕ) (s : List ℕ) (ms : Table) → Each (SpelledIn q) older → length older ≤ mostMacros → Octets s → readOnto older s ≡ table ms
-    → Produced older (q + length s) ms
+pub produced : (older : Table) (s : List ℕ) (ms : Table) → Octets s → readOnto older s ≡ table ms → Produced older (length s) ms
 unfolding readOnto
-produced older q s ms a h g e = by (ltb mostFileBytes (length s)) (firstZero 0 s) refl e
+produced older s ms g e = by (ltb mostFileBytes (length s)) (firstZero 0 s) refl e
   where
     by : (x : Bool) (o : Option ℕ) → firstZero 0 s ≡ o
         → pick x (refusedAt fileTooLong mostFileBytes) (elim o [ none ↦ readFrom 0 (between false (reverse older)) s | some p ↦ refusedAt zeroByte p ]) ≡ table ms
-        → Produced older (q + length s) ms
+        → Produced older (length s) ms
     by true o f e = unfold pick in let z : _≡_ {A = ℕ} 0 1 = cc in absurd (omega arith)
     by false (some p) f e = unfold pick in let z : _≡_ {A = ℕ} 0 1 = cc in absurd (omega arith)
-    by false none f e =
-        unfold pick Sound in
-        let o : Onto (reverse older) q (reverse older) = record { each = each-onto q older [] a tt; added = ([], refl) } in
-        rw (reverse-reverse older) at
-        (right-table (reverse (reverse older)) (q + length s) _ ms
-        (read-right (reverse older) s 0 q (between false (reverse older)) (no-zeros 0 s g f) (o, rw (length-reverse older) h)) e)
+    by false none f e = unfold pick in right-table older (length s) _ ms (read-onto older s (no-zeros 0 s g f)) e
+
+right-refusal : (older : Table) (q : ℕ) (r : Read) (k : FileRefusal) (p : ℕ) → Right older q r → r ≡ refusedAt k p → Shows k
+right-refusal older q (table l) k p (macros e) t = let z : _≡_ {A = ℕ} 0 1 = cc in absurd (omega arith)
+right-refusal older q (refusedAt n j) k p (refusal w) t = let z : n ≡ k = cc in rw (← z) w
+
+-- bytes that are no more than a file may have, none of them 0, are not refused by 10 or 11
+pub refusal-shows : (older : Table) (s : List ℕ) (k : FileRefusal) (p : ℕ) → Bytes s → length s ≤ mostFileBytes → readOnto older s ≡ refusedAt k p → Shows k
+unfolding readOnto pick
+refusal-shows older s k p g h e = right-refusal older (length s) _ k p (read-onto older s g) (simp (le-ltb 32768 (length s) h, no-zero 0 s g) at e)

@@ -182,7 +182,7 @@ call-good cmd (texted i j t) b n h f =
 -- a space in a call, or a fault
 pub otherwise-good : (n : ℕ) (st : Part) (b : ℕ) → load st ≤ n → Fit st → Good n (otherwise st b)
 unfolding otherwise
-otherwise-good n st b h f = either (λ e. fine (omega arith) f) (λ e. either (λ k. fault) (λ k. fault))
+otherwise-good n st b h f = either (λ e. fine (omega arith) f) (λ e. either (λ k. fault tt) (λ k. fault tt))
 
 -- behind a call
 placed-good : (n : ℕ) (pl : Place) (c : Call) → base pl + length (callBytes spellText c) ≤ suc n → FitPlace pl → FormedCall (tags (frontOf pl .pieces)) c
@@ -197,7 +197,7 @@ unfolding turned load Fit costText
 turned-good n pl ph b (into q) (onward l f) h d e = fine {st = calling pl q} (omega arith) (d, f)
 turned-good n pl ph b (textOf i j) (worded l f) h d e = fine {st = callText pl i j []} (omega arith) (d, f, tt, omega arith)
 turned-good n pl ph b (closed c) (ended l f k) h d e =
-    either (λ r. placed-good n pl c (omega arith) d (record { names = f; numbers = r }) k) (λ r. fault)
+    either (λ r. placed-good n pl c (omega arith) d (record { names = f; numbers = r }) k) (λ r. fault tt)
 turned-good n pl ph b wrong astray h d e = otherwise-good n (calling pl ph) b h (d, e)
 
 no-call-text-sign : (b : ℕ) → eqb b 47 ≡ false → eqb b 58 ≡ false → breaks b ≡ false → eqb b 92 ≡ false → among callTextSigns b ≡ false
@@ -211,11 +211,11 @@ pub call-text-good : (n b : ℕ) → Byte b → (pl : Place) (i : ℕ) (j : Move
 unfolding textByte load Fit FitPhase loadCall costText
 call-text-good n b g pl i j t s l h =
     either (λ e. fine (omega arith) (h .0, (h .1, h .2, h .3)))
-    (λ c. either (λ e. fault)
+    (λ c. either (λ e. fault tt)
     (λ k. either
     (λ r. either (λ e. fine (omega arith) (h .0, h .1, h .2, ltb-true (length t) 50 r))
     (λ e. fine (omega (arith, one-byte (no-call-text-sign b s c k e))) (h .0, h .1, (g, h .2), ltb-true (length t) 50 r)))
-    (λ r. fault)))
+    (λ r. fault tt)))
   where
     one-byte : among callTextSigns b ≡ false → length (byte (among callTextSigns b) b) ≡ 1
     one-byte e = rw e (unfold byte in refl)
@@ -299,7 +299,7 @@ module _ (n b : ℕ) (g : Byte b) (f : Front) where
   unfolding replacementFresh load Fit Done figures withMark slackMark costCalls gapMark
   text-good ps s h k d =
       either (λ e. fine (omega arith) (d, tt))
-      (λ q. either (λ e. fault)
+      (λ q. either (λ e. fault tt)
       (λ r. either (λ e. fine (omega arith) d)
       (λ x. either (λ e. fine (omega arith) d)
       (λ y. either (λ e. fine (omega (arith, cost-mark ps stack)) (d .0, (mark-byte stack, d .1)))
@@ -315,9 +315,9 @@ module _ (n b : ℕ) (g : Byte b) (f : Front) where
 
 pub tag-good : (n : ℕ) (o : Option ℕ) (f : Front) (ps : List Action) → load (tagNumber o f ps) ≤ n → Done f ps → Good n (tagEnd o f ps)
 unfolding tagEnd load Fit Done withMark slackMark topMark leavesMark gapMark figures
-tag-good n none f ps h d = fault
+tag-good n none f ps h d = fault tt
 tag-good n (some k) f ps h d =
-    either (λ e. fine (omega (arith, cost-tag ps k)) (d .0, ((within-left 1 (tags (f .pieces)) k e, within-right 1 (tags (f .pieces)) k e), d .1))) (λ e. fault)
+    either (λ e. fine (omega (arith, cost-tag ps k)) (d .0, ((within-left 1 (tags (f .pieces)) k e, within-right 1 (tags (f .pieces)) k e), d .1))) (λ e. fault tt)
 
 -- COMMANDS
 
@@ -338,7 +338,7 @@ commands-fresh : (n b : ℕ) (f : Front) (ps : List Action) (cs : List Call) →
 unfolding commandsFresh load Fit gapMark
 commands-fresh n b f ps cs h d c =
     either (λ e. last-good n f ps cs h d c)
-    (λ e. either (λ k. fault)
+    (λ e. either (λ k. fault tt)
     (λ k. either (λ e. fine (omega arith) (d, c)) (λ k. either (λ e. fine (omega arith) (d, c)) (λ e. fine (omega arith) (d, c)))))
 
 pub commands-good : (n b : ℕ) (a : Option Mark) (f : Front) (ps : List Action) (cs : List Call) → load (commands a f ps cs) ≤ n → Done f ps → FormedCommands (tags (f .pieces)) cs

@@ -109,21 +109,21 @@ module _ (n b : ℕ) (g : Byte b) where
     unfolding patternEnd load Fit
     pattern-end h =
         either
-        (λ d. either (λ e. fine (omega arith) (record { pieces = f; shut = eqb-true (depth ps) 0 d; someElement = ltb-true 0 (elements ps) e })) (λ e. fault))
-        (λ d. fault)
+        (λ d. either (λ e. fine (omega arith) (record { pieces = f; shut = eqb-true (depth ps) 0 d; someElement = ltb-true 0 (elements ps) e })) (λ e. fault tt))
+        (λ d. fault tt)
 
     sign-good : suc (cost ps) ≤ n → Good n (sign ps b)
     unfolding sign load Fit cost spellPiece slack top gap leaves settled
     sign-good h =
         either (λ e. pattern-end h)
-        (λ e. either (λ e. fault)
-        (λ e. either (λ e. fault)
+        (λ e. either (λ e. fault tt)
+        (λ e. either (λ e. fault tt)
         (λ e. either (λ e. fine (omega arith) f)
         (λ e. either (λ e. fine (omega arith) f)
         (λ e. either (λ e. fine (omega arith) f)
         (λ e. either (λ e. fine (omega arith) f)
-        (λ e. either (λ e. either (λ t. fine (omega arith) (ltb-true (tags ps) 99 t, f)) (λ t. fault))
-        (λ e. either (λ t. fine (omega arith) (ltb-true 0 (depth ps) t, f)) (λ t. fault)))))))))
+        (λ e. either (λ e. either (λ t. fine (omega arith) (ltb-true (tags ps) 99 t, f)) (λ t. fault tt))
+        (λ e. either (λ t. fine (omega arith) (ltb-true 0 (depth ps) t, f)) (λ t. fault tt)))))))))
 
     fresh-good : eqb b 47 ≡ false → suc (cost ps) ≤ n → (among signs b ≡ false → suc (cost ps) + length (byte (needs (top ps) b) b) ≤ suc n) → Good n (fresh ps b)
     unfolding fresh load Fit
@@ -230,7 +230,7 @@ member-bytes c isLast a = refl
 module _ (n : ℕ) (ps : List Piece) (f : FormedPieces ps) (neg : Bool) where
   class-good : (ms : List Member) → cost ps + 2 + negs neg + costMembers neg true ms ≤ n → FormedMembers ms → Good n (classEnd ps neg ms)
   unfolding classEnd load Fit settled slack leavesUnit gap
-  class-good [] h g = fault
+  class-good [] h g = fault tt
   class-good (m ∷ ms) h g =
       fine {st = pattern (unit (class neg (reverse (m ∷ ms)))) ps} (omega (arith, cost-once (class neg (reverse (m ∷ ms))) ps, class-length (top ps) neg (m ∷ ms)))
       ((rw (length-reverse (m ∷ ms)) (omega arith), formed-onto (m ∷ ms) [] g tt), f)
@@ -242,7 +242,7 @@ module _ (n : ℕ) (ps : List Piece) (f : FormedPieces ps) (neg : Bool) where
   new-good (member a) ms c g h e = fine {st = members ps neg (member c) (single a ∷ ms)} (omega (arith, member-bytes aSingle false c)) (f, (g, e))
   new-good (dash a) ms c g h e =
       either (λ t. fine (omega (arith, member-bytes (context neg ms) false a, byte-least (needsClass (context neg ms) false a) a, three (context neg ms) a c)) (f, (t, e .1 .1)))
-      (λ t. fault)
+      (λ t. fault tt)
     where
       three : (k : Before) (a z : ℕ) → length (spellMember k false (range a z)) ≡ 3
       three k a z = unfold spellMember in refl
@@ -261,7 +261,7 @@ module _ (n : ℕ) (ps : List Piece) (f : FormedPieces ps) (neg : Bool) where
   unfolding membersByte load Fit
   members-by l ms b g h k e =
       either (λ x. class-good (kept l ms) (omega (arith, end-less neg l ms)) e)
-      (λ x. either (λ y. fault)
+      (λ x. either (λ y. fault tt)
       (λ y. either (λ z. fine (omega arith) (f, e))
       (λ z. either (λ d. dash-good l ms b h e d)
       (λ d. new-good l ms b g (k (no-class-sign b x y z) d) e))))

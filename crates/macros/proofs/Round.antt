@@ -124,7 +124,7 @@ module _ (y : Style) (fair : Fair y) where
 
 -- A FILE
 
-no-zero : (p : ℕ) (s : List ℕ) → Bytes s → firstZero p s ≡ none
+pub no-zero : (p : ℕ) (s : List ℕ) → Bytes s → firstZero p s ≡ none
 unfolding firstZero pick
 no-zero p [] w = refl
 no-zero p (b ∷ s) w = rw (ne-eqb b 0 (omega (arith, w .0 .0))) (no-zero (suc p) s (w .1))
