@@ -16,6 +16,7 @@ use Rattle.macros.specs.Refusals.WorkRefusal.{budgetUsedUp, newLineTooLong, tag
 use Rattle.macros.specs.Macro.{Table}
 use Rattle.macros.specs.Formed.{Between, Bytes}
 use Rattle.macros.specs.Accepted.{Accepted}
+use Rattle.macros.proofs.Costs.{Shows}
 use Rattle.lines.specs.State.{State, InRange}
 use Rattle.lines.specs.Feeding.{Kind, numberOf, placeOf, outputOf, kindOfDone, refusal}
 use Rattle.lines.specs.Feeding.Kind.{refusedWith, out, withheld, controlled}
@@ -37,22 +38,22 @@ line-number lineTooLong = (inr (inr (inr (inl (omega arith)))), inr refl)
 line-number badByte = (inr (inr (inr (inl (omega arith)))), inr refl)
 line-number badControl = (inr (inr (inr (inl (omega arith)))), inr refl)
 
-file-placed : (r : FileRefusal) → Placed (fileNumber r)
+file-between : (r : FileRefusal) → Shows r → Between 12 19 (fileNumber r)
 unfolding fileNumber
-file-placed fileTooLong = omega arith
-file-placed zeroByte = omega arith
-file-placed incomplete = omega arith
-file-placed badClass = omega arith
-file-placed noUnit = omega arith
-file-placed badBrace = omega arith
-file-placed badCall = omega arith
-file-placed noElement = omega arith
-file-placed macroTooLong = omega arith
-file-placed tooManyMacros = omega arith
+file-between fileTooLong h = absurd h
+file-between zeroByte h = absurd h
+file-between incomplete h = omega arith
+file-between badClass h = omega arith
+file-between noUnit h = omega arith
+file-between badBrace h = omega arith
+file-between badCall h = omega arith
+file-between noElement h = omega arith
+file-between macroTooLong h = omega arith
+file-between tooManyMacros h = omega arith
 
-pub file-number : (r : FileRefusal) (p : ℕ) → OfLine (ofFile r p)
+pub file-number : (r : FileRefusal) (p : ℕ) → Shows r → OfLine (ofFile r p)
 unfolding number
-file-number r p = (inr (inr (inl (file-placed r))), inl (file-placed r))
+file-number r p h = let k = file-between r h in (inr (inr (inl k)), inl (omega arith))
 
 work-between : (r : WorkRefusal) → Between 31 35 (workNumber r)
 unfolding workNumber

@@ -1,16 +1,18 @@
 -- A control line on an accepted table and a state in range gives such again, or a refusal of its own.
-use Prim.Native.Nat.{ℕ, suc, _≤_}
+use Prim.Native.Nat.{ℕ, suc, _-_, _≤_}
 use mathlib.Core.Path.{_≡_, refl}
 use mathlib.Core.List.{List}
 use native.Mathlib.Omega.{arith}
 use lib.Dec.{eqb}
-use lib.ListN.{length, drop}
+use lib.ListN.{length, drop, length-drop}
+use Rattle.macros.specs.Bounds.{mostFileBytes, mostLineBytes}
 use Rattle.macros.specs.Refusals.LineRefusal.{badControl}
 use Rattle.macros.specs.Macro.{Table}
-use Rattle.macros.specs.Formed.{Octets}
+use Rattle.macros.specs.Formed.{Bytes}
 use Rattle.macros.specs.Read.{Read, readOnto}
 use Rattle.macros.specs.Read.Read.{refusedAt, table}
 use Rattle.macros.specs.Accepted.{Accepted}
+use Rattle.macros.proofs.Paid.{refusal-shows}
 use Rattle.macros.proofs.Laws.{read-keeps}
 use Rattle.lines.specs.State.{State, InRange}
 use Rattle.lines.specs.Matching.{begins}
@@ -43,15 +45,18 @@ flag-good ms st t a h =
     (λ e. by-pick GoodOrder _ _ _ (λ e. (a, nflag-in-range 0 st (omega arith) h))
     (λ e. by-pick GoodOrder _ _ _ (λ e. (a, nflag-in-range 1 st (omega arith) h)) (λ e. line-number badControl))))
 
-macro-good : (ms : Table) (st : State) (s : List ℕ) (r : Read) → Accepted ms → InRange st → Octets s → readOnto ms s ≡ r → GoodOrder (macroOrder ms st r)
+macro-good : (ms : Table) (st : State) (s : List ℕ) (r : Read) → Accepted ms → InRange st → Bytes s → length s ≤ mostFileBytes → readOnto ms s ≡ r → GoodOrder (macroOrder ms st r)
 unfolding macroOrder
-macro-good ms st s (refusedAt r p) a h o e = file-number r p
-macro-good ms st s (table ks) a h o e =
-    by-pick GoodOrder (eqb (length ks) (suc (length ms))) _ _ (λ c. (read-keeps ms s ks a o e .accepted, h)) (λ c. line-number badControl)
+macro-good ms st s (refusedAt r p) a h b l e = file-number r p (refusal-shows ms s r p b l e)
+macro-good ms st s (table ks) a h b l e =
+    by-pick GoodOrder (eqb (length ks) (suc (length ms))) _ _ (λ c. (read-keeps ms s ks a (bytes-octets s b) e .accepted, h)) (λ c. line-number badControl)
 
 pub order-good : (ms : Table) (st : State) (t : List ℕ) → Accepted ms → Good t st → GoodOrder (orderOf ms st t)
 unfolding orderOf
 order-good ms st t a h =
     by-elim GoodOrder (begins (bytes "$MACRO") t) _ _
-    (λ e. macro-good ms st (drop 6 t) (readOnto ms (drop 6 t)) a (h .state) (bytes-octets (drop 6 t) (bytes-drop 6 t (h .bytes))) refl)
+    (λ e.
+    let l : length (drop 6 t) ≡ length t - 6 = length-drop 6 t in
+    let k : length t ≤ mostLineBytes = h .fits in
+    macro-good ms st (drop 6 t) (readOnto ms (drop 6 t)) a (h .state) (bytes-drop 6 t (h .bytes)) (omega arith) refl)
     (λ e. flag-good ms st t a (h .state))

@@ -17,7 +17,8 @@ use Rattle.lines.specs.Matching.{Divides}
 use Rattle.lines.specs.Replacing.{Work, Done, onto}
 use Rattle.lines.specs.Replacing.Done.{bad, good}
 use Rattle.lines.specs.Pass.{Walk, ended, occurs, pass, occurred, outcome}
-use Rattle.lines.specs.Line.{Numbered, Pass, Line, passed, refused, done, control, isIn, newestFirst, closing, closedBy, isControl, due, follow, afterPass, textOf, passes, lineOf, ending}
+use Rattle.lines.specs.Line.{Numbered, Pass, Line, passed, refused, done, control, isIn, newestFirst, closing, closedBy}
+use Rattle.lines.specs.Line.{isControl, due, follow, afterPass, textOf, passes, lineOf, ending}
 use Rattle.lines.specs.Line.{Line.ended as lineEnded}
 use Rattle.lines.specs.Demand.{Nowhere, Walks, Copied, Due, PassHolds, closedIf, closedAfter, sinceAfter, Passes, closedIn}
 use Rattle.lines.proofs.PassLaws.{Good, pass-walks}

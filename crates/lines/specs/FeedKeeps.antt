@@ -18,9 +18,10 @@ use Rattle.lines.specs.Feeding.Kind.{refusedWith}
 abbrev pub Placed : ℕ → Type 0
 Placed n = Between 10 19 n
 
--- 0 for a line that is taken, and the refusals that a line can meet: the host's 4, the table writer's, the sender's, the table's at work
+-- 0 for a line that is taken, and the refusals that a line can meet: the host's 4, the table writer's, the sender's, the table's at work;
+-- not 10 or 11: a control line has at most 1,054 bytes, and none is 0
 abbrev pub Number : ℕ → Type 0
-Number n = (n ≡ 0) ⊎ (n ≡ 4) ⊎ Placed n ⊎ Between 21 23 n ⊎ Between 31 35 n
+Number n = (n ≡ 0) ⊎ (n ≡ 4) ⊎ Between 12 19 n ⊎ Between 21 23 n ⊎ Between 31 35 n
 
 -- the answer a to a line that was fed to the table ms and the state st
 pub record Kept (ms : Table) (st : State) (budget : ℕ) (a : Answer) : Type 0 where

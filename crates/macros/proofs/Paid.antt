@@ -28,7 +28,8 @@ use Rattle.macros.specs.Accepted.{Each}
 use Rattle.macros.specs.Spell.{callTextSigns}
 use Rattle.macros.proofs.Readings.{settled, withMark}
 use Rattle.macros.proofs.Round.{no-zero, read-go, read-refuse}
-use Rattle.macros.proofs.Costs.{Done, Fit, Good, Shows, byte-most, cost, cost-once, costActions, costText, either, figures, gap, gapMark, load, loadCall, slack, slackMark, top, topMark}
+use Rattle.macros.proofs.Costs.{Done, Fit, Good, Shows, byte-most, cost, cost-once, costActions, costText, either, figures}
+use Rattle.macros.proofs.Costs.{gap, gapMark, load, loadCall, slack, slackMark, top, topMark}
 use Rattle.macros.proofs.Costs.Good.{fault, fine, whole}
 use Rattle.macros.proofs.PaidPattern.{escaped-byte, escaped-load, literal-length, members-good, new-good, new-most, opened-good, pattern-good}
 use Rattle.macros.proofs.PaidCalls.{call-good, call-text-good, commands-good, cost-text, escaped-text-load, figures-more, low-name, otherwise-good, replacement-good, tag-good, turned-good}
@@ -131,7 +132,9 @@ taken-sure old p n ms (on st) (fine l f) h k e z =
     which (λ t. ahead (l, f, ltb-true n 512 t, omega arith, later old p ms e, z)) (λ t. back tt)
 taken-sure old p n ms (done m) (whole f l) h k e z =
     which
-    (λ t. let w : n < 512 = ltb-true n 512 t in ahead (longer old (suc p) m ms (record { formed = f; short = omega arith; least = omega arith }) (later old p ms e), λ i. omega arith))
+    (λ t.
+    let w : n < 512 = ltb-true n 512 t in
+    ahead (longer old (suc p) m ms (record { formed = f; short = omega arith; least = omega arith }) (later old p ms e), λ i. omega arith))
     (λ t. back tt)
 taken-sure old p n ms (stop j) (fault w) h k e z = back w
 
