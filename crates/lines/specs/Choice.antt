@@ -1,5 +1,4 @@
--- 01, part 3, "Chosen is the division with the most repeats": the law that joins the chooser to the divisions.
--- It rules out must-fail/fewest_repeats and must-fail/empty_entry_no_times.
+-- 01, part 3, "Chosen is the division with the most repeats": the law that joins the chooser to the divisions. In brackets stand the edits of must-fail/ that a law rules out.
 use mathlib.Core.Path.{_≡_}
 use Prim.Native.Nat.{ℕ}
 use mathlib.Core.Logic.{_⊎_}
@@ -17,7 +16,7 @@ Chosen D (some d) = D d × ((x : Division) → D x → (x ≡ d) ⊎ Fewer x d)
 -- none is chosen: there is none
 Chosen D none = (x : Division) → D x → ⊥
 
--- THE LAW: in every state, of every line t, for all pieces and at every place p, the chooser chooses among the divisions there
+-- THE LAW: in every state, of every line t, for all pieces and at every place p, the chooser chooses among the divisions there [fewest_repeats, empty_entry_no_times]
 abbrev pub Choice : Type 0
 Choice = (st : State) (t : List ℕ) (es : List Piece) (p : ℕ) → Chosen (Divides st t es p) (chosen st es p (drop p t))
 
@@ -26,6 +25,6 @@ abbrev pub repeats : Division → List ℕ
 repeats [] = []
 repeats (span n q ∷ d) = n ∷ repeats d
 
--- THE LAW: two divisions of the same pieces at the same place that have the same repeats are the same division
+-- THE LAW: two divisions of the same pieces at the same place that have the same repeats are the same division [stop_free, brace_moves]
 abbrev pub SameRepeats : Type 0
 SameRepeats = (st : State) (t : List ℕ) (es : List Piece) (p : ℕ) (d x : Division) → Divides st t es p d → Divides st t es p x → repeats d ≡ repeats x → d ≡ x
