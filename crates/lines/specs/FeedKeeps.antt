@@ -1,5 +1,5 @@
 -- WHAT FEEDING KEEPS: from an accepted table and a state in range every answer is within 01's bounds.
--- Ruled out, each by an edit in must-fail/: a counter that falls to 0; a refused control line that leaves the state of its passes.
+-- In brackets stand the edits of must-fail/ that a clause rules out.
 use Prim.Native.Nat.{ℕ, _≤_}
 use mathlib.Core.Path.{_≡_}
 use mathlib.Core.Logic.{_⊎_}
@@ -25,17 +25,17 @@ Number n = (n ≡ 0) ⊎ (n ≡ 4) ⊎ Between 12 19 n ⊎ Between 21 23 n ⊎ B
 
 -- the answer a to a line that was fed to the table ms and the state st
 pub record Kept (ms : Table) (st : State) (budget : ℕ) (a : Answer) : Type 0 where
-  -- the table after the line is accepted
+  -- the table after the line is accepted [macro_97, macro_unspelled]
   pub table : Accepted (a .table)
-  -- the state after it is in range
+  -- the state after it is in range [counter_falls_to_0]
   pub state : InRange (a .state)
-  -- the line that goes out has at most 1,054 bytes
+  -- the line that goes out has at most 1,054 bytes [line_too_long, room_1055, size_lost]
   pub fits : length (outputOf (a .kind)) ≤ mostLineBytes
   -- and none of them is 0
   pub bytes : Bytes (outputOf (a .kind))
-  -- the passes are at most the budget
+  -- the passes are at most the budget [budget_off_by_one]
   pub passes : a .passes ≤ budget
-  -- a refused line leaves table and state as they were
+  -- a refused line leaves table and state as they were [refused_line_keeps_state]
   pub refused : (r : Refusal) → a .kind ≡ refusedWith r → (a .table ≡ ms) × (a .state ≡ st)
   -- the number is one that a line can be answered with
   pub number : Number (numberOf (a .kind))
@@ -46,7 +46,7 @@ pub record Kept (ms : Table) (st : State) (budget : ℕ) (a : Answer) : Type 0 w
 abbrev pub FeedKeeps : Type 0
 FeedKeeps = (ms : Table) (st : State) (budget : ℕ) (t : List ℕ) → Accepted ms → InRange st → Octets t → Kept ms st budget (feed ms st budget t)
 
--- the fresh state is in range
+-- the fresh state is in range [pointer_starts_at_0, counter_starts_at_0]
 abbrev pub FreshInRange : Type 0
 FreshInRange = InRange fresh
 
