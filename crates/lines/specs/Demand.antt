@@ -42,15 +42,19 @@ NoneAhead from to last st m t = (p : ℕ) → from ≤ p → p < to → (d : Div
 
 -- "Each replacement", under the state of the moment "when its place is tried" (01, contracts)
 pub record Replaces (m : Macro) (t : List ℕ) (from : ℕ) (last : Option ℕ) (o : Occurrence) : Type 0 where
-  -- "stands at the leftmost place still ahead that has one" [not_leftmost, empty_match_counts]
+  -- "stands at the leftmost place still ahead that has one" [not_leftmost, empty_match_counts]: its place is ahead,
   pub ahead : from ≤ o .place
+  -- is a place of the text,
   pub inside : o .place ≤ length t
+  -- has the occurrence's division,
   pub divides : Divides (o .before .state) t (m .pattern) (o .place) (o .division)
+  -- which counts,
   pub counts : Counts last (o .place) (o .division)
+  -- and no place ahead and before it has one that counts
   pub leftmost : NoneAhead from (o .place) last (o .before .state) m t
   -- "with .. that division against which every other one there has fewer repeats at the first closure where they differ" [fewest_repeats]
   pub most : (d : Division) → Divides (o .before .state) t (m .pattern) (o .place) d → (d ≡ o .division) ⊎ Fewer d (o .division)
-  -- "with the tags of that division": replacement and commands act with it, and make the moment after [late_tag]
+  -- "with the tags of that division": replacement and commands act with it, and make the moment after [late_tag, inner_brace_ends]
   pub tags : TagsOf (m .pattern) t (o .place) (o .division)
   pub made : occur m t (o .division) (o .before) ≡ good (o .after)
 
@@ -138,10 +142,13 @@ pub record Taken (ms : Table) (st : State) (t : List ℕ) (l : Line) (a : Answer
   pub passes : Passes ms [] [] t st l
   pub number : a .passes ≡ length (passesOf l)
 
--- one that goes out or is withheld, s its final text: its passes make text, kind and new state, and the table stays [taken_line_loses_state]
+-- one that goes out or is withheld, s its final text
 pub record Finished (ms : Table) (l : Line) (a : Answer) (s : List ℕ) : Type 0 where
+  -- its passes end with that text and with the new state [taken_line_loses_state]
   pub final : ending l ≡ done s (a .state)
+  -- it is withheld or goes out by NFLAG, and by whether it had an occurrence (01, part 6)
   pub kind : a .kind ≡ kindOfDone (a .state .nflag) (hadOccurrence l) s
+  -- the table stays
   pub table : a .table ≡ ms
   -- "no macro still open to it has a division at any place of its final text" [no_restart, early_end]
   pub nothingLeft : (i : ℕ) (m : Macro) → getElem? ms i ≡ some m → isIn i (closedIn [] l) ≡ false → Nowhere (a .state) m s
