@@ -72,7 +72,7 @@ feed-keeps ms st budget t a i o =
     (λ f. refusal-kept 0 (ofLine lineTooLong) a i (omega arith) (line-number lineTooLong)))
     (λ e. refusal-kept 0 (ofHost budgetTooLarge) a i (omega arith) host-number)
 
-feeds-from : (ms : Table) (st : State) (xs : List Fed) → Accepted ms → InRange st → AllOf (λ (x : Fed). Octets (x .1)) xs → EachKept ms st xs (feeds ms st xs)
+pub feeds-from : (ms : Table) (st : State) (xs : List Fed) → Accepted ms → InRange st → AllOf (λ (x : Fed). Octets (x .1)) xs → EachKept ms st xs (feeds ms st xs)
 unfolding feeds
 feeds-from ms st [] a i o = tt
 feeds-from ms st (x ∷ xs) a i o = let k = feed-keeps ms st (x .0) (x .1) a i (o .0) in (k, feeds-from _ _ xs (k .table) (k .state) (o .1))

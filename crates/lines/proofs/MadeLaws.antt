@@ -5,12 +5,12 @@ use Rattle.macros.specs.Macro.{Table}
 use Rattle.macros.specs.Read.{readFile}
 use Rattle.macros.specs.Accepted.{Accepted}
 use Rattle.macros.proofs.Laws.{round-trip, read-keeps}
-use Rattle.lines.specs.State.{State, fresh}
+use Rattle.lines.specs.State.{State}
 use Rattle.lines.specs.Feeding.{Answer, Fed, feeds}
 use Rattle.lines.specs.FeedKeeps.{EachKept}
 use Rattle.lines.specs.Made.{tableAfter, MadeReadsBack, MadeAccepted}
 use Rattle.lines.specs.Made.Made.{byReading, byLines}
-use Rattle.lines.proofs.FeedKeeps.{feeds-keep}
+use Rattle.lines.proofs.FeedKeeps.{feeds-from}
 
 -- each answer leaves an accepted table, so the last one does
 after-accepted : (ms : Table) (st : State) (xs : List Fed) (as₁ : List Answer) → Accepted ms → EachKept ms st xs as₁ → Accepted (tableAfter ms as₁)
@@ -23,7 +23,7 @@ after-accepted ms st (x ∷ xs) (y ∷ ys) a k = after-accepted (y .table) (y .s
 pub made-accepted : MadeAccepted
 unfolding readFile
 made-accepted ms (byReading s o e) = read-keeps [] s ms (record { count = omega arith; macros = tt }) o e .accepted
-made-accepted ms (byLines first xs a o e) = rw (← e) (after-accepted first fresh xs (feeds first fresh xs) a (feeds-keep first xs a o))
+made-accepted ms (byLines first st xs a i o e) = rw (← e) (after-accepted first st xs (feeds first st xs) a (feeds-from first st xs a i o))
 
 -- THE LAW
 

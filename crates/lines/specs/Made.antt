@@ -1,5 +1,5 @@
 -- DEMAND 2, OF EVERY TABLE THAT CAN BE MADE: what is written out of it is read again as that table.
--- Ruled out, each by an edit in must-fail/: macro_97 (a `$MACRO` line makes 97 macros of 96) and macro_unspelled (a `$MACRO` line leaves a macro that no file spells);
+-- Ruled out, each by an edit in must-fail/: macro_97 (a `$MACRO` line fed to 95 macros leaves 97) and macro_unspelled (a `$MACRO` line leaves a macro that no file spells);
 -- and, by edits of crates/macros: pattern_mark (a byte is written without its `\`) and written_513 (a macro of 513 bytes is written).
 use Prim.Native.Nat.{ℕ, _≤_}
 use mathlib.Core.Path.{_≡_}
@@ -13,7 +13,7 @@ use Rattle.macros.specs.Read.Read.{table}
 use Rattle.macros.specs.Write.{written, writeOut}
 use Rattle.macros.specs.Write.Written.{file}
 use Rattle.macros.specs.Accepted.{Each, Accepted}
-use Rattle.lines.specs.State.{AllOf, fresh}
+use Rattle.lines.specs.State.{State, InRange, AllOf}
 use Rattle.lines.specs.Feeding.{Answer, Fed, feeds}
 
 -- the table that a list of answers leaves: the last one's; without an answer, the table that was there
@@ -25,8 +25,9 @@ tableAfter ms (a ∷ answers) = tableAfter (a .table) answers
 pub data Made (ms : Table) : Type 0 where
   -- some bytes are read as it
   byReading : (s : List ℕ) → Octets s → readFile s ≡ table ms → Made ms
-  -- lines of any bytes, with any budgets, leave it; the first was fed to an accepted table and the fresh state
-  byLines : (first : Table) (xs : List Fed) → Accepted first → AllOf (λ (x : Fed). Octets (x .1)) xs → tableAfter first (feeds first fresh xs) ≡ ms → Made ms
+  -- lines of any bytes, with any budgets, leave it; the first was fed to an accepted table and a state in range
+  byLines : (first : Table) (st : State) (xs : List Fed) → Accepted first → InRange st → AllOf (λ (x : Fed). Octets (x .1)) xs
+      → tableAfter first (feeds first st xs) ≡ ms → Made ms
 
 -- the file s that the table ms is written to
 pub record ReadsBack (ms : Table) (s : List ℕ) : Type 0 where
