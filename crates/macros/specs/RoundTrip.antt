@@ -28,6 +28,6 @@ pub record WrittenWell (ms : Table) (s : List ℕ) : Type 0 where
 abbrev pub RoundTrip : Type 0
 RoundTrip = (ms : Table) (s : List ℕ) → Accepted ms → writeOut ms ≡ file s → WrittenWell ms s
 
--- Two well-formed macros that are written alike are the same macro, however long they are.
+-- Two well-formed macros that are written alike are the same macro, however long they are. (The same macro is always written alike: `written` is a function.)
 abbrev pub WrittenOnce : Type 0
 WrittenOnce = (m n : Macro) → Formed m → Formed n → written m ≡ written n → m ≡ n
