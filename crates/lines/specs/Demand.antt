@@ -96,7 +96,7 @@ pub record PassHolds (ms : Table) (closed since : List ℕ) (t : List ℕ) (st :
   -- it begins with the text and the state that the last pass made
   pub text : x .text ≡ t
   pub state : x .state ≡ st
-  -- a control line has "no more passes" (01, part 6)
+  -- a control line has "no more passes" (01, part 6) [control_passes]
   pub plain : isControl t ≡ false
   -- "an open macro", the newest one whose pass is due (01, part 6) [oldest_first, no_restart]
   pub due : Due ms closed since (x .which .number) (x .which .macro)
