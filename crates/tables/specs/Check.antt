@@ -70,5 +70,6 @@ unfoldable pub checks : List ℕ → Bool
 checks b = eqb (length b) tableBytes && slotsFit mostMacros b
 
 -- Bytes are the form of an accepted table exactly if they pass the check.
+-- It rules out must-fail/check_512, check_dash_last, check_escaped_one, check_padding and check_zero_tail.
 abbrev pub CheckExact : Type 0
 CheckExact = (b : List ℕ) → Octets b → (checks b ≡ true) ↔ ((ms : Table) × Accepted ms × (form ms ≡ b))
