@@ -1,4 +1,4 @@
--- What a fed line comes to, in the terms of the definitions.
+-- What a fed line comes to, in the terms of the definitions. 3, 1 and 2 come before that, and are answered by what the host calls (crates/m7).
 use Prim.Native.Nat.{ℕ}
 use mathlib.Core.List.{List}
 use lib.ListN.{take}
@@ -40,7 +40,7 @@ passesOf (Withheld p) = p
 passesOf (Control p) = p
 passesOf (Refused w p) = p
 
--- the bytes of the line that goes out
+-- how many bytes go out; "a withheld or control line has length 0", and so has a refused one
 abbrev pub sizeOf : Fed → ℕ
 sizeOf (Out p n) = n
 sizeOf (Withheld p) = 0

@@ -9,10 +9,11 @@ use Rattle.replies.specs.Fed.{kindOf, passesOf, sizeOf}
 use Rattle.replies.specs.declared.Fed.{Fed}
 use Rattle.replies.specs.declared.Answer.{Answer}
 
--- "It returns the number, the place (10 to 19, else 0) and the passes begun": here none, and no kind
+-- "It returns the number, the place (10 to 19, else 0) and the passes begun": an answer without passes and kind, of a refusal, or with the length of what was read or written
 unfoldable pub reply : (number place length : ℕ) → Answer
 reply n p k = record { number = n; place = p; passes = 0; kind = 0; length = k }
 
+-- the answer to a line
 abbrev pub lineReply : (number place passes kind length : ℕ) → Answer
 lineReply n p b k l = record { number = n; place = p; passes = b; kind = k; length = l }
 
@@ -20,7 +21,7 @@ lineReply n p b k l = record { number = n; place = p; passes = b; kind = k; leng
 unfoldable pub told : Fed → Answer
 told r = lineReply (numberOf (kindOf r [])) (placeOf (kindOf r [])) (passesOf r) (kindNumber (kindOf r [])) (sizeOf r)
 
--- the bounds by which they fit
+-- the bounds by which place, passes and length fit into an answer's numbers of 32 bits
 pub record Small (r : Fed) : Type 0 where
   pub place : placeOf (kindOf r []) ≤ mostFileBytes
   pub passes : passesOf r ≤ mostBudget
