@@ -61,6 +61,7 @@ pub record Going (s items t b₀ b out₀ out marks₀ marks seen₀ seen ends :
   pub inside : (i : ℕ) → getD ends i 0 ≤ length t
   pub sound : Sound items b t marks
   pub sees : Seen items seen b
+  pub well : a .place ≤ length t → a .fate ≡ Well
   pub past : drop (a .size) out ≡ drop (a .size) out₀
   pub outside : drop (66 * length items) marks ≡ drop (66 * length items) marks₀
   pub reached : (m : Macro) → IsSlot s m → (st : State) → Holds b₀ st → Reached t b out a m st
@@ -89,6 +90,7 @@ module _ (s items kinds t b out marks seen : List ℕ) (y : Lent s kinds t b out
         inside = λ i. omega (arith, zeros 1016 i);
         sound = zero-sound items b t marks marksBytes (y .clear);
         sees = sn;
+        well = λ l. refl;
         past = refl;
         outside = refl;
         reached = λ m i st h. start-reached t b out m st h;
@@ -96,7 +98,7 @@ module _ (s items kinds t b out marks seen : List ℕ) (y : Lent s kinds t b out
 
   module _ (b′ out′ marks′ seen′ ends : List ℕ) (a : At) (g : Going s items t b b′ out out′ marks marks′ seen seen′ ends a) where
     module _ (le : a .place ≤ length t) where
-      pub trying : AtPlace s items kinds t b′ out′ marks′ ends (a .place) (a .size)
+      pub trying : AtPlace s items kinds t b′ out′ marks′ ends a
       trying =
           let r = g .reached (y .macro .0) (y .macro .1) (y .state .0) (y .state .1) in
           record {
@@ -106,6 +108,7 @@ module _ (s items kinds t b out marks seen : List ℕ) (y : Lent s kinds t b out
             bytes = y .bytes;
             short = y .short;
             place = le;
+            well = g .well le;
             moment = (r .work, r .moment);
             room = g .room ∙ y .room;
             size = g .size;
@@ -143,6 +146,7 @@ module _ (s items kinds t b out marks seen : List ℕ) (y : Lent s kinds t b out
               inside = h .inside;
               sound = h .sound;
               sees = h .sees;
+              well = h .well;
               past = h .past ∙ drop-on out′ out (a .size) (r .size) (g .past) (h .grows);
               outside = h .outside ∙ g .outside;
               reached = came;

@@ -9,8 +9,8 @@ use moments::At;
 use moments::Passed;
 use moments::after;
 use moments::answer;
-use moments::copy_empty;
 use moments::start;
+use moments::step_over;
 use replacing::occurrence;
 ghost use Rattle.passing.specs.Contract.{Lent, Passes};
 ghost use Rattle.passing.specs.Seen.{Seen};
@@ -29,7 +29,7 @@ fn go_on(
     seen: &mut [u8],
     ends: &mut [u16],
 ) -> At
-    requires { ⌜ AtPlace (now slot) (now items) (now kinds) (now line) (now state) (now out) (now marks) (now ends) (at .place) (at .size) × Seen (now items) (now seen) (now state) ⌝ }
+    requires { ⌜ AtPlace (now slot) (now items) (now kinds) (now line) (now state) (now out) (now marks) (now ends) at × Seen (now items) (now seen) (now state) ⌝ }
     ensures { λ r. ⌜ GoesBy (now (slot .entry)) (now (items .entry)) (now (line .entry)) (now (state .entry)) (now (state .exit)) (now (out .entry)) (now (out .exit)) (now (marks .entry)) (now (marks .exit)) (now (seen .exit)) (now (ends .exit)) at r ⌝ }
 {
     let p = at.place;
@@ -76,7 +76,7 @@ pub(crate) fn walk(
             seen,
             &mut ends,
         );
-        at = copy_empty(line, p, next, out);
+        at = step_over(line, p, next, out);
     }
     clear(marks, 66 * items.len());
     answer(at)

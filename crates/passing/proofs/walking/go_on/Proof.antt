@@ -11,7 +11,7 @@ returns : tie.Need-returns
 returns c = goes-free _ _ _ _ _ _ _ _ _ (c .before .before .before .before .before .before .before .before .before .before .pre .0) _ (c .before .before .before .before .before .before .before .before .before .before .pre .1) _ _ _ (finds-none _ _ _ _ _ _ _ _ (c .before .before .before .before .before .before .before .before .before .before .args .at) (c .before .before .before .before .before .before .before .before .before .before .pre .0) _ (c .before .differs .ensures) (c .if1 .taken)) refl
 
 elements-requires : tie.Need-elements-requires
-elements-requires c κs = ready-trying _ _ _ _ _ _ _ (ready _ _ _ _ _ _ _ _ _ _ (c .before .before .before .before .before .before .before .before .before .before .before .before .before .pre .0))
+elements-requires c κs = ready-trying _ _ _ _ _ _ _ (ready _ _ _ _ _ _ _ _ _ (c .before .before .before .before .before .before .before .before .before .before .before .before .before .pre .0))
 
 counted-requires : tie.Need-counted-requires
 counted-requires c κs = tt
