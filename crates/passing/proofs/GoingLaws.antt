@@ -15,6 +15,7 @@ use Rattle.lines.specs.Line.{textOf}
 use Rattle.states.specs.Access.{Holds}
 use Rattle.replacing.specs.Contract.{IsSlot, IsMoment}
 use Rattle.moments.specs.declared.Passed.{Passed}
+use Rattle.passing.specs.declared.Found.the-variants.{NoMatch}
 use Rattle.moments.specs.declared.At.{At}
 use Rattle.passing.specs.Contract.{marksBytes, Lent, Passes, SaysOccurred, sizeOf}
 use Rattle.moments.specs.declared.Fate.{Fate}
@@ -22,12 +23,12 @@ use Rattle.moments.specs.declared.Fate.the-variants.{Well, Bad}
 use Rattle.marks.specs.Marks.{cleared}
 use Rattle.marks.proofs.MarkLaws.{zero-again}
 use Rattle.passing.specs.Marks.{Sound}
-use Rattle.passing.specs.Finding.{lastOf}
+use Rattle.passing.specs.Finding.{lastOf, Differs}
 use Rattle.passing.specs.Seen.{Seen}
 use Rattle.moments.specs.Moments.{startAt, answerOf, passedOf}
-use Rattle.passing.specs.Places.{from, ItemsOf, AtPlace, Onward, Goes}
+use Rattle.passing.specs.Places.{from, ItemsOf, AtPlace, Onward, Goes, GoesBy}
 use Rattle.passing.proofs.MarkLaws.{sound-zero}
-use Rattle.passing.proofs.PlaceLaws.{drop-on}
+use Rattle.passing.proofs.PlaceLaws.{drop-on, finds-none, goes-free}
 
 -- THE MARKS, at the start and at the end, AND THE ENDS at the start
 
@@ -117,6 +118,10 @@ module _ (s items kinds t b out marks seen : List ℕ) (y : Lent s kinds t b out
             count = g .count;
             inside = g .inside;
           }
+
+      -- no match begins here
+      pub skipped : (x : Bool) → Differs items t (a .place) x → x ≡ true → GoesBy s items t b′ b′ out′ out′ marks′ marks′ seen′ ends a a
+      skipped x d e = goes-free s items kinds t b′ out′ marks′ ends a trying seen′ (g .sees) NoMatch marks′ ends (finds-none s items kinds t b′ out′ marks′ ends a trying x d e) refl
 
       module _ (b″ out″ marks″ seen″ ends′ : List ℕ) (r : At) (h : Goes s items t b′ b″ out′ out″ marks′ marks″ seen″ ends′ a r) where
         came : (m : Macro) → IsSlot s m → (st : State) → Holds b st → Reached t b″ out″ r m st
