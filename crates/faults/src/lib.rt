@@ -8,7 +8,7 @@ pub enum Fault {
     CounterTooHigh,
 }
 
-// The bytes of the new line; or a refusal, with the bytes that the new line has by then.
+// How many bytes there are then; or a refusal, with the bytes by then. They are bytes of the new line in what `occurrence` of `replacing` returns, and of its scratch text inside `replacing`.
 pub enum Outcome {
     Made(usize),
     Refused(Fault, usize),

@@ -1,4 +1,5 @@
--- The marks of failed pairs of a closure and a place. The closure stands at the place `at` of the items, the place of the line is q.
+-- The marks of failed pairs of a closure and a place, of which 01 knows nothing: they spare the matcher work. A pair has failed if the rest of the pattern from this closure on, with any number of its copies still to come, has no division at that place (`Sound`, `passing: Marks`).
+-- The closure's item begins at the byte `at` of the items, two bytes to an item, and the place of the line is q. A row has 132 bytes, 1,056 bits: for even `at` and q below 1,056 different pairs have different bits.
 use Prim.Native.Nat.{ℕ, _+_, _*_, _/_, _%_, _^_, _<_}
 use mathlib.Core.Bool.{Bool, true, false}
 use mathlib.Core.List.{List, _++_}
@@ -13,9 +14,9 @@ byteOf at q = at * 66 + q / 8
 unfoldable pub mark : List ℕ → ℕ → ℕ → ℕ
 mark marks at q = (getD marks (byteOf at q) 0 / 2 ^ (q % 8)) % 2
 
--- the byte is there
-abbrev pub InRow : List ℕ → ℕ → ℕ → Type 0
-InRow marks at q = byteOf at q < length marks
+-- the memory has the byte
+abbrev pub ByteThere : List ℕ → ℕ → ℕ → Type 0
+ByteThere marks at q = byteOf at q < length marks
 
 -- a byte that has the bit stays, another gains it; all other bytes stay
 abbrev pub markedIf : Bool → List ℕ → ℕ → ℕ → List ℕ

@@ -3,11 +3,11 @@ ghost use Prim.Native.Nat.{_≤_};
 ghost use mathlib.Core.Path.{_≡_};
 ghost use lib.Dec.{eqb};
 ghost use lib.ListN.{length};
-ghost use Rattle.marks.specs.Marks.{mark, InRow, marked, cleared};
+ghost use Rattle.marks.specs.Marks.{mark, ByteThere, marked, cleared};
 
 // Whether the pair has failed.
 pub fn is_marked(marks: &[u8], at: usize, q: usize) -> bool
-    requires { ⌜ InRow (now marks) at q ⌝ }
+    requires { ⌜ ByteThere (now marks) at q ⌝ }
     ensures { λ r. ⌜ r ≡ eqb (mark (now (marks .entry)) at q) 1 ⌝ }
 {
     let byte = marks[at * 66 + q / 8];
@@ -15,9 +15,9 @@ pub fn is_marked(marks: &[u8], at: usize, q: usize) -> bool
     (byte >> shift) % 2 == 1
 }
 
-// The pair has failed; all other marks stay.
+// The pair has failed: its bit is set in its byte, and every other byte stays.
 pub fn set_mark(marks: &mut [u8], at: usize, q: usize)
-    requires { ⌜ InRow (now marks) at q ⌝ }
+    requires { ⌜ ByteThere (now marks) at q ⌝ }
     ensures { λ _. ⌜ now (marks .exit) ≡ marked (now (marks .entry)) at q ⌝ }
 {
     if is_marked(marks, at, q) {

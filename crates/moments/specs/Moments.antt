@@ -1,4 +1,4 @@
--- The moments of a pass (01, part 5), as the code has them; 1,055 stands for a place past every place.
+-- The moments of a pass (01, part 5), as the code has them. What they are of a pass of the definitions is said by `Onward` and `Goes` (`passing: Places`).
 use Prim.Native.Nat.{ℕ, _+_, _≤_, _<_}
 use mathlib.Core.Path.{_≡_}
 use mathlib.Core.Bool.{Bool, true, false}
@@ -15,17 +15,21 @@ use Rattle.moments.specs.declared.Fate.{Fate}
 use Rattle.moments.specs.declared.Fate.the-variants.{Well, Bad}
 use Rattle.moments.specs.declared.At.{At}
 
+-- past every place, "from 0 to the line's length": as the place, the pass is over; as the end of the last match, there was no match yet
+abbrev pub pastPlaces : ℕ
+pastPlaces = mostLineBytes + 1
+
 -- part 5: "tries places from 0"; no match yet, and no byte of the new line
 abbrev pub startAt : At
-startAt = record { place = 0; last = 1055; size = 0; hit = false; fate = Well }
+startAt = record { place = 0; last = pastPlaces; size = 0; hit = false; fate = Well }
 
 -- part 5: the next place, with n bytes of the new line
 abbrev pub movedTo : At → ℕ → At
-movedTo a n = record { place = a .place + 1; last = a .last; size = n; hit = a .hit; fate = Well }
+movedTo a n = record { place = a .place + 1; last = a .last; size = n; hit = a .hit; fate = a .fate }
 
--- parts 4 and 5: a refusal ends the pass, with k bytes of the new line
+-- "The table at work, at the first such step": no place is left, and the new line has k bytes; `hit` is not read after a refusal
 abbrev pub refusedAt : Fault → ℕ → At
-refusedAt f k = record { place = 1055; last = 1055; size = k; hit = true; fate = Bad f }
+refusedAt f k = record { place = pastPlaces; last = pastPlaces; size = k; hit = true; fate = Bad f }
 
 -- part 5: "A match .. makes the replacement and goes on at its end", which is q
 abbrev pub afterOf : Outcome → ℕ → At
@@ -47,7 +51,7 @@ pub record Copies (t out out′ : List ℕ) (a r : At) : Type 0 where
   pub full : a .place < length t → mostLineBytes ≤ a .size → (r ≡ refusedAt NewLineTooLong (a .size)) × (out′ ≡ out)
   pub copied : a .place < length t → a .size < mostLineBytes → (r ≡ movedTo a (a .size + 1)) × (out′ ≡ set out (a .size) (getD t (a .place) 0))
 
--- part 5: behind a match at p "an empty match also copies the byte there", another does not
-pub record CopiesEmpty (t out out′ : List ℕ) (p : ℕ) (a r : At) : Type 0 where
+-- part 5: behind the tried place p. "At a place without a match the byte is copied", and "an empty match also copies the byte there .. and goes on after that byte": there the pass still stands at p. Behind a longer match, and after a refusal, whose place lies past every place, nothing is copied
+pub record StepsOver (t out out′ : List ℕ) (p : ℕ) (a r : At) : Type 0 where
   pub further : p < a .place → (r ≡ a) × (out′ ≡ out)
-  pub empty : a .place ≤ p → Copies t out out′ a r
+  pub still : a .place ≤ p → Copies t out out′ a r

@@ -5,7 +5,7 @@ ghost use Prim.Native.Nat.{_≤_};
 ghost use mathlib.Core.Path.{_≡_};
 ghost use lib.ListN.{length};
 ghost use Rattle.macros.specs.Bounds.{mostLineBytes};
-ghost use Rattle.moments.specs.Moments.{startAt, movedTo, refusedAt, afterOf, passedOf, Copies, CopiesEmpty};
+ghost use Rattle.moments.specs.Moments.{startAt, movedTo, refusedAt, afterOf, passedOf, Copies, StepsOver};
 
 // Whether there was an occurrence, and the bytes of the new line; or a refusal, with the bytes that the new line has by then.
 pub enum Passed {
@@ -28,7 +28,7 @@ pub struct At {
     pub fate: Fate,
 }
 
-// Place 0; 1,055: there was no match yet.
+// Place 0. 1,055 lies past every place: there was no match yet.
 pub fn start() -> At
     ensures { λ r. ⌜ r ≡ startAt ⌝ }
 {
@@ -41,7 +41,7 @@ pub fn start() -> At
     }
 }
 
-// A refusal ends the pass: 1,055 lies past every place.
+// After a refusal no place is left: 1,055 lies past every place.
 fn refused(f: Fault, k: usize) -> At
     ensures { λ r. ⌜ r ≡ refusedAt f k ⌝ }
 {
@@ -75,17 +75,18 @@ fn moved(at: At, n: usize) -> At
     requires { ⌜ at .place ≤ mostLineBytes ⌝ }
     ensures { λ r. ⌜ r ≡ movedTo at n ⌝ }
 {
+    let fate = at.fate;
     At {
         place: at.place + 1,
         last: at.last,
         size: n,
         hit: at.hit,
-        fate: Fate::Well,
+        fate: fate,
     }
 }
 
 // "the byte is copied"; 32: "the new line's 1,055th byte". At the line's length there is no byte.
-pub fn copy_byte(line: &[u8], at: At, out: &mut [u8]) -> At
+fn copy_byte(line: &[u8], at: At, out: &mut [u8]) -> At
     requires { ⌜ (at .place ≤ mostLineBytes) × (length (now out) ≡ mostLineBytes) ⌝ }
     ensures { λ r. ⌜ Copies (now (line .entry)) (now (out .entry)) (now (out .exit)) at r ⌝ }
 {
@@ -101,10 +102,10 @@ pub fn copy_byte(line: &[u8], at: At, out: &mut [u8]) -> At
     moved(at, n + 1)
 }
 
-// Behind a match at p: "an empty match also copies the byte there .. and goes on after that byte".
-pub fn copy_empty(line: &[u8], p: usize, at: At, out: &mut [u8]) -> At
+// Behind the tried place p: where the pass still stands there, without a match or with an empty one, the byte is copied and the pass goes on after it. Behind a longer match, or a refusal, nothing is copied.
+pub fn step_over(line: &[u8], p: usize, at: At, out: &mut [u8]) -> At
     requires { ⌜ (p ≤ mostLineBytes) × (length (now out) ≡ mostLineBytes) ⌝ }
-    ensures { λ r. ⌜ CopiesEmpty (now (line .entry)) (now (out .entry)) (now (out .exit)) p at r ⌝ }
+    ensures { λ r. ⌜ StepsOver (now (line .entry)) (now (out .entry)) (now (out .exit)) p at r ⌝ }
 {
     let end = at.place;
     if p < end {

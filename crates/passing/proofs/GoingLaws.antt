@@ -15,6 +15,7 @@ use Rattle.lines.specs.Line.{textOf}
 use Rattle.states.specs.Access.{Holds}
 use Rattle.replacing.specs.Contract.{IsSlot, IsMoment}
 use Rattle.moments.specs.declared.Passed.{Passed}
+use Rattle.passing.specs.declared.Found.the-variants.{NoMatch}
 use Rattle.moments.specs.declared.At.{At}
 use Rattle.passing.specs.Contract.{marksBytes, Lent, Passes, SaysOccurred, sizeOf}
 use Rattle.moments.specs.declared.Fate.{Fate}
@@ -22,12 +23,12 @@ use Rattle.moments.specs.declared.Fate.the-variants.{Well, Bad}
 use Rattle.marks.specs.Marks.{cleared}
 use Rattle.marks.proofs.MarkLaws.{zero-again}
 use Rattle.passing.specs.Marks.{Sound}
-use Rattle.passing.specs.Finding.{lastOf}
+use Rattle.passing.specs.Finding.{lastOf, Differs}
 use Rattle.passing.specs.Seen.{Seen}
 use Rattle.moments.specs.Moments.{startAt, answerOf, passedOf}
-use Rattle.passing.specs.Places.{from, ItemsOf, AtPlace, Onward, Goes}
+use Rattle.passing.specs.Places.{from, ItemsOf, AtPlace, Onward, Goes, GoesBy}
 use Rattle.passing.proofs.MarkLaws.{sound-zero}
-use Rattle.passing.proofs.PlaceLaws.{drop-on}
+use Rattle.passing.proofs.PlaceLaws.{drop-on, finds-none, goes-free}
 
 -- THE MARKS, at the start and at the end, AND THE ENDS at the start
 
@@ -61,6 +62,7 @@ pub record Going (s items t b₀ b out₀ out marks₀ marks seen₀ seen ends :
   pub inside : (i : ℕ) → getD ends i 0 ≤ length t
   pub sound : Sound items b t marks
   pub sees : Seen items seen b
+  pub well : a .place ≤ length t → a .fate ≡ Well
   pub past : drop (a .size) out ≡ drop (a .size) out₀
   pub outside : drop (66 * length items) marks ≡ drop (66 * length items) marks₀
   pub reached : (m : Macro) → IsSlot s m → (st : State) → Holds b₀ st → Reached t b out a m st
@@ -89,6 +91,7 @@ module _ (s items kinds t b out marks seen : List ℕ) (y : Lent s kinds t b out
         inside = λ i. omega (arith, zeros 1016 i);
         sound = zero-sound items b t marks marksBytes (y .clear);
         sees = sn;
+        well = λ l. refl;
         past = refl;
         outside = refl;
         reached = λ m i st h. start-reached t b out m st h;
@@ -96,7 +99,7 @@ module _ (s items kinds t b out marks seen : List ℕ) (y : Lent s kinds t b out
 
   module _ (b′ out′ marks′ seen′ ends : List ℕ) (a : At) (g : Going s items t b b′ out out′ marks marks′ seen seen′ ends a) where
     module _ (le : a .place ≤ length t) where
-      pub trying : AtPlace s items kinds t b′ out′ marks′ ends (a .place) (a .size)
+      pub trying : AtPlace s items kinds t b′ out′ marks′ ends a
       trying =
           let r = g .reached (y .macro .0) (y .macro .1) (y .state .0) (y .state .1) in
           record {
@@ -106,6 +109,7 @@ module _ (s items kinds t b out marks seen : List ℕ) (y : Lent s kinds t b out
             bytes = y .bytes;
             short = y .short;
             place = le;
+            well = g .well le;
             moment = (r .work, r .moment);
             room = g .room ∙ y .room;
             size = g .size;
@@ -114,6 +118,10 @@ module _ (s items kinds t b out marks seen : List ℕ) (y : Lent s kinds t b out
             count = g .count;
             inside = g .inside;
           }
+
+      -- no match begins here
+      pub skipped : (x : Bool) → Differs items t (a .place) x → x ≡ true → GoesBy s items t b′ b′ out′ out′ marks′ marks′ seen′ ends a a
+      skipped x d e = goes-free s items kinds t b′ out′ marks′ ends a trying seen′ (g .sees) NoMatch marks′ ends (finds-none s items kinds t b′ out′ marks′ ends a trying x d e) refl
 
       module _ (b″ out″ marks″ seen″ ends′ : List ℕ) (r : At) (h : Goes s items t b′ b″ out′ out″ marks′ marks″ seen″ ends′ a r) where
         came : (m : Macro) → IsSlot s m → (st : State) → Holds b st → Reached t b″ out″ r m st
@@ -143,6 +151,7 @@ module _ (s items kinds t b out marks seen : List ℕ) (y : Lent s kinds t b out
               inside = h .inside;
               sound = h .sound;
               sees = h .sees;
+              well = h .well;
               past = h .past ∙ drop-on out′ out (a .size) (r .size) (g .past) (h .grows);
               outside = h .outside ∙ g .outside;
               reached = came;

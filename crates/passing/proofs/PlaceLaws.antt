@@ -33,11 +33,13 @@ use Rattle.replacing.specs.Contract.{EndsFrom, IsSlot, IsDivided, IsMoment, Len
 use Rattle.passing.specs.declared.Found.{Found}
 use Rattle.passing.specs.declared.Found.the-variants.{Matched, NoMatch}
 use Rattle.moments.specs.declared.At.{At}
+use Rattle.moments.specs.declared.Fate.{Fate}
+use Rattle.moments.specs.declared.Fate.the-variants.{Well}
 use Rattle.passing.specs.Contract.{SaysOccurred, doneOf as passDone}
 use Rattle.passing.specs.Finding.{Ready, FoundAt, countedOf, Finds, lastOf, Differs}
 use Rattle.passing.specs.Trying.{Tried}
 use Rattle.passing.specs.Seen.{Seen, Renewing, Renewed}
-use Rattle.moments.specs.Moments.{movedTo, refusedAt, afterOf, passedOf, Copies, CopiesEmpty}
+use Rattle.moments.specs.Moments.{movedTo, refusedAt, afterOf, answerOf, passedOf, Copies, StepsOver}
 use Rattle.passing.specs.Places.{from, matchAt, AtPlace, Onward, Goes, GoesBy}
 use Rattle.passing.proofs.FindLaws.{find-counted, find-differs}
 use Rattle.passing.proofs.GrowLaws.{Grown, occur-grown}
@@ -108,6 +110,11 @@ module _ (m : Macro) (t : List ℕ) (x : Walk) (hit : Bool) (a : At) (w : Work) 
   is-over : length t < a .place → outcome x ≡ passDone (passedOf a) w → SaysOccurred (passedOf a) (hit || occurred x) → Onward m t x hit a w
   is-over l e f = record { on = λ k. absurd (omega arith); over = λ k. (e, f) }
 
+  -- a pass that went well
+  is-done : a .fate ≡ Well → length t < a .place → outcome x ≡ good w → a .hit ≡ (hit || occurred x) → Onward m t x hit a w
+  is-done e l f g =
+      is-over l (f ∙ sym (ap (λ (k : Fate). passDone (answerOf k (a .hit) (a .size)) w) e)) (subst (λ (k : Fate). SaysOccurred (answerOf k (a .hit) (a .size)) (hit || occurred x)) (sym e) g)
+
 module _ (m : Macro) (t : List ℕ) (last p : ℕ) (w : Work) where
   -- at a byte
   module _ (lt : p < length t) where
@@ -175,8 +182,8 @@ found-some (some d) p q es ends h = (d, refl, h .0, h .1)
 match-divides : (st : State) (es : List Piece) (t : List ℕ) (last : Option ℕ) (p : ℕ) (d : Division) → match st es last p (drop p t) ≡ some d → Divides st t es p d
 match-divides st es t last p d e = subst (Matches (Divides st t es p) last p) e (match-matches st es t last p) .0
 
-pub ready : (s items kinds t b out marks ends : List ℕ) (p n : ℕ) → AtPlace s items kinds t b out marks ends p n → Ready items kinds b t p marks ends
-ready s items kinds t b out marks ends p n y =
+pub ready : (s items kinds t b out marks ends : List ℕ) (a : At) → AtPlace s items kinds t b out marks ends a → Ready items kinds b t (a .place) marks ends
+ready s items kinds t b out marks ends a y =
     let m = y .macro .0 in
     record {
       pattern = (m .pattern, y .pattern .pattern m (y .macro .1));
@@ -191,13 +198,13 @@ ready s items kinds t b out marks ends p n y =
       sound = y .sound;
     }
 
-pub finds : (s items kinds t b out marks ends : List ℕ) (a : At) → AtPlace s items kinds t b out marks ends (a .place) (a .size) → (marks′ ends′ : List ℕ) (f r : Found) → Tried items b t 0 (a .place) marks marks′ ends′ f → r ≡ countedOf f (a .last) (a .place) → Finds items b t (a .last) (a .place) marks marks′ ends′ r
+pub finds : (s items kinds t b out marks ends : List ℕ) (a : At) → AtPlace s items kinds t b out marks ends a → (marks′ ends′ : List ℕ) (f r : Found) → Tried items b t 0 (a .place) marks marks′ ends′ f → r ≡ countedOf f (a .last) (a .place) → Finds items b t (a .last) (a .place) marks marks′ ends′ r
 finds s items kinds t b out marks ends a y marks′ ends′ f r k e = find-counted items b t (a .last) (a .place) marks marks′ ends′ (let p = y .place in let l = y .short in omega arith) f r k e
 
-pub finds-none : (s items kinds t b out marks ends : List ℕ) (a : At) → AtPlace s items kinds t b out marks ends (a .place) (a .size) → (x : Bool) → Differs items t (a .place) x → x ≡ true → Finds items b t (a .last) (a .place) marks marks ends NoMatch
-finds-none s items kinds t b out marks ends a y x d e = find-differs items b t (a .last) (a .place) marks marks ends kinds ends (ready s items kinds t b out marks ends (a .place) (a .size) y) x d e
+pub finds-none : (s items kinds t b out marks ends : List ℕ) (a : At) → AtPlace s items kinds t b out marks ends a → (x : Bool) → Differs items t (a .place) x → x ≡ true → Finds items b t (a .last) (a .place) marks marks ends NoMatch
+finds-none s items kinds t b out marks ends a y x d e = find-differs items b t (a .last) (a .place) marks marks ends kinds ends (ready s items kinds t b out marks ends a y) x d e
 
-module _ (s items kinds t b out marks ends : List ℕ) (a : At) (y : AtPlace s items kinds t b out marks ends (a .place) (a .size)) (seen : List ℕ) (sn : Seen items seen b) (r : Found) (marks′ ends′ : List ℕ) (fi : Finds items b t (a .last) (a .place) marks marks′ ends′ r) where
+module _ (s items kinds t b out marks ends : List ℕ) (a : At) (y : AtPlace s items kinds t b out marks ends a) (seen : List ℕ) (sn : Seen items seen b) (r : Found) (marks′ ends′ : List ℕ) (fi : Finds items b t (a .last) (a .place) marks marks′ ends′ r) where
   abbrev found : Macro → Work → Option Division
   found m w = matchAt m t (a .last) (a .place) w
 
@@ -212,17 +219,18 @@ module _ (s items kinds t b out marks ends : List ℕ) (a : At) (y : AtPlace s i
     none-here : (m : Macro) → IsSlot s m → (w : Work) → IsMoment out b (a .size) w → found m w ≡ none
     none-here m i w x = found-none (found m w) (a .place) (m .pattern) ends′ (subst (FoundAt (found m w) (a .place) (m .pattern) ends′) e (fi .found (m .pattern) (y .pattern .pattern m i) (w .state) (x .state)))
 
-    went : (z : At) (l : List ℕ) → ((m : Macro) → IsSlot s m → (w : Work) → IsMoment out b (a .size) w → (v : Work) × IsMoment l b (z .size) v × Onward m t (ahead m w) (a .hit) z v) → drop (z .size) l ≡ drop (z .size) out → z .size ≤ mostLineBytes → a .size ≤ z .size → a .place < z .place → Went z l
-    went z l c p n g f = record { comes = c; past = p; size = n; grows = g; further = f; sound = fi .sound; sees = sn; outside = fi .outside; inside = fi .inside }
+    went : (z : At) (l : List ℕ) → ((m : Macro) → IsSlot s m → (w : Work) → IsMoment out b (a .size) w → (v : Work) × IsMoment l b (z .size) v × Onward m t (ahead m w) (a .hit) z v) → drop (z .size) l ≡ drop (z .size) out → z .size ≤ mostLineBytes → a .size ≤ z .size → a .place < z .place → (z .place ≤ length t → z .fate ≡ Well) → Went z l
+    went z l c p n g f h = record { comes = c; past = p; size = n; grows = g; further = f; well = h; sound = fi .sound; sees = sn; outside = fi .outside; inside = fi .inside }
 
     free-end : length t ≤ a .place → Went (movedTo a (a .size)) out
     free-end l =
         went (movedTo a (a .size)) out
-        (λ m i w x. let f = end-free m t (a .last) (a .place) w l (none-here m i w x) in (w, x, is-over m t (ahead m w) (a .hit) (movedTo a (a .size)) w (omega arith) (f .0) (sym (ap (λ (u : Bool). a .hit || u) (f .1) ∙ or-false (a .hit)))))
+        (λ m i w x. let f = end-free m t (a .last) (a .place) w l (none-here m i w x) in (w, x, is-done m t (ahead m w) (a .hit) (movedTo a (a .size)) w (y .well) (omega arith) (f .0) (sym (ap (λ (u : Bool). a .hit || u) (f .1) ∙ or-false (a .hit)))))
         refl
         (y .size)
         (omega arith)
         (omega arith)
+        (λ k. y .well)
 
     free-full-here : a .place < length t → mostLineBytes ≤ a .size → Went (refusedAt NewLineTooLong (a .size)) out
     free-full-here l k =
@@ -233,6 +241,7 @@ module _ (s items kinds t b out marks ends : List ℕ) (a : At) (y : AtPlace s i
         (y .size)
         (omega arith)
         (omega arith)
+        (λ k. absurd (omega arith))
 
     free-copied : a .place < length t → a .size < mostLineBytes → Went (movedTo a (a .size + 1)) (set out (a .size) (getD t (a .place) 0))
     free-copied l k =
@@ -245,12 +254,13 @@ module _ (s items kinds t b out marks ends : List ℕ) (a : At) (y : AtPlace s i
         (omega arith)
         (omega arith)
         (omega arith)
+        (λ k. y .well)
 
     go-free : (z : At) (l : List ℕ) → Copies t out l a z → Went z l
     go-free z l c = copies-by Went t out l a z c free-end free-full-here free-copied
 
     pub goes-free : GoesBy s items t b b out out marks marks′ seen ends′ a a
-    goes-free = record { copied = λ z l k. go-free z l (k .empty (omega arith)) }
+    goes-free = record { copied = λ z l k. go-free z l (k .still (omega arith)) }
 
   -- with a match that ends at q
   module _ (q : ℕ) (e : r ≡ Matched q) where
@@ -290,14 +300,15 @@ module _ (s items kinds t b out marks ends : List ℕ) (a : At) (y : AtPlace s i
       abbrev Acted : At → List ℕ → Type 0
       Acted z l = Goes s items t b b′ out l marks marks″ seen′ ends′ a z
 
-      acted : (z : At) (l : List ℕ) → ((m : Macro) → IsSlot s m → (w : Work) → IsMoment out b (a .size) w → (v : Work) × IsMoment l b′ (z .size) v × Onward m t (ahead m w) (a .hit) z v) → drop (z .size) l ≡ drop (z .size) out → z .size ≤ mostLineBytes → a .size ≤ z .size → a .place < z .place → Acted z l
-      acted z l c p n g f =
+      acted : (z : At) (l : List ℕ) → ((m : Macro) → IsSlot s m → (w : Work) → IsMoment out b (a .size) w → (v : Work) × IsMoment l b′ (z .size) v × Onward m t (ahead m w) (a .hit) z v) → drop (z .size) l ≡ drop (z .size) out → z .size ≤ mostLineBytes → a .size ≤ z .size → a .place < z .place → (z .place ≤ length t → z .fate ≡ Well) → Acted z l
+      acted z l c p n g f h =
           record {
             comes = c;
             past = p;
             size = n;
             grows = g;
             further = f;
+            well = h;
             sound = rn .sound b t held sn (fi .sound);
             sees = rn .sees b sn;
             outside = rn .outside ∙ fi .outside;
@@ -330,6 +341,7 @@ module _ (s items kinds t b out marks ends : List ℕ) (a : At) (y : AtPlace s i
           (oc .within)
           (grows (MadeRefused f k) oc)
           (omega arith)
+          (λ k. absurd (omega arith))
 
       module _ (k : ℕ) (oc : Occurs s ends′ t b b′ out out′ (a .size) (Made k)) where
         abbrev next : At
@@ -350,6 +362,7 @@ module _ (s items kinds t b out marks ends : List ℕ) (a : At) (y : AtPlace s i
             (oc .within)
             (grows (Made k) oc)
             l
+            (λ j. refl)
 
         module _ (z : q ≡ a .place) where
           empty-end : length t ≤ q → Acted (movedTo next k) out′
@@ -364,6 +377,7 @@ module _ (s items kinds t b out marks ends : List ℕ) (a : At) (y : AtPlace s i
               (oc .within)
               (grows (Made k) oc)
               (omega arith)
+              (λ j. refl)
 
           empty-full-here : q < length t → mostLineBytes ≤ k → Acted (refusedAt NewLineTooLong k) out′
           empty-full-here l j =
@@ -377,6 +391,7 @@ module _ (s items kinds t b out marks ends : List ℕ) (a : At) (y : AtPlace s i
               (oc .within)
               (grows (Made k) oc)
               (omega arith)
+              (λ i. absurd (omega arith))
 
           empty-copied : length out′ ≡ mostLineBytes → q < length t → k < mostLineBytes → Acted (movedTo next (k + 1)) (set out′ k (getD t q 0))
           empty-copied lo l n =
@@ -395,13 +410,14 @@ module _ (s items kinds t b out marks ends : List ℕ) (a : At) (y : AtPlace s i
               (omega arith)
               (omega arith)
               (omega arith)
+              (λ j. refl)
 
-      go-made : length out′ ≡ mostLineBytes → (o : Outcome) → Occurs s ends′ t b b′ out out′ (a .size) o → (z : At) (l : List ℕ) → CopiesEmpty t out′ l (a .place) (afterOf o q) z → Acted z l
+      go-made : length out′ ≡ mostLineBytes → (o : Outcome) → Occurs s ends′ t b b′ out out′ (a .size) o → (z : At) (l : List ℕ) → StepsOver t out′ l (a .place) (afterOf o q) z → Acted z l
       go-made lo (MadeRefused f k) oc z l c = let h = y .short in let p = y .place in both Acted z _ l _ (c .further (omega arith)) (act-refused f k oc)
       go-made lo (Made k) oc z l c =
           below-or (Acted z l) (a .place) q
           (λ g. both Acted z _ l _ (c .further g) (act-on k oc g))
-          (λ g. let i = within in let e : q ≡ a .place = omega arith in copies-by Acted t out′ l (next k oc) z (c .empty g) (empty-end k oc e) (empty-full-here k oc e) (empty-copied k oc e lo))
+          (λ g. let i = within in let e : q ≡ a .place = omega arith in copies-by Acted t out′ l (next k oc) z (c .still g) (empty-end k oc e) (empty-full-here k oc e) (empty-copied k oc e lo))
 
     pub goes-acted : (b′ out′ marks″ seen′ : List ℕ) (o : Outcome) → Occurs s ends′ t b b′ out out′ (a .size) o → Renewed items b′ seen seen′ marks′ marks″ → length out′ ≡ mostLineBytes → (x : At) → x ≡ afterOf o q → GoesBy s items t b b′ out out′ marks marks″ seen′ ends′ a x
-    goes-acted b′ out′ marks″ seen′ o oc rn lo x h = record { copied = λ z l c. go-made b′ out′ marks″ seen′ rn lo o oc z l (subst (λ (u : At). CopiesEmpty t out′ l (a .place) u z) h c) }
+    goes-acted b′ out′ marks″ seen′ o oc rn lo x h = record { copied = λ z l c. go-made b′ out′ marks″ seen′ rn lo o oc z l (subst (λ (u : At). StepsOver t out′ l (a .place) u z) h c) }

@@ -14,7 +14,8 @@ use Rattle.lines.specs.Matching.{Division}
 use Rattle.lines.specs.Replacing.{Work}
 use Rattle.lines.specs.Pass.{Walk, match, walk, occurred, outcome}
 use Rattle.moments.specs.declared.At.{At}
-use Rattle.moments.specs.Moments.{passedOf, CopiesEmpty}
+use Rattle.moments.specs.declared.Fate.the-variants.{Well}
+use Rattle.moments.specs.Moments.{passedOf, StepsOver}
 use Rattle.replacing.specs.Contract.{IsSlot, IsMoment}
 use Rattle.passing.specs.Contract.{marksBytes, doneOf, SaysOccurred}
 use Rattle.passing.specs.Marks.{Sound}
@@ -39,17 +40,18 @@ pub record ItemsOf (s items : List ℕ) : Type 0 where
 
 -- GOING ON FROM A PLACE
 
--- what the memories hold before a place is tried: n bytes of the new line
-pub record AtPlace (s items kinds t b out marks ends : List ℕ) (p n : ℕ) : Type 0 where
+-- what the memories hold at the moment a, before its place is tried
+pub record AtPlace (s items kinds t b out marks ends : List ℕ) (a : At) : Type 0 where
   pub macro : (m : Macro) × IsSlot s m
   pub pattern : ItemsOf s items
   pub table : kinds ≡ kindTable
   pub bytes : Bytes t
   pub short : length t ≤ mostLineBytes
-  pub place : p ≤ length t
-  pub moment : (w : Work) × IsMoment out b n w
+  pub place : a .place ≤ length t
+  pub well : a .fate ≡ Well
+  pub moment : (w : Work) × IsMoment out b (a .size) w
   pub room : length out ≡ mostLineBytes
-  pub size : n ≤ mostLineBytes
+  pub size : a .size ≤ mostLineBytes
   pub rows : length marks ≡ marksBytes
   pub sound : Sound items b t marks
   pub count : length ends ≡ bodyBytes
@@ -66,6 +68,8 @@ pub record Goes (s items t b b′ out out′ marks marks′ seen ends : List ℕ
   pub size : r .size ≤ mostLineBytes
   pub grows : a .size ≤ r .size
   pub further : a .place < r .place
+  -- after a refusal no place is left
+  pub well : r .place ≤ length t → r .fate ≡ Well
   -- the marks and what is seen are those of the state now
   pub sound : Sound items b′ t marks′
   pub sees : Seen items seen b′
@@ -74,4 +78,4 @@ pub record Goes (s items t b b′ out out′ marks marks′ seen ends : List ℕ
 
 -- the same, once the byte at an empty match, or at a place without one, is copied
 pub record GoesBy (s items t b b′ out out′ marks marks′ seen ends : List ℕ) (a r : At) : Type 0 where
-  pub copied : (z : At) (l : List ℕ) → CopiesEmpty t out′ l (a .place) r z → Goes s items t b b′ out l marks marks′ seen ends a z
+  pub copied : (z : At) (l : List ℕ) → StepsOver t out′ l (a .place) r z → Goes s items t b b′ out l marks marks′ seen ends a z

@@ -9,8 +9,8 @@ use moments::At;
 use moments::Passed;
 use moments::after;
 use moments::answer;
-use moments::copy_empty;
 use moments::start;
+use moments::step_over;
 use replacing::occurrence;
 ghost use Rattle.passing.specs.Contract.{Lent, Passes};
 ghost use Rattle.passing.specs.Seen.{Seen};
@@ -29,13 +29,10 @@ fn go_on(
     seen: &mut [u8],
     ends: &mut [u16],
 ) -> At
-    requires { ⌜ AtPlace (now slot) (now items) (now kinds) (now line) (now state) (now out) (now marks) (now ends) (at .place) (at .size) × Seen (now items) (now seen) (now state) ⌝ }
+    requires { ⌜ AtPlace (now slot) (now items) (now kinds) (now line) (now state) (now out) (now marks) (now ends) at × Seen (now items) (now seen) (now state) ⌝ }
     ensures { λ r. ⌜ GoesBy (now (slot .entry)) (now (items .entry)) (now (line .entry)) (now (state .entry)) (now (state .exit)) (now (out .entry)) (now (out .exit)) (now (marks .entry)) (now (marks .exit)) (now (seen .exit)) (now (ends .exit)) at r ⌝ }
 {
     let p = at.place;
-    if differs(items, line, p) {
-        return at;
-    }
     let whole = elements(items, kinds, state, line, 0, p, marks, ends);
     let found = counted(whole, at.last, p);
     let Found::Matched(end) = found else {
@@ -64,19 +61,23 @@ pub(crate) fn walk(
     let mut at = start();
     while at.place <= line.len() {
         let p = at.place;
-        let next = go_on(
-            slot,
-            items,
-            kinds,
-            line,
-            at,
-            state,
-            out,
-            marks,
-            seen,
-            &mut ends,
-        );
-        at = copy_empty(line, p, next, out);
+        if differs(items, line, p) {
+            at = step_over(line, p, at, out);
+        } else {
+            let next = go_on(
+                slot,
+                items,
+                kinds,
+                line,
+                at,
+                state,
+                out,
+                marks,
+                seen,
+                &mut ends,
+            );
+            at = step_over(line, p, next, out);
+        }
     }
     clear(marks, 66 * items.len());
     answer(at)

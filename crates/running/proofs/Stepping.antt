@@ -26,8 +26,8 @@ use Rattle.memories.specs.Memory.{IsTable, padded}
 use Rattle.memories.proofs.Copying.{padded-front}
 use Rattle.memories.proofs.Slotting.{SlotAt, slot-at, table-size}
 use Rattle.running.specs.Contract.{LineLeft}
-use Rattle.running.specs.Passing.{closedFlags, OpenBelow, OverBy, DueBy, Dues, Stands, Ready, Followed, Follows, GoesOn, Steps, Ends, endedOf}
-use Rattle.running.specs.declared.Why.the-variants.{BudgetUsedUp}
+use Rattle.running.specs.Passing.{closedFlags, OpenBelow, OverBy, DueBy, Dues, Stands, Ready, Followed, Follows, GoesOn, Steps, Ends}
+use Rattle.running.specs.declared.Why.the-variants.{BudgetUsedUp, AtWork}
 use Rattle.running.specs.declared.Stand.{Stand}
 use Rattle.running.specs.declared.Ended.{Ended}
 use Rattle.running.specs.declared.Ended.the-variants.{Done, Control, Refused}
@@ -142,18 +142,17 @@ module _ {tb kn b tx nw mk fl : List ℕ} {count budget : ℕ} {a : Stand} (y : 
           }
 
       module _ {b′ nw′ mk′ : List ℕ} {r : Passed} (p : Passes (slotPart tb k) (take (a .size) tx) b b′ nw nw′ mk mk′ r) where
-        step-refused : {f : Fault} {n : ℕ} {e : Ended} → r ≡ Refuses f n → e ≡ endedOf r (a .begun + 1) → Steps tb kn b b′ tx tx nw′ mk′ fl fl count budget a (Over e)
-        step-refused {f} {n} j i =
+        step-refused : {f : Fault} {n : ℕ} → r ≡ Refuses f n → Steps tb kn b b′ tx tx nw′ mk′ fl fl count budget a (Over (Refused (AtWork f) (a .begun + 1)))
+        step-refused {f} {n} j =
             let p₂ = done-as p (Refuses f n) j in
-            rw (i ∙ ap (λ (w : Passed). endedOf w (a .begun + 1)) j)
-            (record {
+            record {
               goes = record {
                 comes = λ whole ms h l s.
                     let u = p₂ .comes (slot-of ms h l .macro) (is-slot ms h l) (s .state) (s .holds) .moment in
                     pass-refused tb ms h whole budget b tx fl a s plain (omega (arith, y .due, l)) k opened (slot-of ms h l) room (u .0) _ (u .1);
                 left = tt;
               };
-            })
+            }
 
         module _ {o₂ : Bool} {n : ℕ} (i : r ≡ Passing o₂ n) where
           passed : Passes (slotPart tb k) (take (a .size) tx) b b′ nw nw′ mk mk′ (Passing o₂ n)
@@ -237,7 +236,7 @@ module _ {tb kn b tx nw mk fl : List ℕ} {count budget : ℕ} {a : Stand} (y : 
 
         pub step-passed : (r : Passed) → Passes (slotPart tb k) (take (a .size) tx) b b′ nw nw′ mk mk′ r → length nw′ ≡ length nw → {tx′ fl′ : List ℕ} {e : Next}
             → Follows tb count tx tx′ nw′ fl fl′ r further e → length tx′ ≡ length tx → length fl′ ≡ length fl → Steps tb kn b b′ tx tx′ nw′ mk′ fl fl′ count budget a e
-        step-passed (Refuses i n) p w f m v = rw (f .by .next, f .by .line, f .by .closed) (step-refused p refl refl)
+        step-passed (Refuses i n) p w f m v = rw (f .by .next, f .by .line, f .by .closed) (step-refused p refl)
         step-passed (Passing false n) p w f m v = rw (f .by .next, f .by .line, f .by .closed) (step-none p refl w refl)
         step-passed (Passing true n) p w f m v = rw (f .by .next) (step-some p refl w refl (f .by .line) m (f .by .closed) v)
 
@@ -274,8 +273,8 @@ module _ {tb tx nw fl : List ℕ} {r : Passed} {on : Stand} (y : Followed tb tx 
   line-fits = omega (arith, length-take-le n nw new-fits, new-within, y .text)
 
 module _ {tb tx nw fl : List ℕ} {count : ℕ} {r : Passed} {on : Stand} where
-  pub after-refused : {x : Fault} {n : ℕ} {z : Ended} → r ≡ Refuses x n → z ≡ endedOf r (on .begun) → Follows tb count tx tx nw fl fl r on (Over z)
-  after-refused e f = rw e (record { by = record { next = ap Over (f ∙ ap (λ (w : Passed). endedOf w (on .begun)) e); line = refl; closed = refl } })
+  pub after-refused : {x : Fault} {n : ℕ} → r ≡ Refuses x n → Follows tb count tx tx nw fl fl r on (Over (Refused (AtWork x) (on .begun)))
+  after-refused e = rw e (record { by = record { next = refl; line = refl; closed = refl } })
 
   module _ {o : Bool} {n : ℕ} (e : r ≡ Passing o n) where
     pub after-none : o ≡ false → Follows tb count tx tx nw fl fl r on (On on)

@@ -97,11 +97,6 @@ pub record Ends (table b b′ text text′ flags : List ℕ) (count budget : ℕ
   pub comes : (whole : Line) (ms : Table) → IsTable table ms → length ms ≡ count → Stands whole ms budget b text flags a → Comes whole b′ text′ r
   pub left : Left b′ text′ r
 
--- a pass that was refused ends the line; one that was not is never handed on
-abbrev pub endedOf : Passed → ℕ → Ended
-endedOf (Refuses f n) p = Refused (AtWork f) p
-endedOf (Passes o n) p = Refused BudgetUsedUp p
-
 -- what is lent behind a pass: `on` is where the line stands if it had no occurrence
 pub record Followed (tb tx nw fl : List ℕ) (r : Passed) (on : Stand) : Type 0 where
   pub text : length tx ≡ mostLineBytes

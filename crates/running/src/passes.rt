@@ -13,7 +13,7 @@ ghost use mathlib.Core.Path.{_≡_};
 ghost use Prim.Native.Nat.{_≤_};
 ghost use lib.ListN.{length};
 ghost use Rattle.lines.specs.Line.{isControl};
-ghost use Rattle.running.specs.Passing.{Dues, Ready, Followed, Follows, Steps, Ends, endedOf};
+ghost use Rattle.running.specs.Passing.{Dues, Ready, Followed, Follows, Steps, Ends};
 
 // "a line beginning with `$` is a control line".
 fn is_control(line: &[u8]) -> bool
@@ -25,17 +25,7 @@ fn is_control(line: &[u8]) -> bool
     line[0] == b'$'
 }
 
-// A pass that was refused ends the line. One that was not is never handed here.
-fn ended_by(passed: Passed, begun: usize) -> Ended
-    ensures { λ r. ⌜ r ≡ endedOf passed begun ⌝ }
-{
-    match passed {
-        Passed::Refused(f, _) => Ended::Refused(Why::AtWork(f), begun),
-        Passed::Over(_, _) => Ended::Refused(Why::BudgetUsedUp, begun),
-    }
-}
-
-// What follows a pass: `on` is where the line stands if it had no occurrence; after one with an occurrence, again with the newest.
+// What follows a pass: `on` is where the line stands if it had no occurrence; after one with an occurrence, again with the newest. A refused one ends the line.
 fn after_pass(
     table: &[u8],
     count: usize,
@@ -49,21 +39,25 @@ fn after_pass(
     ensures { λ r. ⌜ Follows (now (table .entry)) count (now (text .entry)) (now (text .exit)) (now (new .entry)) (now (closed .entry)) (now (closed .exit)) passed on r ⌝ }
 {
     let begun = on.begun;
-    let Passed::Over(o, size) = passed else {
-        return Next::Over(ended_by(passed, begun));
-    };
-    if o {
-        let k = on.due;
-        lay_out(text, &new[..size]);
-        close(closed, table[1024 * k], k);
-        return Next::On(Stand {
-            size: size,
-            occurred: true,
-            due: count,
-            begun: begun,
-        });
+    match passed {
+        Passed::Refused(f, _) => {
+            return Next::Over(Ended::Refused(Why::AtWork(f), begun));
+        }
+        Passed::Over(o, size) => {
+            if o {
+                let k = on.due;
+                lay_out(text, &new[..size]);
+                close(closed, table[1024 * k], k);
+                return Next::On(Stand {
+                    size: size,
+                    occurred: true,
+                    due: count,
+                    begun: begun,
+                });
+            }
+            return Next::On(on);
+        }
     }
-    Next::On(on)
 }
 
 // What is due: before each pass and at the end whether it is a control line; a pass, if a macro is due and the budget is not used up.

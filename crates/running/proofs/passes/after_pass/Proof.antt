@@ -8,20 +8,17 @@ use Rattle.running.proofs.passes.after_pass.Tie as tie
 enum-known-passed : tie.Need-enum-known-passed
 enum-known-passed c = c .match .keys1
 
-enum-told : tie.Need-enum-told
-enum-told c = c .match .keys2
-
-ended-by-requires : tie.Need-ended-by-requires
-ended-by-requires c κs = tt
-
 returns : tie.Need-returns
-returns c = after-refused (c .before .enum-told .given .1) (c .ended-by .ensures)
+returns c = after-refused (c .before .passed .given .1)
+
+enum-known-passed-2 : tie.Need-enum-known-passed-2
+enum-known-passed-2 c = c .match .keys2
 
 slice-aggregate-lay-out : tie.Need-slice-aggregate-lay-out
-slice-aggregate-lay-out c = sym (length-take-le _ _ (new-fits (c .before .before .before .before .before .before .before .before .before .before .pre) (c .before .before .before .before .passed .given .1)))
+slice-aggregate-lay-out c = sym (length-take-le _ _ (new-fits (c .before .before .before .before .before .before .before .before .before .before .pre) (c .before .before .before .before .passed2 .given .1)))
 
 lay-out-requires : tie.Need-lay-out-requires
-lay-out-requires c κs = line-fits (c .before .before .before .before .before .before .before .before .before .before .pre) (c .before .before .before .before .passed .given .1)
+lay-out-requires c κs = line-fits (c .before .before .before .before .before .before .before .before .before .before .pre) (c .before .before .before .before .passed2 .given .1)
 
 mul-close : tie.Need-mul-close
 mul-close c = search needs
@@ -39,19 +36,18 @@ same-length-2 : tie.Need-same-length-2
 same-length-2 c = c .before .before .close .kept .0
 
 returns-2 : tie.Need-returns-2
-returns-2 c = after-some (c .before .before .before .before .before .before .before .before .before .before .before .before .passed .given .1) (c .before .before .before .before .before .before .before .before .before .before .if1 .taken) (c .before .before .before .before .before .before .before .lay-out .ensures) (c .before .before .close .ensures)
+returns-2 c = after-some (c .before .before .before .before .before .before .before .before .before .before .before .before .passed2 .given .1) (c .before .before .before .before .before .before .before .before .before .before .if1 .taken) (c .before .before .before .before .before .before .before .lay-out .ensures) (c .before .before .close .ensures)
 
 returns-3 : tie.Need-returns-3
-returns-3 c = after-none (c .before .before .passed .given .1) (c .if1 .left)
+returns-3 c = after-none (c .before .before .passed2 .given .1) (c .if1 .left)
 
 pub after-pass-spec : {M : Type 1} → statement M
 after-pass-spec =
     tie.close
     (tie.spec
     enum-known-passed
-    enum-told
-    ended-by-requires
     returns
+    enum-known-passed-2
     slice-aggregate-lay-out
     lay-out-requires
     mul-close
