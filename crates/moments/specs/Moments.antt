@@ -51,7 +51,8 @@ pub record Copies (t out out′ : List ℕ) (a r : At) : Type 0 where
   pub full : a .place < length t → mostLineBytes ≤ a .size → (r ≡ refusedAt NewLineTooLong (a .size)) × (out′ ≡ out)
   pub copied : a .place < length t → a .size < mostLineBytes → (r ≡ movedTo a (a .size + 1)) × (out′ ≡ set out (a .size) (getD t (a .place) 0))
 
--- part 5: behind the tried place p. "At a place without a match the byte is copied", and "an empty match also copies the byte there .. and goes on after that byte": there the pass still stands at p. Behind a longer match, and after a refusal, whose place lies past every place, nothing is copied
+-- part 5: behind the tried place p. "At a place without a match the byte is copied", and "an empty match also copies the byte there ..
+-- and goes on after that byte": there the pass still stands at p. Behind a longer match, and after a refusal, nothing is copied
 pub record StepsOver (t out out′ : List ℕ) (p : ℕ) (a r : At) : Type 0 where
   pub further : p < a .place → (r ≡ a) × (out′ ≡ out)
   pub still : a .place ≤ p → Copies t out out′ a r
