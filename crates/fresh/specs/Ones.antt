@@ -1,7 +1,7 @@
 -- The counters of the fresh state, as bytes.
 use Prim.Native.Nat.{ℕ, zero, suc}
 use mathlib.Core.List.{List, [], _++_}
-use Rattle.tables.specs.Form.{four}
+use Rattle.fours.specs.Fours.{four}
 
 -- n times the number 1
 unfoldable pub ones : ℕ → List ℕ

@@ -1,8 +1,7 @@
-// Writing into lent bytes: items of two bytes, a code of the table's form and an operand; numbers; and zeros.
+// Writing into lent bytes: items of two bytes, a code of the table's form and an operand; and zeros.
 ghost use Prim.Native.Nat.{_≤_, _<_, _+_};
 ghost use mathlib.Core.List.{[], _∷_};
 ghost use lib.ListN.{length, replicate};
-ghost use Rattle.tables.specs.Form.{four};
 ghost use Rattle.items.specs.Items.{Wrote};
 
 // Stores one item.
@@ -12,17 +11,6 @@ pub fn put_item(out: &mut [u8], n: usize, x: u8, y: u8)
 {
     out[n] = x;
     out[n + 1] = y;
-}
-
-// A number in four bytes, low byte first.
-pub fn put_number(out: &mut [u8], at: usize, n: u32)
-    requires { ⌜ at + 4 ≤ length (now out) ⌝ }
-    ensures { λ _. ⌜ Wrote (now (out .entry)) (now (out .exit)) at (four n) ⌝ }
-{
-    out[at] = (n % 256) as u8;
-    out[at + 1] = (n / 256 % 256) as u8;
-    out[at + 2] = (n / 65536 % 256) as u8;
-    out[at + 3] = (n / 16777216) as u8;
 }
 
 // Zeros in k bytes.

@@ -1,5 +1,4 @@
 // Replacement and commands (01, part 4), from their items.
-use crate::calls::number_in;
 use crate::calls::set;
 use crate::calls::shift;
 use crate::calls::store;
@@ -9,6 +8,7 @@ use crate::tags::tag_of;
 use crate::texts::insert;
 use crate::texts::is_within;
 use faults::Outcome;
+use fours::number_at;
 ghost use mathlib.Core.Path.{_≡_};
 ghost use lib.Seq.{slice};
 ghost use Rattle.states.specs.Access.{IsState};
@@ -43,7 +43,7 @@ fn access(
     if code < 80 {
         return store(state, i, text_in(t), k);
     }
-    set(state, code, i, number_in(t), k)
+    set(state, code, i, number_at(t, 2), k)
 }
 
 // "the pointer moves before or after the access"; the counter likewise.

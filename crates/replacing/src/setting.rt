@@ -1,7 +1,7 @@
 // Storing into a state's memory: pointers, counters and entries.
 use crate::texts::copy;
+use fours::put_number;
 use items::clear;
-use items::put_number;
 use states::entry_at;
 use states::place;
 ghost use Prim.Native.Nat.{_≤_};

@@ -1,8 +1,9 @@
 -- The items of an action, which t begins with: how many bytes they are, and what is read of them.
-use Prim.Native.Nat.{ℕ, _+_, _*_, _%_, _≤_}
+use Prim.Native.Nat.{ℕ, _+_, _%_, _≤_}
 use mathlib.Core.List.{List}
 use lib.Dec.{ltb}
 use lib.ListN.{length, getD, take, drop}
+use Rattle.fours.specs.Fours.{numberAt}
 use Rattle.macros.specs.Macro.{pick}
 
 -- the bytes that the action takes
@@ -14,7 +15,7 @@ actionSize t =
 
 -- the number in four bytes
 unfoldable pub numberIn : List ℕ → ℕ
-numberIn t = getD t 2 0 + 256 * getD t 3 0 + 65536 * getD t 4 0 + 16777216 * getD t 5 0
+numberIn t = numberAt t 2
 
 -- the text of a call
 unfoldable pub textIn : List ℕ → List ℕ

@@ -5,16 +5,16 @@ use crate::put::in_list;
 use crate::put::marked;
 use crate::put::put;
 use crate::put::put_number;
-use crate::put::wide;
+use fours::number_at;
 ghost use mathlib.Core.Path.{_≡_};
 ghost use mathlib.Core.List.{[], _∷_, _++_};
-ghost use Prim.Native.Nat.{_+_, _%_, _≤_, _<_};
+ghost use Prim.Native.Nat.{_+_, _%_, _≤_};
 ghost use lib.Dec.{ltb};
 ghost use lib.ListN.{length, getD};
 ghost use Rattle.macros.specs.Macro.{pick, among};
 ghost use Rattle.macros.specs.Write.{textMarks, byte, writeText};
 ghost use Rattle.writing.specs.Puts.{shortText, Puts};
-ghost use Rattle.tables.specs.Actions.{numberIn, actionSize, Held};
+ghost use Rattle.tables.specs.Actions.{actionSize, Held};
 ghost use Rattle.writing.specs.Items.{nameText, callByte, openText, endText, firstText, middleText, lastText, callText, actionText, actionsText, Whole};
 
 // A letter with the sign that the call's code asks for, and a byte behind it.
@@ -58,14 +58,6 @@ fn put_text(file: &mut [u8], first: usize, text: &[u8]) -> usize
     n
 }
 
-// The number in four bytes.
-fn number_in(t: &[u8]) -> u64
-    requires { ⌜ 6 ≤ length (now t) ⌝ }
-    ensures { λ r. ⌜ r ≡ numberIn (now (t .entry)) ⌝ }
-{
-    wide(t[2]) + 256 * wide(t[3]) + 65536 * wide(t[4]) + 16777216 * wide(t[5])
-}
-
 fn set_sign(code: u8) -> u8
     ensures { λ r. ⌜ r ≡ pick (ltb code 96) 61 44 ⌝ }
 {
@@ -101,7 +93,7 @@ fn put_middle(file: &mut [u8], n: usize, t: &[u8]) -> usize
         let end = 4 + t[3] as usize;
         return put_text(file, n, &t[4..end]);
     }
-    put_number(file, n, number_in(t))
+    put_number(file, n, number_at(t, 2))
 }
 
 // The name and `)`, `:)` or `)`.
