@@ -2,8 +2,8 @@
 use crate::texts::copy;
 use fours::put_number;
 use items::clear;
+use letters::place;
 use states::entry_at;
-use states::place;
 ghost use Prim.Native.Nat.{_≤_};
 ghost use lib.ListN.{length};
 ghost use Rattle.macros.specs.Bounds.{mostEntries, mostEntryBytes, mostCounter};

@@ -1,19 +1,12 @@
 // The state as bytes: what is read of the stacks and counters in one lent memory.
 use fours::number_at;
+use letters::place;
 ghost use Prim.Native.Nat.{_+_, _-_, _*_, _≤_};
 ghost use mathlib.Core.Path.{_≡_};
 ghost use Rattle.macros.specs.Formed.{Letter};
 ghost use Rattle.lines.specs.State.{stackOf, counterOf, currentEntry};
 ghost use Rattle.states.specs.Form.{stateBytes};
 ghost use Rattle.states.specs.Access.{IsState, OfState, textLength};
-
-// Where the letter i stands in the alphabet.
-pub fn place(i: u8) -> usize
-    requires { ⌜ Letter i ⌝ }
-    ensures { λ r. ⌜ (r ≡ i - 97) × (r ≤ 25) ⌝ }
-{
-    (i - 97) as usize
-}
 
 pub fn pointer(state: &[u8], i: u8) -> u8
     requires { ⌜ IsState (now state) × Letter i ⌝ }
