@@ -1,7 +1,9 @@
-// Writing into lent bytes: items of two bytes, a code of the table's form and an operand; and zeros.
+// Items of two bytes, a code of the table's form and an operand: storing one, and how many bytes an action's take; and storing zeros.
 ghost use Prim.Native.Nat.{_≤_, _<_, _+_};
+ghost use mathlib.Core.Path.{_≡_};
 ghost use mathlib.Core.List.{[], _∷_};
 ghost use lib.ListN.{length, replicate};
+ghost use Rattle.tables.specs.Actions.{actionSize, Held};
 ghost use Rattle.items.specs.Items.{Wrote};
 
 // Stores one item.
@@ -11,6 +13,25 @@ pub fn put_item(out: &mut [u8], n: usize, x: u8, y: u8)
 {
     out[n] = x;
     out[n + 1] = y;
+}
+
+// The bytes that the action takes.
+pub fn action_size(t: &[u8]) -> usize
+    requires { ⌜ Held (now t) ⌝ }
+    ensures { λ r. ⌜ r ≡ actionSize (now (t .entry)) ⌝ }
+{
+    let code = t[0];
+    if code < 64 {
+        return 2;
+    }
+    if code < 72 {
+        return 4;
+    }
+    if code < 80 {
+        let size = t[3] as usize;
+        return 4 + size + size % 2;
+    }
+    6
 }
 
 // Zeros in k bytes.

@@ -46,10 +46,6 @@ module _ (t : List ℕ) where
       by false true = omega arith
       by false false = omega arith
 
-  pub size-long : 64 ≤ getD t 0 0 → actionSize t ≡ pick (ltb (getD t 0 0) 72) 4 (pick (ltb (getD t 0 0) 80) (4 + getD t 3 0 + getD t 3 0 % 2) 6)
-  unfolding actionSize pick
-  size-long h = rw (le-ltb (getD t 0 0) 64 h)
-
   pub size-tag : 64 ≤ getD t 0 0 → getD t 0 0 < 72 → actionSize t ≡ 4
   unfolding actionSize pick
   size-tag g h = rw (le-ltb (getD t 0 0) 64 g, lt-ltb (getD t 0 0) 72 h)

@@ -6,15 +6,16 @@ use crate::put::marked;
 use crate::put::put;
 use crate::put::put_number;
 use fours::number_at;
+use items::action_size;
 ghost use mathlib.Core.Path.{_≡_};
 ghost use mathlib.Core.List.{[], _∷_, _++_};
-ghost use Prim.Native.Nat.{_+_, _%_, _≤_};
+ghost use Prim.Native.Nat.{_≤_};
 ghost use lib.Dec.{ltb};
 ghost use lib.ListN.{length, getD};
 ghost use Rattle.macros.specs.Macro.{pick, among};
 ghost use Rattle.macros.specs.Write.{textMarks, byte, writeText};
 ghost use Rattle.writing.specs.Puts.{shortText, Puts};
-ghost use Rattle.tables.specs.Actions.{actionSize, Held};
+ghost use Rattle.tables.specs.Actions.{Held};
 ghost use Rattle.writing.specs.Items.{nameText, callByte, openText, endText, firstText, middleText, lastText, callText, actionText, actionsText, Whole};
 
 // A letter with the sign that the call's code asks for, and a byte behind it.
@@ -174,32 +175,6 @@ fn put_action(file: &mut [u8], n: usize, t: &[u8]) -> usize
         return put(file, m, ending(code, b));
     }
     put_call(file, m, t)
-}
-
-// The bytes that a call takes that stores or sets; `size` is the length of its text if it has one.
-fn call_size(code: u8, size: u8) -> usize
-    ensures { λ r. ⌜ r ≡ pick (ltb code 72) 4 (pick (ltb code 80) (4 + size + size % 2) 6) ⌝ }
-{
-    if code < 72 {
-        return 4;
-    }
-    if code < 80 {
-        let text = size as usize;
-        return 4 + text + text % 2;
-    }
-    6
-}
-
-// The bytes that the action takes.
-fn action_size(t: &[u8]) -> usize
-    requires { ⌜ Held (now t) ⌝ }
-    ensures { λ r. ⌜ r ≡ actionSize (now (t .entry)) ⌝ }
-{
-    let code = t[0];
-    if code < 64 {
-        return 2;
-    }
-    call_size(code, t[3])
 }
 
 // A quote and the actions of a replacement, or the commands.
