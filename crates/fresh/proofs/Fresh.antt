@@ -5,7 +5,7 @@ use mathlib.Core.List.{List, [], _∷_, _++_, append-assoc, append-nil}
 use native.Mathlib.Nat.{mul-suc, add-comm, zero-add, suc-add}
 use native.Mathlib.Omega.{arith}
 use lib.ListN.{length, replicate, length-append, length-replicate, replicate-append-replicate}
-use Rattle.tables.specs.Form.{four}
+use Rattle.fours.specs.Fours.{four}
 use Rattle.lines.specs.State.{fresh, freshStack, freshCounter}
 use Rattle.states.specs.Form.{pointersForm, valuesForm, incrementsForm, entryForm, entriesForm, stacksForm, stateForm}
 use Rattle.states.specs.Access.{replaced}

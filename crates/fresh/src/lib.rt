@@ -1,6 +1,6 @@
 // The fresh state, into a state's memory.
+use fours::put_number;
 use items::clear;
-use items::put_number;
 ghost use Prim.Native.Nat.{_-_, _≤_};
 ghost use mathlib.Core.Path.{_≡_};
 ghost use lib.ListN.{length, replicate};

@@ -6,8 +6,8 @@ use Prim.Native.Nat.{ℕ, _+_, _-_, _≤_, _<_}
 use native.Mathlib.Omega.{arith}
 use native.Mathlib.Nat.{add-assoc, add-zero}
 use native.Mathlib.Numerals.{add-one}
-use lib.ListN.{length, drop, take, set, replicate, length-append, length-replicate, length-set, replicate-append-replicate, take-append-drop}
-use lib.Seq.{drop-drop, drop-set-lt, drop-at, take-suc-set, take-take, take-append-le, take-add, take-all, length-take-le}
+use lib.ListN.{length, drop, take, set, replicate, length-append, length-replicate, replicate-append-replicate, take-append-drop}
+use lib.Seq.{drop-drop, drop-set-lt, drop-at, take-at, take-suc-set, take-take, take-append-le, take-add, take-all, length-take-le}
 use Rattle.items.specs.Items.{Wrote}
 
 -- what is kept from one place on is kept from every later place on
@@ -37,16 +37,6 @@ wrote-more {a} {b} {c} {l} {m} {n} x y =
 pub wrote-behind : {a b c l m : List ℕ} {n k : ℕ} → Wrote a b n l → k ≡ n + length l → Wrote b c k m → Wrote a c n (l ++ m)
 wrote-behind x e y = wrote-more x (rw e at y)
 
--- four bytes, stored one by one
-pub wrote-four : (a : List ℕ) (n x y z u : ℕ) → n + 4 ≤ length a → Wrote a (set (set (set (set a n x) (n + 1) y) (n + 2) z) (n + 3) u) n (x ∷ y ∷ z ∷ u ∷ [])
-wrote-four a n x y z u h =
-    let b : List ℕ = set a n x in
-    let c : List ℕ = set b (n + 1) y in
-    let d : List ℕ = set c (n + 2) z in
-    wrote-more {l = x ∷ y ∷ z ∷ []}
-    (wrote-more {l = x ∷ y ∷ []} (wrote-more {l = x ∷ []} (wrote-one a n x (omega arith)) (wrote-one b (n + 1) y (simp length-set (omega arith)))) (wrote-one c (n + 2) z (simp length-set (omega arith))))
-    (wrote-one d (n + 3) u (simp length-set (omega arith)))
-
 pub wrote-zero : {a b : List ℕ} {n : ℕ} (i : ℕ) → Wrote a b n (replicate i 0) → n + i < length b → Wrote a (set b (n + i) 0) n (replicate (i + 1) 0)
 wrote-zero {a} {b} {n} i w l =
     let e : n + i ≡ n + length {A = ℕ} (replicate i 0) = omega (arith, length-replicate {A = ℕ} i 0) in
@@ -55,6 +45,12 @@ wrote-zero {a} {b} {n} i w l =
 -- the bytes, whole
 pub wrote-is : {a b l : List ℕ} {n : ℕ} → Wrote a b n l → b ≡ take n a ++ (l ++ drop (n + length l) a)
 wrote-is {a} {b} {l} {n} w = sym (take-append-drop (n + length l) b) ∙ rw (w .written, w .kept) (append-assoc (take n a) l (drop (n + length l) a))
+
+pub wrote-of : {a b : List ℕ} (l : List ℕ) (n : ℕ) → n + length l ≤ length a → b ≡ take n a ++ (l ++ drop (n + length l) a) → Wrote a b n l
+wrote-of {a} {b} l n h e =
+    let front : length (take n a ++ l) ≡ n + length l = length-append (take n a) l ∙ ap (λ (k : ℕ). k + length l) (length-take-le n a (omega arith)) in
+    let cut : b ≡ (take n a ++ l) ++ drop (n + length l) a = e ∙ sym (append-assoc (take n a) l (drop (n + length l) a)) in
+    record { written = rw cut (take-at (take n a ++ l) (drop (n + length l) a) (n + length l) front); kept = rw cut (drop-at (take n a ++ l) (drop (n + length l) a) (n + length l) front) }
 
 -- all bytes
 pub wrote-all : {a b l : List ℕ} → Wrote a b 0 l → length l ≡ length b → b ≡ l

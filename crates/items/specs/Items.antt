@@ -11,12 +11,12 @@ pub record Wrote (old out : List ℕ) (n : ℕ) (l : List ℕ) : Type 0 where
   pub written : take (n + length l) out ≡ take n old ++ l
   pub kept : drop (n + length l) out ≡ drop (n + length l) old
 
--- the items of pieces, these newest first
+-- the items of pieces, in the order read; the pieces stand in the list with the last read first
 unfoldable pub itemsOf : List Piece → List ℕ
 itemsOf [] = []
 itemsOf (p ∷ ps) = itemsOf ps ++ pieceItems p
 
--- the items of a class's members, these newest first, without the end
+-- the items of a class's members, in the order read, without the end; the members stand in the list with the last read first
 unfoldable pub memberBytes : List Member → List ℕ
 memberBytes [] = []
 memberBytes (m ∷ ms) = memberBytes ms ++ memberItems m

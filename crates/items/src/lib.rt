@@ -1,8 +1,9 @@
-// Writing into lent bytes: items of two bytes, a code of the table's form and an operand; numbers; and zeros.
+// Items of two bytes, a code of the table's form and an operand: storing one, and how many bytes an action's take; and storing zeros.
 ghost use Prim.Native.Nat.{_≤_, _<_, _+_};
+ghost use mathlib.Core.Path.{_≡_};
 ghost use mathlib.Core.List.{[], _∷_};
 ghost use lib.ListN.{length, replicate};
-ghost use Rattle.tables.specs.Form.{four};
+ghost use Rattle.tables.specs.Actions.{actionSize, Held};
 ghost use Rattle.items.specs.Items.{Wrote};
 
 // Stores one item.
@@ -14,15 +15,23 @@ pub fn put_item(out: &mut [u8], n: usize, x: u8, y: u8)
     out[n + 1] = y;
 }
 
-// A number in four bytes, low byte first.
-pub fn put_number(out: &mut [u8], at: usize, n: u32)
-    requires { ⌜ at + 4 ≤ length (now out) ⌝ }
-    ensures { λ _. ⌜ Wrote (now (out .entry)) (now (out .exit)) at (four n) ⌝ }
+// The bytes that the action takes.
+pub fn action_size(t: &[u8]) -> usize
+    requires { ⌜ Held (now t) ⌝ }
+    ensures { λ r. ⌜ r ≡ actionSize (now (t .entry)) ⌝ }
 {
-    out[at] = (n % 256) as u8;
-    out[at + 1] = (n / 256 % 256) as u8;
-    out[at + 2] = (n / 65536 % 256) as u8;
-    out[at + 3] = (n / 16777216) as u8;
+    let code = t[0];
+    if code < 64 {
+        return 2;
+    }
+    if code < 72 {
+        return 4;
+    }
+    if code < 80 {
+        let size = t[3] as usize;
+        return 4 + size + size % 2;
+    }
+    6
 }
 
 // Zeros in k bytes.

@@ -1,6 +1,8 @@
-// Single bytes of a macro file: breaks, letters and digits, and what an escape means.
+// Single bytes of a macro file: breaks, letters and digits, what an escape means, and a letter's place.
+ghost use Prim.Native.Nat.{_-_, _≤_};
 ghost use mathlib.Core.Path.{_≡_};
 ghost use Rattle.macros.specs.Macro.{lower, digit};
+ghost use Rattle.macros.specs.Formed.{Letter};
 ghost use Rattle.macros.specs.Read.{breaks, escaped};
 
 // The byte that `\` and a byte mean.
@@ -39,4 +41,12 @@ pub fn is_digit(b: u8) -> bool
     ensures { λ r. ⌜ r ≡ digit b ⌝ }
 {
     48 <= b && b <= 57
+}
+
+// Where the letter i stands in the alphabet.
+pub fn place(i: u8) -> usize
+    requires { ⌜ Letter i ⌝ }
+    ensures { λ r. ⌜ (r ≡ i - 97) × (r ≤ 25) ⌝ }
+{
+    (i - 97) as usize
 }

@@ -18,6 +18,6 @@ pub record Counted (table : List ℕ) (count : ℕ) : Type 0 where
   pub isTable : IsTable table macros
   pub counted : length macros ≡ count
 
--- a text and zeros behind it, n bytes in all
+-- a text and zeros behind it: n bytes in all, for a text of at most n
 abbrev pub padded : List ℕ → ℕ → List ℕ
 padded t n = t ++ replicate (n - length t) 0

@@ -21,7 +21,8 @@ use Rattle.macros.specs.Read.Part.{calling, callText}
 use Rattle.macros.specs.Read.Phase.{begun, signed, named, equals, increment, tagged, comma, tagSigned, tagNamed, texted}
 use Rattle.macros.specs.Read.Turn.{into, textOf, closed, wrong}
 use Rattle.macros.specs.Read.Read.{refusedAt}
-use Rattle.tables.specs.Form.{callItems, moveCode, four}
+use Rattle.fours.specs.Fours.{four}
+use Rattle.tables.specs.Form.{callItems, moveCode}
 use Rattle.scanning.specs.Scan.{run, Here, Calls, Reached, faultOf, wrongCall}
 use Rattle.numbers.specs.Number.{Counts, Digits, Kept, Behind, most}
 use Rattle.items.specs.Items.{Wrote}

@@ -17,7 +17,8 @@ use Rattle.macros.specs.Read.Part.{calling, callText}
 use Rattle.macros.specs.Read.Phase.{begun, named, tagged, tagNamed, texted}
 use Rattle.macros.specs.Read.Turn.{into, textOf, closed, wrong}
 use Rattle.macros.specs.Read.Read.{refusedAt}
-use Rattle.tables.specs.Form.{callItems, moveCode, four}
+use Rattle.fours.specs.Fours.{four}
+use Rattle.tables.specs.Form.{callItems, moveCode}
 use Rattle.scanning.specs.Scan.{faultOf, run, Reached, Here}
 use Rattle.numbers.specs.Number.{Eats, most}
 use Rattle.items.specs.Items.{Wrote}

@@ -2,8 +2,8 @@
 use crate::Ended;
 use crate::Name;
 use crate::Tail;
+use fours::put_number;
 use items::put_item;
-use items::put_number;
 use letters::escaped_byte;
 use letters::is_break;
 use letters::is_lower;

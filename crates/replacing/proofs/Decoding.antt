@@ -15,13 +15,15 @@ use Rattle.macros.specs.Macro.Move.{still, before, after}
 use Rattle.macros.specs.Macro.Call.{insert, storeTag, setTo, storeText, setIncrement}
 use Rattle.macros.specs.Macro.Action.{text, tag, call}
 use Rattle.macros.specs.Formed.{limit, numberFits, FormedCall, FormedAction, FormedReplacement, FormedCommands}
-use Rattle.tables.specs.Form.{moveCode, four, callItems, actionItems, replacementItems}
+use Rattle.fours.specs.Fours.{four}
+use Rattle.fours.proofs.Laws.{four-there}
+use Rattle.tables.specs.Form.{moveCode, callItems, actionItems, replacementItems}
 use Rattle.lines.specs.Matching.{tagText}
 use Rattle.lines.specs.Replacing.{Work, Done, _>>=_, unless, onto, puts, put, early, late, stores, callActs, acts, replaces, commandsAct}
 use Rattle.lines.specs.Replacing.Done.{bad, good}
 use Rattle.lines.proofs.KeepTests.{within-between}
 use Rattle.tables.specs.Actions.{numberIn, textIn, Held}
-use Rattle.tables.proofs.Actions.{even-taken, number-back, action-size, action-some, action-rest}
+use Rattle.tables.proofs.Actions.{even-taken, action-size, action-some, action-rest}
 use Rattle.replacing.specs.Tags.{tagIn}
 use Rattle.replacing.specs.Acting.{taggedIn, markIn, moveIn, movesIn, setsIn, actIn, contentsIn, insertsIn, storedIn, accessIn, actionIn, actsIn, Fit, Fits}
 use Rattle.replacing.specs.Acting.Fits.{none, next}
@@ -64,14 +66,14 @@ module _ (line pat ends : List ℕ) (es : List Piece) (qs : List ℕ) (same : (n
   call-does (storeTag n i (before minus)) r w = ap (λ (x : List ℕ). early stack (before minus) i w >>= stores i x >>= late stack (before minus) i) (same (n - 1))
   call-does (storeTag n i (after plus)) r w = ap (λ (x : List ℕ). early stack (after plus) i w >>= stores i x >>= late stack (after plus) i) (same (n - 1))
   call-does (storeTag n i (after minus)) r w = ap (λ (x : List ℕ). early stack (after minus) i w >>= stores i x >>= late stack (after minus) i) (same (n - 1))
-  call-does (setTo stack i n) r w = rw (number-back n)
-  call-does (setTo counter i n) r w = rw (number-back n)
+  call-does (setTo stack i n) r w = rw (four-there n)
+  call-does (setTo counter i n) r w = rw (four-there n)
   call-does (storeText i still t) r w = ap (λ (x : List ℕ). early stack still i w >>= stores i x >>= late stack still i) (even-taken t r)
   call-does (storeText i (before plus) t) r w = ap (λ (x : List ℕ). early stack (before plus) i w >>= stores i x >>= late stack (before plus) i) (even-taken t r)
   call-does (storeText i (before minus) t) r w = ap (λ (x : List ℕ). early stack (before minus) i w >>= stores i x >>= late stack (before minus) i) (even-taken t r)
   call-does (storeText i (after plus) t) r w = ap (λ (x : List ℕ). early stack (after plus) i w >>= stores i x >>= late stack (after plus) i) (even-taken t r)
   call-does (storeText i (after minus) t) r w = ap (λ (x : List ℕ). early stack (after minus) i w >>= stores i x >>= late stack (after minus) i) (even-taken t r)
-  call-does (setIncrement i n) r w = rw (number-back n)
+  call-does (setIncrement i n) r w = rw (four-there n)
 
   action-does : (a : Action) (r : List ℕ) (w : Work) → actsIn line pat ends (actionItems a ++ r) w ≡ acts line es qs a w
   unfolding actsIn taggedIn actionIn movesIn moveIn accessIn insertsIn contentsIn actionItems acts pick within
@@ -134,11 +136,11 @@ call-fit n (storeText i v t) r f h =
     let m = move-small v in
     record { held = h; letter = λ p q. f .names .0; text = λ p q. rw (even-taken t r) (f .names .1); pointer = λ p q. absurd (omega arith); number = λ p. absurd (omega arith) }
 call-fit n (setTo stack i k) r f h =
-    record { held = h; letter = λ p q. f .names; text = λ p q. absurd (omega arith); pointer = λ p q. rw (number-back k) (within-between 1 mostEntries k (f .numbers)); number = λ p. absurd (omega arith) }
+    record { held = h; letter = λ p q. f .names; text = λ p q. absurd (omega arith); pointer = λ p q. rw (four-there k) (within-between 1 mostEntries k (f .numbers)); number = λ p. absurd (omega arith) }
 call-fit n (setTo counter i k) r f h =
-    record { held = h; letter = λ p q. f .names; text = λ p q. absurd (omega arith); pointer = λ p q. absurd (omega arith); number = λ p. rw (number-back k) (within-between 1 mostCounter k (f .numbers)) }
+    record { held = h; letter = λ p q. f .names; text = λ p q. absurd (omega arith); pointer = λ p q. absurd (omega arith); number = λ p. rw (four-there k) (within-between 1 mostCounter k (f .numbers)) }
 call-fit n (setIncrement i k) r f h =
-    record { held = h; letter = λ p q. f .names; text = λ p q. absurd (omega arith); pointer = λ p q. absurd (omega arith); number = λ p. rw (number-back k) (within-between 1 mostCounter k (f .numbers)) }
+    record { held = h; letter = λ p q. f .names; text = λ p q. absurd (omega arith); pointer = λ p q. absurd (omega arith); number = λ p. rw (four-there k) (within-between 1 mostCounter k (f .numbers)) }
 
 action-fit : (n : ℕ) (a : Action) (r : List ℕ) → FormedAction n a → Held (actionItems a ++ r) → Fit (actionItems a ++ r)
 unfolding actionItems

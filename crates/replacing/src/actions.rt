@@ -1,5 +1,4 @@
 // Replacement and commands (01, part 4), from their items.
-use crate::calls::number_in;
 use crate::calls::set;
 use crate::calls::shift;
 use crate::calls::store;
@@ -9,10 +8,10 @@ use crate::tags::tag_of;
 use crate::texts::insert;
 use crate::texts::is_within;
 use faults::Outcome;
-ghost use mathlib.Core.Path.{_≡_};
+use fours::number_at;
+use items::action_size;
 ghost use lib.Seq.{slice};
 ghost use Rattle.states.specs.Access.{IsState};
-ghost use Rattle.tables.specs.Actions.{actionSize};
 ghost use Rattle.replacing.specs.Tags.{Ended, Spans, Cut, Divided};
 ghost use Rattle.replacing.specs.Acting.{Fit, Fits, taggedIn, accessIn, actionIn, actsIn, actIn};
 ghost use Rattle.replacing.specs.Moments.{Room, Does};
@@ -43,7 +42,7 @@ fn access(
     if code < 80 {
         return store(state, i, text_in(t), k);
     }
-    set(state, code, i, number_in(t), k)
+    set(state, code, i, number_at(t, 2), k)
 }
 
 // "the pointer moves before or after the access"; the counter likewise.
@@ -82,25 +81,6 @@ fn span_of(pat: &[u8], ends: &[u16], t: &[u8]) -> Span
         return tag_of(pat, ends, t[3]);
     }
     Span { from: 0, to: 0 }
-}
-
-// The bytes that the action takes.
-fn action_size(t: &[u8]) -> usize
-    requires { ⌜ Fit (now t) ⌝ }
-    ensures { λ r. ⌜ r ≡ actionSize (now (t .entry)) ⌝ }
-{
-    let code = t[0];
-    if code < 64 {
-        return 2;
-    }
-    if code < 72 {
-        return 4;
-    }
-    if code < 80 {
-        let size = t[3] as usize;
-        return 4 + size + size % 2;
-    }
-    6
 }
 
 // The actions, left to right. What they insert is put together in `text`; base bytes of the new line stand before it.

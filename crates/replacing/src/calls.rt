@@ -11,13 +11,13 @@ use states::pointer;
 use states::value;
 ghost use mathlib.Core.Path.{_≡_};
 ghost use Prim.Native.Nat.{_≤_, _<_};
-ghost use lib.ListN.{length, getD};
+ghost use lib.ListN.{getD};
 ghost use Rattle.macros.specs.Macro.Mark.{stack, counter};
 ghost use Rattle.macros.specs.Bounds.{mostEntries, mostCounter};
 ghost use Rattle.macros.specs.Formed.{Between, Bytes, Letter};
 ghost use Rattle.lines.specs.Replacing.{moves, stores};
 ghost use Rattle.states.specs.Access.{IsState};
-ghost use Rattle.tables.specs.Actions.{numberIn, textIn};
+ghost use Rattle.tables.specs.Actions.{textIn};
 ghost use Rattle.replacing.specs.Acting.{Fit, movedIn, signIn, moveIn, movesIn, setsIn};
 ghost use Rattle.replacing.specs.Moments.{Changes, Onward};
 
@@ -115,14 +115,6 @@ pub(crate) fn store(state: &mut [u8], i: u8, text: &[u8], k: usize) -> Outcome
     }
     set_entry(state, i, text);
     Outcome::Made(k)
-}
-
-// The number in four bytes, low byte first.
-pub(crate) fn number_in(t: &[u8]) -> u32
-    requires { ⌜ 6 ≤ length (now t) ⌝ }
-    ensures { λ r. ⌜ r ≡ numberIn (now (t .entry)) ⌝ }
-{
-    wide(t[2]) + 256 * wide(t[3]) + 65536 * wide(t[4]) + 16777216 * wide(t[5])
 }
 
 // `&(i=n)`, `#(i=n)` and `#(i,n)`.

@@ -1,9 +1,9 @@
 // Storing into a state's memory: pointers, counters and entries.
 use crate::texts::copy;
+use fours::put_number;
 use items::clear;
-use items::put_number;
+use letters::place;
 use states::entry_at;
-use states::place;
 ghost use Prim.Native.Nat.{_≤_};
 ghost use lib.ListN.{length};
 ghost use Rattle.macros.specs.Bounds.{mostEntries, mostEntryBytes, mostCounter};

@@ -1,5 +1,5 @@
 // Whether bytes are a state (refusal 2).
-use states::number_at;
+use fours::number_at;
 ghost use mathlib.Core.Path.{_≡_};
 ghost use lib.ListN.{length};
 ghost use Rattle.states.specs.Check.{pointersCheck, numberCheck, entryCheck, blocksCheck, stateChecks};

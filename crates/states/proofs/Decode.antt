@@ -1,5 +1,5 @@
 -- A state from its bytes: bytes that pass the check are the form of the state that they decode to, and a form decodes to its state.
-use Prim.Native.Nat.{ℕ, zero, suc, _+_, _-_, _*_, _/_, _%_, _≤_}
+use Prim.Native.Nat.{ℕ, zero, suc, _+_, _-_, _*_, _≤_}
 use mathlib.Core.Path.{_≡_, refl, sym, ap, _∙_}
 use mathlib.Core.Bool.{Bool, true, false, not, _&&_, _||_, false≢true}
 use mathlib.Core.List.{List, [], _∷_, _++_, map, append-assoc}
@@ -12,11 +12,12 @@ use lib.Seq.{take-at, drop-at, drop-drop, drop-cons, length-take-le}
 use Rattle.macros.specs.Formed.{Between, Bytes, Octets}
 use Rattle.macros.specs.Bounds.{mostEntries, mostCounter}
 use Rattle.macros.specs.Macro.{within}
-use Rattle.tables.specs.Form.{four}
+use Rattle.fours.specs.Fours.{four, numberAt}
+use Rattle.fours.proofs.Laws.{four-there, four-back}
 use Rattle.lines.specs.State.{Stack, Counter, State, AllOf, EntryInRange, StackInRange, CounterInRange, InRange}
 use Rattle.states.specs.Form.{pointersForm, valuesForm, incrementsForm, entryForm, stacksForm, stateForm}
 use Rattle.states.specs.FormLaws.{OneStateForm}
-use Rattle.states.specs.Check.{pointersCheck, numberAt, numberCheck, entryCheck, blocksCheck, stateChecks, StateCheckExact}
+use Rattle.states.specs.Check.{pointersCheck, numberCheck, entryCheck, blocksCheck, stateChecks, StateCheckExact}
 use Rattle.states.proofs.Each.{each, itself, chunks, zip, each-append, each-length, each-back, each-chunks, chunks-each, chunks-wide, length-chunks, map-back, all-any, all-map, all-both, all-take, all-drop, all-append, all-chunks, all-of-map, each-all, zip-length, zip-all, zip-left, zip-right, zip-back}
 use Rattle.states.proofs.Parts as parts
 
@@ -74,29 +75,14 @@ number c = numberAt c 0
 
 pub number-four : (n : ℕ) → Number n → number (four n) ≡ n
 unfolding four
-number-four n h = omega arith
-
--- the four bytes of the number that four bytes are
-four-of : (a b x d : ℕ) → a ≤ 255 → b ≤ 255 → x ≤ 255 → four (a + 256 * b + 65536 * x + 16777216 * d) ≡ a ∷ b ∷ x ∷ d ∷ []
-unfolding four
-four-of a b x d ha hb hx =
-    let n : ℕ = a + 256 * b + 65536 * x + 16777216 * d in
-    let e₀ : n % 256 ≡ a = omega arith in
-    let q₁ : n / 256 ≡ b + 256 * x + 65536 * d = omega arith in
-    let r₁ : (b + 256 * x + 65536 * d) % 256 ≡ b = omega arith in
-    let e₁ : n / 256 % 256 ≡ b = rw q₁ r₁ in
-    let q₂ : n / 65536 ≡ x + 256 * d = omega arith in
-    let r₂ : (x + 256 * d) % 256 ≡ x = omega arith in
-    let e₂ : n / 65536 % 256 ≡ x = rw q₂ r₂ in
-    let e₃ : n / 16777216 ≡ d = omega arith in
-    rw (e₀, e₁, e₂, e₃)
+number-four n h = four-there n
 
 four-number : (c : List ℕ) → length c ≡ 4 → AllOf parts.Small c → four (number c) ≡ c
 four-number [] l s = absurd (omega arith)
 four-number (a ∷ []) l s = absurd (omega (arith, l))
 four-number (a ∷ b ∷ []) l s = absurd (omega (arith, l))
 four-number (a ∷ b ∷ x ∷ []) l s = absurd (omega (arith, l))
-four-number (a ∷ b ∷ x ∷ d ∷ []) l s = four-of a b x d (s .0) (s .1 .0) (s .1 .1 .0)
+four-number (a ∷ b ∷ x ∷ d ∷ []) l s = four-back a b x d (s .0) (s .1 .0) (s .1 .1 .0)
 four-number (a ∷ b ∷ x ∷ d ∷ y ∷ c) l s = absurd (omega (arith, l))
 
 number-true : (c : List ℕ) → numberCheck c ≡ true → Number (number c)

@@ -9,12 +9,12 @@ use lib.ListN.{length, getD, set, take, drop, replicate, length-take, length-dro
 use lib.Seq.{take-at, take-take, drop-drop, drop-append-add, drop-append-le, take-append-le, getD-append-add}
 use Rattle.macros.specs.Bounds.{mostEntries}
 use Rattle.macros.specs.Formed.{Between, Bytes, Octets, Letter}
-use Rattle.tables.specs.Form.{four}
+use Rattle.fours.specs.Fours.{four, numberAt}
 use Rattle.lines.specs.State.{Stack, Counter, State, AllOf, freshStack, freshCounter, stackOf, counterOf, currentEntry, EntryInRange, StackInRange, CounterInRange, InRange}
 use Rattle.lines.specs.Replacing.{Work, withStack, withCounter, withPointer, withValue, withIncrement, withEntry}
 use Rattle.lines.specs.Feeding.{withTrace, withNflag}
 use Rattle.states.specs.Form.{pointersForm, valuesForm, incrementsForm, entryForm, entriesForm, stacksForm, stateForm}
-use Rattle.states.specs.Check.{numberAt, stateChecks}
+use Rattle.states.specs.Check.{stateChecks}
 use Rattle.states.specs.Access.{Holds, IsState, replaced, textLength}
 use Rattle.states.proofs.Steps.{number-block}
 use Rattle.states.proofs.Replaced.{replaced-left, replaced-right, replaced-whole, set-replaced}

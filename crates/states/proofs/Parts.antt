@@ -7,7 +7,7 @@ use lib.ListN.{length, take, drop, replicate, length-append, length-replicate}
 use lib.Seq.{take-at, drop-at, drop-drop}
 use Rattle.macros.specs.Formed.{Between, Bytes, Octets}
 use Rattle.macros.specs.Bounds.{mostCounter}
-use Rattle.tables.specs.Form.{four}
+use Rattle.fours.specs.Fours.{four}
 use Rattle.lines.specs.State.{Stack, Counter, State, AllOf, EntryInRange, StackInRange, InRange}
 use Rattle.states.specs.Form.{stateBytes, pointersForm, valuesForm, incrementsForm, entryForm, entriesForm, stacksForm, stateForm}
 use Rattle.states.specs.FormLaws.{StateSize}

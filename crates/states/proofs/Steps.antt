@@ -11,7 +11,8 @@ use lib.ListN.{length, getD, take, drop, length-drop, drop-of-length-le}
 use lib.Seq.{drop-cons, drop-drop, drop-length, take-all, getD-take, getD-drop}
 use Rattle.macros.specs.Macro.{within}
 use borrow.Author.Tests.{eq-eqb, ne-eqb}
-use Rattle.states.specs.Check.{pointersCheck, numberAt, numberCheck, entryCheck, blocksCheck, stateChecks}
+use Rattle.fours.specs.Fours.{numberAt}
+use Rattle.states.specs.Check.{pointersCheck, numberCheck, entryCheck, blocksCheck, stateChecks}
 use Rattle.states.specs.Access.{textLength}
 
 pub and-assoc : (a b c : Bool) → (a && b) && c ≡ a && (b && c)

@@ -1,11 +1,12 @@
 -- 01, refusal 2: whether bytes are a state, as a decision.
-use Prim.Native.Nat.{ℕ, zero, suc, _+_, _*_}
+use Prim.Native.Nat.{ℕ, zero, suc}
 use mathlib.Core.Path.{_≡_}
 use mathlib.Core.Logic.{_↔_}
 use mathlib.Core.Bool.{Bool, true, not, _&&_, _||_}
 use mathlib.Core.List.{List, [], _∷_}
 use lib.Dec.{leb, eqb}
 use lib.ListN.{length, getD, take, drop}
+use Rattle.fours.specs.Fours.{numberAt}
 use Rattle.macros.specs.Bounds.{mostEntries, mostEntryBytes, mostCounter}
 use Rattle.macros.specs.Macro.{within}
 use Rattle.macros.specs.Formed.{Octets}
@@ -17,11 +18,7 @@ unfoldable pub pointersCheck : List ℕ → Bool
 pointersCheck [] = true
 pointersCheck (p ∷ ps) = within 1 mostEntries p && pointersCheck ps
 
--- the number whose four bytes stand from place p on, low byte first
-abbrev pub numberAt : List ℕ → ℕ → ℕ
-numberAt b p = getD b p 0 + 256 * getD b (p + 1) 0 + 65536 * getD b (p + 2) 0 + 16777216 * getD b (p + 3) 0
-
--- a counter's value or increment is 1 to 999,999,999
+-- a counter's value or increment, in four bytes, low byte first, is 1 to 999,999,999
 unfoldable pub numberCheck : List ℕ → Bool
 numberCheck b = within 1 mostCounter (numberAt b 0)
 

@@ -4,7 +4,7 @@ use Prim.Native.Nat.{ℕ, _-_}
 use mathlib.Core.List.{List, [], _∷_, _++_}
 use lib.ListN.{length, replicate}
 use Rattle.macros.specs.Bounds.{mostEntryBytes}
-use Rattle.tables.specs.Form.{four}
+use Rattle.fours.specs.Fours.{four}
 use Rattle.lines.specs.State.{Stack, Counter, State}
 
 abbrev pub stateBytes : ℕ

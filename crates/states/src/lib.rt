@@ -1,38 +1,12 @@
 // The state as bytes: what is read of the stacks and counters in one lent memory.
+use fours::number_at;
+use letters::place;
 ghost use Prim.Native.Nat.{_+_, _-_, _*_, _≤_};
 ghost use mathlib.Core.Path.{_≡_};
-ghost use lib.ListN.{length};
 ghost use Rattle.macros.specs.Formed.{Letter};
 ghost use Rattle.lines.specs.State.{stackOf, counterOf, currentEntry};
 ghost use Rattle.states.specs.Form.{stateBytes};
-ghost use Rattle.states.specs.Check.{numberAt};
 ghost use Rattle.states.specs.Access.{IsState, OfState, textLength};
-
-// A byte as a number.
-fn wide(x: u8) -> u32
-    ensures { λ r. ⌜ (r ≡ x) × (r ≤ 255) ⌝ }
-{
-    x as u32
-}
-
-// The number in four bytes, low byte first.
-pub fn number_at(state: &[u8], at: usize) -> u32
-    requires { ⌜ at + 4 ≤ length (now state) ⌝ }
-    ensures { λ r. ⌜ r ≡ numberAt (now (state .entry)) at ⌝ }
-{
-    wide(state[at])
-        + 256 * wide(state[at + 1])
-        + 65536 * wide(state[at + 2])
-        + 16777216 * wide(state[at + 3])
-}
-
-// Where the letter i stands in the alphabet.
-pub fn place(i: u8) -> usize
-    requires { ⌜ Letter i ⌝ }
-    ensures { λ r. ⌜ (r ≡ i - 97) × (r ≤ 25) ⌝ }
-{
-    (i - 97) as usize
-}
 
 pub fn pointer(state: &[u8], i: u8) -> u8
     requires { ⌜ IsState (now state) × Letter i ⌝ }

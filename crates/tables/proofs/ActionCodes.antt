@@ -1,4 +1,4 @@
--- The codes of calls and moves, and the four bytes of a number, there and back.
+-- The codes of calls and moves, there and back.
 use mathlib.Core.Path.{_≡_, refl, sym}
 use mathlib.Core.Bool.{true}
 use mathlib.Core.List.{List, [], _∷_}
@@ -14,7 +14,8 @@ use Rattle.macros.specs.Macro.Sign.{plus, minus}
 use Rattle.macros.specs.Macro.Move.{still, before, after}
 use Rattle.macros.specs.Macro.Call.{insert, storeTag, setTo, storeText, setIncrement}
 use Rattle.macros.specs.Read.{isStill}
-use Rattle.tables.specs.Form.{moveCode, four, evened, callItems}
+use Rattle.fours.specs.Fours.{four}
+use Rattle.tables.specs.Form.{moveCode, evened, callItems}
 use Rattle.tables.specs.Walk.{given}
 use Rattle.tables.specs.ActionWalk.{moveOf, callAs}
 use Rattle.tables.proofs.Basics.{clash, not-some, picked}
@@ -144,20 +145,3 @@ code-range (storeText i v t) = omega arith
 code-range (setTo stack i n) = omega arith
 code-range (setTo counter i n) = omega arith
 code-range (setIncrement i n) = omega arith
-
--- NUMBERS
-
-pub four-back : (a b c d : ℕ) → a ≤ 255 → b ≤ 255 → c ≤ 255 → four (a + 256 * b + 65536 * c + 16777216 * d) ≡ a ∷ b ∷ c ∷ d ∷ []
-unfolding four
-four-back a b c d h₁ h₂ h₃ =
-    let n : ℕ = a + 256 * b + 65536 * c + 16777216 * d in
-    let e₁ : n % 256 ≡ a = omega arith in
-    let q₂ : n / 256 ≡ b + 256 * c + 65536 * d = omega arith in
-    let e₂ : n / 256 % 256 ≡ b = rw q₂ (omega arith) in
-    let q₃ : n / 65536 ≡ c + 256 * d = omega arith in
-    let e₃ : n / 65536 % 256 ≡ c = rw q₃ (omega arith) in
-    let e₄ : n / 16777216 ≡ d = omega arith in
-    rw (e₁, e₂, e₃, e₄)
-
-pub four-there : (n : ℕ) → n % 256 + 256 * (n / 256 % 256) + 65536 * (n / 65536 % 256) + 16777216 * (n / 16777216) ≡ n
-four-there n = omega arith

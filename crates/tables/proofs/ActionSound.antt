@@ -15,7 +15,9 @@ use Rattle.macros.specs.Macro.Call.{insert, storeTag, setTo, storeText, setIncr
 use Rattle.macros.specs.Macro.Action.{text, tag, call}
 use Rattle.macros.specs.Formed.{Octets, Byte, Bytes, Letter, FormedCall, numberFits}
 use Rattle.macros.specs.Spell.{isMark}
-use Rattle.tables.specs.Form.{moveCode, four, callItems, actionItems, replacementItems}
+use Rattle.fours.specs.Fours.{four}
+use Rattle.fours.proofs.Laws.{four-back}
+use Rattle.tables.specs.Form.{moveCode, callItems, actionItems, replacementItems}
 use Rattle.tables.specs.Walk.{walk}
 use Rattle.tables.specs.ActionWalk.{ActionState, moveLength, moveOf, callAs, callAt, calledStep, callStep, beginStep, textSpot, textStep, highStep, actionStep, actionStart, actionEnds, actionSpelled}
 use Rattle.tables.specs.ActionWalk.ActionSpot.{behindAction}
@@ -24,7 +26,7 @@ use Rattle.tables.proofs.Basics.{clash, not-some, and-left, and-right, 
 use Rattle.tables.proofs.Texts.{bytes-onto, evened-even, evened-odd}
 use Rattle.tables.proofs.Octet.{limit-fits}
 use Rattle.tables.proofs.Walks.{granted, some-same, walk-kept}
-use Rattle.tables.proofs.ActionCodes.{of-move, codeOf, letterOf, moveIn, Says, as-call, four-back}
+use Rattle.tables.proofs.ActionCodes.{of-move, codeOf, letterOf, moveIn, Says, as-call}
 use Rattle.tables.proofs.ActionStates.{Numbered, numbered, limitOf, letterIn, firstCode, Walked, AsCommand, AllAllowed, Texting, FormedWalked, itemsOf, top, cost, textCost, stateOf, at-text, at-tag, at-insert, at-store-tag, at-number, at-store-text, more-acts}
 use Rattle.tables.proofs.ActionStates.Numbered.{sets, increases}
 use Rattle.tables.proofs.ActionStates.Walked.{acts, tagging, measuring, texting, low, high}

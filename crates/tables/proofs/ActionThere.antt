@@ -13,14 +13,16 @@ use Rattle.macros.specs.Macro.Call.{insert, storeTag, setTo, storeText, setIncr
 use Rattle.macros.specs.Macro.Action.{text, tag, call}
 use Rattle.macros.specs.Formed.{Bytes, Letter, numberFits}
 use Rattle.macros.specs.Spell.{isMark}
-use Rattle.tables.specs.Form.{moveCode, four, evened, callItems, actionItems, replacementItems}
+use Rattle.fours.specs.Fours.{four}
+use Rattle.fours.proofs.Laws.{four-there}
+use Rattle.tables.specs.Form.{moveCode, evened, callItems, actionItems, replacementItems}
 use Rattle.tables.specs.Walk.{given, walk}
 use Rattle.tables.specs.ActionWalk.{ActionState, moveLength, callAt, calledStep, callStep, beginStep, textSpot, textStep, highStep, actionStep, actionStart}
 use Rattle.tables.specs.ActionWalk.ActionSpot.{behindAction}
 use Rattle.tables.specs.ActionWalk.ActionState.{actionAt}
 use Rattle.tables.proofs.Basics.{within-of, within-high}
 use Rattle.tables.proofs.Walks.{walk-on}
-use Rattle.tables.proofs.ActionCodes.{move-of, codeOf, letterOf, moveIn, headCall, call-split, call-as, code-call, code-move, code-range, four-there}
+use Rattle.tables.proofs.ActionCodes.{move-of, codeOf, letterOf, moveIn, headCall, call-split, call-as, code-call, code-move, code-range}
 use Rattle.tables.proofs.ActionStates.{Numbered, numbered, limitOf, Walked, Allowed, AllAllowed, cost, textCost, stateOf, at-text, at-tag, at-insert, at-store-tag, at-number, at-store-text}
 use Rattle.tables.proofs.ActionStates.Numbered.{sets, increases}
 use Rattle.tables.proofs.ActionStates.Walked.{acts, tagging, measuring, low, high}

@@ -1,6 +1,6 @@
 -- The items of an action: how many bytes they are, and what stands in and behind them. The size of a slot.
 -- Assumes nothing.
-use Prim.Native.Nat.{ℕ, _+_, _-_, _*_, _/_, _%_, _≤_, _<_}
+use Prim.Native.Nat.{ℕ, _+_, _-_, _%_, _≤_, _<_}
 use mathlib.Core.Path.{_≡_, refl, ap, sym, _∙_}
 use mathlib.Core.Bool.{Bool, true, false}
 use mathlib.Core.List.{List, [], _∷_, _++_, append-assoc, map}
@@ -16,7 +16,8 @@ use Rattle.macros.specs.Macro.Sign.{plus, minus}
 use Rattle.macros.specs.Macro.Move.{still, before, after}
 use Rattle.macros.specs.Macro.Call.{insert, storeTag, setTo, storeText, setIncrement}
 use Rattle.macros.specs.Macro.Action.{text, tag, call}
-use Rattle.tables.specs.Form.{two, moveCode, four, evened, callItems, callsItems, actionItems, replacementItems, header, body, bodyBytes, slot, slotBytes}
+use Rattle.fours.specs.Fours.{four}
+use Rattle.tables.specs.Form.{two, moveCode, evened, callItems, callsItems, actionItems, replacementItems, header, body, bodyBytes, slot, slotBytes}
 use Rattle.tables.specs.Actions.{actionSize, textIn}
 
 -- ACTIONS
@@ -45,10 +46,6 @@ module _ (t : List ℕ) where
       by false true = omega arith
       by false false = omega arith
 
-  pub size-long : 64 ≤ getD t 0 0 → actionSize t ≡ pick (ltb (getD t 0 0) 72) 4 (pick (ltb (getD t 0 0) 80) (4 + getD t 3 0 + getD t 3 0 % 2) 6)
-  unfolding actionSize pick
-  size-long h = rw (le-ltb (getD t 0 0) 64 h)
-
   pub size-tag : 64 ≤ getD t 0 0 → getD t 0 0 < 72 → actionSize t ≡ 4
   unfolding actionSize pick
   size-tag g h = rw (le-ltb (getD t 0 0) 64 g, lt-ltb (getD t 0 0) 72 h)
@@ -64,9 +61,6 @@ module _ (t : List ℕ) where
 pub even-taken : (t r : List ℕ) → take (length t) (evened t ++ r) ≡ t
 unfolding evened
 even-taken t r = rw (append-assoc t _ r) (take-append-seam t _)
-
-pub number-back : (n : ℕ) → n % 256 + 256 * ((n / 256) % 256) + 65536 * ((n / 65536) % 256) + 16777216 * (n / 16777216) ≡ n
-number-back n = omega arith
 
 abbrev even-end : List ℕ → List ℕ
 even-end t = pick (eqb (length t % 2) 0) [] (0 ∷ [])

@@ -18,13 +18,15 @@ use Rattle.macros.specs.Macro.Move.{still}
 use Rattle.macros.specs.Macro.Call.{insert, storeTag, setTo, storeText, setIncrement}
 use Rattle.macros.specs.Macro.Action.{text, tag, call}
 use Rattle.macros.specs.Formed.{FormedPieces}
-use Rattle.tables.specs.Form.{closureCode, unitCode, memberItems, membersItems, unitRest, pieceItems, patternItems, moveCode, four, evened, callsItems, actionItems, replacementItems}
+use Rattle.fours.specs.Fours.{four, numberAt}
+use Rattle.fours.proofs.Laws.{four-there}
+use Rattle.tables.specs.Form.{closureCode, unitCode, memberItems, membersItems, unitRest, pieceItems, patternItems, moveCode, evened, callsItems, actionItems, replacementItems}
 use Rattle.tables.specs.PatternWalk.{closureOf, unitOf}
 use Rattle.tables.specs.ActionWalk.{moveOf, callAs}
 use Rattle.tables.proofs.Order.{oldest}
 use Rattle.tables.proofs.Octet.{unit-code}
 use Rattle.tables.proofs.PatternCodes.{head, unit-of, closure-of, code-unit, code-closure}
-use Rattle.tables.proofs.ActionCodes.{move-of, codeOf, moveIn, headCall, restOf, call-split, call-as, code-call, code-move, code-range, four-there}
+use Rattle.tables.proofs.ActionCodes.{move-of, codeOf, moveIn, headCall, restOf, call-split, call-as, code-call, code-move, code-range}
 use Rattle.tables.proofs.Commands.{actions, actions-items}
 
 cons-nil : {A : Type 0} {x : A} {l : List A} {P : Type 0} → x ∷ l ≡ [] → P
@@ -104,11 +106,8 @@ one-pattern ps qs f g e = same-pieces ps qs [] [] f g e
 
 -- REPLACEMENT AND COMMANDS
 
-numberIn : List ℕ → ℕ
-numberIn l = getD l 0 0 + 256 * getD l 1 0 + 65536 * getD l 2 0 + 16777216 * getD l 3 0
-
-number-in : (n : ℕ) (l : List ℕ) → numberIn (four n ++ l) ≡ n
-unfolding numberIn four
+number-in : (n : ℕ) (l : List ℕ) → numberAt (four n ++ l) 0 ≡ n
+unfolding four
 number-in n l = four-there n
 
 -- a call by its first item and what follows
@@ -117,8 +116,8 @@ callIn none l = insert stack 0 still
 callIn (some (insert m i v)) l = insert m i v
 callIn (some (storeTag n i v)) l = storeTag (getD l 1 0) i v
 callIn (some (storeText i v t)) l = storeText i v (take (getD l 1 0) (drop 2 l))
-callIn (some (setTo m i n)) l = setTo m i (numberIn l)
-callIn (some (setIncrement i n)) l = setIncrement i (numberIn l)
+callIn (some (setTo m i n)) l = setTo m i (numberAt l 0)
+callIn (some (setIncrement i n)) l = setIncrement i (numberAt l 0)
 
 call-in : (c : Call) (l : List ℕ) → callIn (some (headCall c)) (restOf c ++ l) ≡ c
 unfolding callIn evened

@@ -16,7 +16,8 @@ use Rattle.macros.specs.Macro.Move.{still, before, after}
 use Rattle.macros.specs.Macro.Call.{insert, storeTag, setTo, storeText, setIncrement}
 use Rattle.macros.specs.Macro.Action.{text, tag, call}
 use Rattle.macros.specs.Formed.{Octets, Bytes, FormedMember, FormedMembers, FormedUnit, FormedPieces, FormedCall, FormedAction, FormedReplacement, FormedCommands, limit, numberFits}
-use Rattle.tables.specs.Form.{closureCode, unitCode, unitOperand, memberItems, membersItems, unitRest, pieceItems, patternItems, moveCode, four, callItems, callsItems, actionItems, replacementItems}
+use Rattle.fours.specs.Fours.{four}
+use Rattle.tables.specs.Form.{closureCode, unitCode, unitOperand, memberItems, membersItems, unitRest, pieceItems, patternItems, moveCode, callItems, callsItems, actionItems, replacementItems}
 use Rattle.tables.proofs.Basics.{octets-append, range-bytes, within-high}
 use Rattle.tables.proofs.Order.{oldest}
 use Rattle.tables.proofs.Texts.{evened-octets}

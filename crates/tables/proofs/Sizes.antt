@@ -20,7 +20,8 @@ use Rattle.macros.specs.Read.Held.{nothing}
 use Rattle.macros.specs.Write.{byte, digitsBy, digits, nameBytes, innerBytes, callBytes, commandsBytes}
 use Rattle.macros.specs.Spell.{Before, leaves, behind, none?, needs, needsClass, needsText, spellMember, spellMembers, spellUnit, spellPiece, spellPattern, spellText, leavesMark, spellAction, spellReplacement, shortest}
 use Rattle.macros.specs.Spell.Before.{bracket, tilde}
-use Rattle.tables.specs.Form.{memberItems, membersItems, unitRest, pieceItems, patternItems, four, callItems, callsItems, actionItems, replacementItems, body}
+use Rattle.fours.specs.Fours.{four}
+use Rattle.tables.specs.Form.{memberItems, membersItems, unitRest, pieceItems, patternItems, callItems, callsItems, actionItems, replacementItems, body}
 use Rattle.tables.specs.FormLaws.{BodySize}
 use Rattle.tables.proofs.Texts.{evened-size}
 

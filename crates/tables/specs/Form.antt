@@ -6,6 +6,7 @@ use mathlib.Core.Bool.{Bool, true, false}
 use mathlib.Core.List.{List, [], _∷_, _++_}
 use lib.Dec.{eqb}
 use lib.ListN.{length, replicate}
+use Rattle.fours.specs.Fours.{four}
 use Rattle.macros.specs.Bounds.{mostMacros}
 use Rattle.macros.specs.Macro.{Closure, Member, Mark, PatternUnit, Piece, Sign, Move, Call, Action, Symbol, Macro, Table, pick, tags}
 use Rattle.macros.specs.Macro.Closure.{once, oneOrMore, zeroOrMore}
@@ -84,10 +85,7 @@ moveCode (before minus) = 2
 moveCode (after plus) = 3
 moveCode (after minus) = 4
 
--- a number below 2^32 in four bytes, and one below 2^16 in two, low byte first
-unfoldable pub four : ℕ → List ℕ
-four n = n % 256 ∷ (n / 256) % 256 ∷ (n / 65536) % 256 ∷ n / 16777216 ∷ []
-
+-- a number below 2^16 in two bytes, low byte first; `four` of crates/fours is one below 2^32 in four
 unfoldable pub two : ℕ → List ℕ
 two n = n % 256 ∷ n / 256 ∷ []
 

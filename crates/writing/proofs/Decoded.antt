@@ -18,11 +18,13 @@ use Rattle.macros.specs.Macro.Call.{insert, storeTag, setTo, storeText, setIncr
 use Rattle.macros.specs.Macro.Action.{text, tag, call}
 use Rattle.macros.specs.Formed.{FormedPieces}
 use Rattle.macros.specs.Write.{writeMember, writeMembers, writeUnit, closureBytes, writePiece, writePattern, signByte, nameBytes, writeText, markOf, innerBytes, callBytes, writeAction, writeReplacement, commandsBytes}
-use Rattle.tables.specs.Form.{closureCode, unitCode, unitOperand, memberItems, membersItems, unitRest, pieceItems, patternItems, moveCode, four, callItems, actionItems, replacementItems}
+use Rattle.fours.specs.Fours.{four}
+use Rattle.fours.proofs.Laws.{four-there}
+use Rattle.tables.specs.Form.{closureCode, unitCode, unitOperand, memberItems, membersItems, unitRest, pieceItems, patternItems, moveCode, callItems, actionItems, replacementItems}
 use Rattle.tables.specs.Actions.{numberIn, textIn, actionSize}
 use Rattle.writing.specs.Items.{closureText, unitText, braceByte, memberText, headText, tailText, itemText, patternText, nameText, callByte, firstText, middleText, lastText, callText, openText, endText, actionText, actionsText, Whole}
 use Rattle.writing.specs.Items.Whole.{none, next}
-use Rattle.tables.proofs.Actions.{number-back, even-taken, action-size, action-some, action-rest}
+use Rattle.tables.proofs.Actions.{even-taken, action-size, action-some, action-rest}
 use Rattle.writing.proofs.Steps.{actions-cons}
 
 -- PATTERN
@@ -124,14 +126,14 @@ call-text (storeTag n i (before plus)) r = simp append-assoc
 call-text (storeTag n i (before minus)) r = simp append-assoc
 call-text (storeTag n i (after plus)) r = simp append-assoc
 call-text (storeTag n i (after minus)) r = simp append-assoc
-call-text (setTo stack i n) r = rw (number-back n)
-call-text (setTo counter i n) r = rw (number-back n)
+call-text (setTo stack i n) r = rw (four-there n)
+call-text (setTo counter i n) r = rw (four-there n)
 call-text (storeText i still t) r = rw (even-taken t r)
 call-text (storeText i (before plus) t) r = rw (even-taken t r)
 call-text (storeText i (before minus) t) r = rw (even-taken t r)
 call-text (storeText i (after plus) t) r = rw (even-taken t r)
 call-text (storeText i (after minus) t) r = rw (even-taken t r)
-call-text (setIncrement i n) r = rw (number-back n)
+call-text (setIncrement i n) r = rw (four-there n)
 
 action-text : (a : Action) (r : List ℕ) → actionText (actionItems a ++ r) ≡ writeAction a
 unfolding actionItems writeAction actionText openText endText pick

@@ -20,7 +20,8 @@ use Rattle.macros.specs.Write.{byte, digits, closureBytes, nameBytes, innerByte
 use Rattle.macros.specs.Spell.{Before, needs, needsClass, needsText, none?, behind, leaves, leavesMark, spellMember, spellMembers, spellUnit, spellPiece, spellPattern, spellText, spellAction, spellReplacement, shortest}
 use Rattle.macros.specs.Spell.Before.{bracket, tilde}
 use Rattle.macros.specs.Read.Held.{nothing}
-use Rattle.tables.specs.Form.{memberItems, membersItems, unitRest, pieceItems, patternItems, four, evened, callItems, callsItems, actionItems, replacementItems, body, bodyBytes}
+use Rattle.fours.specs.Fours.{four}
+use Rattle.tables.specs.Form.{memberItems, membersItems, unitRest, pieceItems, patternItems, evened, callItems, callsItems, actionItems, replacementItems, body, bodyBytes}
 use Rattle.tables.proofs.Actions.{even-length}
 
 byte-some : (p : Bool) (b : ℕ) → 1 ≤ length (byte p b)

@@ -5,16 +5,17 @@ use crate::put::in_list;
 use crate::put::marked;
 use crate::put::put;
 use crate::put::put_number;
-use crate::put::wide;
+use fours::number_at;
+use items::action_size;
 ghost use mathlib.Core.Path.{_≡_};
 ghost use mathlib.Core.List.{[], _∷_, _++_};
-ghost use Prim.Native.Nat.{_+_, _%_, _≤_, _<_};
+ghost use Prim.Native.Nat.{_≤_};
 ghost use lib.Dec.{ltb};
 ghost use lib.ListN.{length, getD};
 ghost use Rattle.macros.specs.Macro.{pick, among};
 ghost use Rattle.macros.specs.Write.{textMarks, byte, writeText};
 ghost use Rattle.writing.specs.Puts.{shortText, Puts};
-ghost use Rattle.tables.specs.Actions.{numberIn, actionSize, Held};
+ghost use Rattle.tables.specs.Actions.{Held};
 ghost use Rattle.writing.specs.Items.{nameText, callByte, openText, endText, firstText, middleText, lastText, callText, actionText, actionsText, Whole};
 
 // A letter with the sign that the call's code asks for, and a byte behind it.
@@ -58,14 +59,6 @@ fn put_text(file: &mut [u8], first: usize, text: &[u8]) -> usize
     n
 }
 
-// The number in four bytes.
-fn number_in(t: &[u8]) -> u64
-    requires { ⌜ 6 ≤ length (now t) ⌝ }
-    ensures { λ r. ⌜ r ≡ numberIn (now (t .entry)) ⌝ }
-{
-    wide(t[2]) + 256 * wide(t[3]) + 65536 * wide(t[4]) + 16777216 * wide(t[5])
-}
-
 fn set_sign(code: u8) -> u8
     ensures { λ r. ⌜ r ≡ pick (ltb code 96) 61 44 ⌝ }
 {
@@ -101,7 +94,7 @@ fn put_middle(file: &mut [u8], n: usize, t: &[u8]) -> usize
         let end = 4 + t[3] as usize;
         return put_text(file, n, &t[4..end]);
     }
-    put_number(file, n, number_in(t))
+    put_number(file, n, number_at(t, 2))
 }
 
 // The name and `)`, `:)` or `)`.
@@ -182,32 +175,6 @@ fn put_action(file: &mut [u8], n: usize, t: &[u8]) -> usize
         return put(file, m, ending(code, b));
     }
     put_call(file, m, t)
-}
-
-// The bytes that a call takes that stores or sets; `size` is the length of its text if it has one.
-fn call_size(code: u8, size: u8) -> usize
-    ensures { λ r. ⌜ r ≡ pick (ltb code 72) 4 (pick (ltb code 80) (4 + size + size % 2) 6) ⌝ }
-{
-    if code < 72 {
-        return 4;
-    }
-    if code < 80 {
-        let text = size as usize;
-        return 4 + text + text % 2;
-    }
-    6
-}
-
-// The bytes that the action takes.
-fn action_size(t: &[u8]) -> usize
-    requires { ⌜ Held (now t) ⌝ }
-    ensures { λ r. ⌜ r ≡ actionSize (now (t .entry)) ⌝ }
-{
-    let code = t[0];
-    if code < 64 {
-        return 2;
-    }
-    call_size(code, t[3])
 }
 
 // A quote and the actions of a replacement, or the commands.

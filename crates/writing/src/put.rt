@@ -115,13 +115,7 @@ pub(crate) fn decimal(v: u8, close: u8) -> Short
     Short::Four(48 + tens / 10, 48 + tens % 10, 48 + v % 10, close)
 }
 
-pub(crate) fn wide(x: u8) -> u64
-    ensures { λ r. ⌜ (r ≡ x) × (r < 256) ⌝ }
-{
-    x as u64
-}
-
-fn figure(v: u64) -> u8
+fn figure(v: u32) -> u8
     requires { ⌜ v < 10 ⌝ }
     ensures { λ r. ⌜ r ≡ 48 + v ⌝ }
 {
@@ -129,7 +123,7 @@ fn figure(v: u64) -> u8
 }
 
 // Puts a number without leading zeros: the digits before the last first, a call for each.
-pub(crate) fn put_number(file: &mut [u8], n: usize, v: u64) -> usize
+pub(crate) fn put_number(file: &mut [u8], n: usize, v: u32) -> usize
     requires { ⌜ length (now file) ≤ 32768 ⌝ }
     ensures { λ r. ⌜ Puts n (digits v) (now (file .entry)) (now (file .exit)) r ⌝ }
 {

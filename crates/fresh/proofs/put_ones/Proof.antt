@@ -3,7 +3,7 @@ use mathlib.Core.Path.{_≡_, refl, sym, _∙_}
 use native.Mathlib.Omega.{arith}
 use lib.ListN.{length}
 use Rattle.states.specs.Access.{replaced}
-use Rattle.items.proofs.Writing.{wrote-is}
+use Rattle.fours.specs.Fours.{four, withNumber}
 use Rattle.states.proofs.Replaced.{replaced-none}
 use Rattle.fresh.specs.Ones.{ones}
 use Rattle.fresh.proofs.Fresh.{ones-more}
@@ -36,12 +36,12 @@ loop-less : tie.Need-loop-less Inv-loop μ-loop
 loop-less c = omega arith
 
 loop-again : tie.Need-loop-again Inv-loop μ-loop
-unfolding replaced
+unfolding replaced four withNumber
 loop-again c =
     let called = c .before .before in
     let here = called .before .before .before in
     let b = here .before .before .args .state .now in
-    (omega arith, called .put-number .kept .0 ∙ here .loop .inv .1, ones-more b (here .loop .state) (called .put-number .last .0) (here .loop .i) (omega arith) (omega arith) (here .loop .inv .2) (wrote-is (called .put-number .ensures)))
+    (omega arith, called .put-number .kept .0 ∙ here .loop .inv .1, ones-more b (here .loop .state) (called .put-number .last .0) (here .loop .i) (omega arith) (omega arith) (here .loop .inv .2) (called .put-number .ensures))
 
 same-length : tie.Need-same-length Inv-loop μ-loop
 same-length c = c .before .loop .inv .1

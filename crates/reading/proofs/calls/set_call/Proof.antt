@@ -1,4 +1,8 @@
+use Rattle.fours.specs.Fours.{four, withNumber}
+use Rattle.items.proofs.Writing.{wrote-of}
 use Rattle.reading.proofs.Ending.{set-none, set-byte, set-refused, set-stored}
+use Prim.Native.Nat.{_+_, _≤_}
+use lib.ListN.{length}
 use native.Mathlib.Omega.{arith}
 use denote.Ref.{now}
 use borrow.Author.Needs.{needs}
@@ -82,6 +86,7 @@ same-length : tie.Need-same-length
 same-length c = search needs
 
 returns-3 : tie.Need-returns-3
+unfolding four withNumber
 returns-3 c =
     let args = c .before .before .before .before .before .before .before .before .before .before .before .before .before .before .before .before .args in
     let put-number = c .before .before .put-number in
@@ -91,7 +96,9 @@ returns-3 c =
     let if1 = c .before .before .before .before .before .before .before .before .if1 in
     let pre = c .before .before .before .before .before .before .before .before .before .before .before .before .before .before .before .before .pre in
     let put-item = c .before .before .before .before .before .before .put-item in
-    set-stored (now (args .s)) (args .a) (args .at) (now (args .out)) (put-number .last .0) (args .n) (args .code) (args .i) (args .top) (digits .ensures) (number .given .1) (unclosed .ensures) (if1 .left) (pre .2) (put-item .ensures) (put-number .ensures)
+    let y = set-byte (now (args .s)) (args .a) (args .at) (now (args .out)) (now (args .out)) (args .n) (args .code) (args .i) (args .top) (digits .ensures) (number .given .1) in
+    let room : args .n + 2 + 4 ≤ length (put-item .last .0) = omega (arith, y .0, y .1 .stands .counted, y .1 .stands .behind, pre .1, put-item .kept .0) in
+    set-stored (now (args .s)) (args .a) (args .at) (now (args .out)) (put-number .last .0) (args .n) (args .code) (args .i) (args .top) (digits .ensures) (number .given .1) (unclosed .ensures) (if1 .left) (pre .2) (put-item .ensures) (wrote-of (four _) (args .n + 2) room (put-number .ensures))
 
 pub set-call-spec : {M : Type 1} → statement M
 set-call-spec =

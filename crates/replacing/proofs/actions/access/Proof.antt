@@ -1,6 +1,7 @@
 use mathlib.Core.Path.{sym, _∙_, subst}
 use native.Mathlib.Omega.{arith}
 use Rattle.macros.specs.Formed.{Bytes}
+use Rattle.tables.specs.Actions.{numberIn}
 use Rattle.tables.proofs.Actions.{some-size, size-set}
 use Rattle.replacing.proofs.Braces.{cut-is, cut-bytes}
 use Rattle.replacing.proofs.Moving.{stored-tag, stored-text}
@@ -57,17 +58,19 @@ same-length-4 c = search needs
 returns-3 : tie.Need-returns-3
 returns-3 c = access-store _ (c .before .before .before .before .before .before .before .before .before .before .before .before .before .before .args .t .now) _ (c .before .before .before .before .before .before .before .if1 .left) (c .before .before .before .before .before .if3 .taken) (c .before .before .before .before .before .before .before .before .before .before .before .before .before .before .pre .3 .fits) (c .before .before .before .text-in .ensures ∙ stored-text _ (c .before .before .before .before .before .before .before .before .before .before .before .before .before .before .args .t .now) (c .before .before .before .before .before .before .if2 .left)) (c .before .before .store2 .ensures)
 
-number-in-requires : tie.Need-number-in-requires
-number-in-requires c κs = omega (arith, size-set (c .before .before .before .before .before .before .before .before .before .before .args .t .now) (c .before .if3 .left), c .before .before .before .before .before .before .before .before .before .before .pre .1 .held)
+number-at-requires : tie.Need-number-at-requires
+number-at-requires c κs = omega (arith, size-set (c .before .before .before .before .before .before .before .before .before .before .args .t .now) (c .before .if3 .left), c .before .before .before .before .before .before .before .before .before .before .pre .1 .held)
 
 set-requires : tie.Need-set-requires
-set-requires c κs = (c .before .before .before .before .before .before .before .before .before .before .before .pre .2, letter-of (c .before .before .before .before .before .before .before .before .before .before .before .args .t .now) (c .before .before .before .before .before .before .before .before .before .before .before .pre .1) (omega (arith, c .before .before .before .before .if1 .left)), λ h. rw (c .number-in .ensures) (c .before .before .before .before .before .before .before .before .before .before .before .pre .1 .pointer (c .before .before .if3 .left) h), λ h. rw (c .number-in .ensures) (c .before .before .before .before .before .before .before .before .before .before .before .pre .1 .number h))
+unfolding numberIn
+set-requires c κs = (c .before .before .before .before .before .before .before .before .before .before .before .pre .2, letter-of (c .before .before .before .before .before .before .before .before .before .before .before .args .t .now) (c .before .before .before .before .before .before .before .before .before .before .before .pre .1) (omega (arith, c .before .before .before .before .if1 .left)), λ h. rw (c .number-at .ensures) (c .before .before .before .before .before .before .before .before .before .before .before .pre .1 .pointer (c .before .before .if3 .left) h), λ h. rw (c .number-at .ensures) (c .before .before .before .before .before .before .before .before .before .before .before .pre .1 .number h))
 
 same-length-5 : tie.Need-same-length-5
 same-length-5 c = search needs
 
 returns-4 : tie.Need-returns-4
-returns-4 c = access-set _ (c .before .before .before .before .before .before .before .before .before .before .before .before .before .before .args .t .now) (c .before .before .before .before .before .if3 .left) (c .before .before .before .before .before .before .before .before .before .before .before .before .before .before .pre .3 .fits) (c .before .before .before .number-in .ensures) (c .before .before .set .ensures)
+unfolding numberIn
+returns-4 c = access-set _ (c .before .before .before .before .before .before .before .before .before .before .before .before .before .before .args .t .now) (c .before .before .before .before .before .if3 .left) (c .before .before .before .before .before .before .before .before .before .before .before .before .before .before .pre .3 .fits) (c .before .before .before .number-at .ensures) (c .before .before .set .ensures)
 
 pub access-spec : {M : Type 1} → statement M
 access-spec =
@@ -89,7 +92,7 @@ access-spec =
     store-requires-2
     same-length-4
     returns-3
-    number-in-requires
+    number-at-requires
     set-requires
     same-length-5
     returns-4)

@@ -1,6 +1,7 @@
 -- Assumes nothing.
 use Rattle.macros.specs.Write.{digits, writeText}
 use mathlib.Core.Path.{ap}
+use Rattle.tables.specs.Actions.{numberIn}
 use Rattle.tables.proofs.Actions.{some-size, size-text, size-set, text-part}
 use Rattle.writing.proofs.Putting.{put-none, by-bytes}
 use Rattle.writing.specs.Items.{middleText}
@@ -46,8 +47,8 @@ returns-2 : tie.Need-returns-2
 unfolding middleText pick
 returns-2 c = simp (le-ltb _ _ (c .before .before .before .before .before .before .before .if1 .left), lt-ltb _ _ (c .before .before .before .before .before .before .if2 .taken)) (by-bytes (ap writeText (text-part (now (c .before .before .before .before .before .before .before .before .before .before .before .args .t)))) (c .before .before .put-text .ensures))
 
-number-in-requires : tie.Need-number-in-requires
-number-in-requires c κs = omega (arith, size-set (now (c .before .before .before .before .before .before .args .t)) (c .before .if2 .left))
+number-at-requires : tie.Need-number-at-requires
+number-at-requires c κs = omega (arith, size-set (now (c .before .before .before .before .before .before .args .t)) (c .before .if2 .left))
 
 put-number-requires : tie.Need-put-number-requires
 put-number-requires c κs = c .before .before .before .before .before .before .before .pre .0
@@ -56,8 +57,8 @@ same-length-2 : tie.Need-same-length-2
 same-length-2 c = omega (arith, c .before .before .put-number .kept .0)
 
 returns-3 : tie.Need-returns-3
-unfolding middleText pick
-returns-3 c = simp (le-ltb _ _ (c .before .before .before .before .before .before .if1 .left), le-ltb _ _ (c .before .before .before .before .before .if2 .left)) (by-bytes (ap digits (c .before .before .before .number-in .ensures)) (c .before .before .put-number .ensures))
+unfolding middleText pick numberIn
+returns-3 c = simp (le-ltb _ _ (c .before .before .before .before .before .before .if1 .left), le-ltb _ _ (c .before .before .before .before .before .if2 .left)) (by-bytes (ap digits (c .before .before .before .number-at .ensures)) (c .before .before .put-number .ensures))
 
 pub put-middle-spec : {M : Type 1} → statement M
 put-middle-spec =
@@ -74,7 +75,7 @@ put-middle-spec =
     put-text-requires
     same-length
     returns-2
-    number-in-requires
+    number-at-requires
     put-number-requires
     same-length-2
     returns-3)

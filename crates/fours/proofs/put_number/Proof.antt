@@ -1,10 +1,10 @@
 use native.Mathlib.Omega.{arith}
 use borrow.Author.Needs.{needs}
 use lib.ListN.{length-set}
-use Rattle.tables.specs.Form.{four}
-use Rattle.items.proofs.Writing.{wrote-four}
-use Rattle.items.proofs.put_number.Statement.{statement}
-use Rattle.items.proofs.put_number.Tie as tie
+use Rattle.fours.specs.Fours.{four, withNumber}
+use Rattle.fours.proofs.Laws.{set-four}
+use Rattle.fours.proofs.put_number.Statement.{statement}
+use Rattle.fours.proofs.put_number.Tie as tie
 
 cast-out : tie.Need-cast-out
 cast-out c = omega arith
@@ -43,8 +43,8 @@ same-length : tie.Need-same-length
 same-length c = search needs
 
 returns : tie.Need-returns
-unfolding four
-returns c = wrote-four (c .args .out .now) (c .args .at) _ _ _ _ (omega arith)
+unfolding four withNumber
+returns c = set-four (c .args .out .now) (c .args .at) _ _ _ _ (omega arith)
 
 pub put-number-spec : {M : Type 1} → statement M
 put-number-spec =

@@ -1,11 +1,11 @@
 use mathlib.Core.Path.{sym}
 use native.Mathlib.Omega.{arith}
 use Rattle.tables.proofs.Actions.{some-size, size-short, size-tag, size-text, size-set}
-use Rattle.replacing.proofs.actions.action_size.Statement.{statement}
-use Rattle.replacing.proofs.actions.action_size.Tie as tie
+use Rattle.items.proofs.action_size.Statement.{statement}
+use Rattle.items.proofs.action_size.Tie as tie
 
 shared-slice-read-code : tie.Need-shared-slice-read-code
-shared-slice-read-code c = omega (arith, some-size (c .before .args .t .now), c .before .pre .held)
+shared-slice-read-code c = omega (arith, some-size (c .before .args .t .now), c .before .pre)
 
 returns : tie.Need-returns
 returns c = sym (size-short (c .before .before .args .t .now) (c .if1 .taken))
@@ -14,7 +14,7 @@ returns-2 : tie.Need-returns-2
 returns-2 c = sym (size-tag (c .before .before .before .args .t .now) (c .before .if1 .left) (c .if2 .taken))
 
 shared-slice-read-size : tie.Need-shared-slice-read-size
-shared-slice-read-size c = omega (arith, size-text (c .before .before .before .before .before .args .t .now) (c .before .before .if2 .left) (c .before .if3 .taken), c .before .before .before .before .before .pre .held)
+shared-slice-read-size c = omega (arith, size-text (c .before .before .before .before .before .args .t .now) (c .before .before .if2 .left) (c .before .if3 .taken), c .before .before .before .before .before .pre)
 
 cast-size : tie.Need-cast-size
 cast-size c = omega (arith, c .shared-slice-known2 .given 3)

@@ -1,7 +1,7 @@
 use native.Mathlib.Omega.{arith}
 use borrow.Author.Needs.{needs}
-use Rattle.states.proofs.number_at.Statement.{statement}
-use Rattle.states.proofs.number_at.Tie as tie
+use Rattle.fours.proofs.number_at.Statement.{statement}
+use Rattle.fours.proofs.number_at.Tie as tie
 
 shared-slice-read-wide : tie.Need-shared-slice-read-wide
 shared-slice-read-wide c = omega arith
