@@ -1,8 +1,9 @@
 // 01, refusal 1: whether lent bytes are the form of an accepted table.
+use items::two_at;
 ghost use mathlib.Core.Path.{_≡_};
-ghost use Prim.Native.Nat.{_+_, _<_, _≤_};
+ghost use Prim.Native.Nat.{_≤_};
 ghost use lib.ListN.{length};
-ghost use Rattle.tables.specs.Check.{itemsFit, twoAt, slotFits, checks};
+ghost use Rattle.tables.specs.Check.{itemsFit, slotFits, checks};
 
 mod actions;
 mod bytes;
@@ -33,13 +34,6 @@ fn items_fit(k: u8, ps: &[u8], rs: &[u8], cs: &[u8]) -> bool
         return false;
     };
     actions::actions_end(c) & (c.spelled <= 512)
-}
-
-fn two_at(s: &[u8], p: usize) -> usize
-    requires { ⌜ p + 1 < length (now s) ⌝ }
-    ensures { λ r. ⌜ (r ≡ twoAt (now (s .entry)) p) × (r ≤ 65535) ⌝ }
-{
-    s[p] as usize + 256 * s[p + 1] as usize
 }
 
 fn slot_fits(s: &[u8]) -> bool

@@ -1,9 +1,10 @@
-// Items of two bytes, a code of the table's form and an operand: storing one, and how many bytes an action's take; and storing zeros.
+// Items of two bytes, a code of the table's form and an operand: storing one, and how many bytes an action's take; a number in two bytes; and storing zeros.
 ghost use Prim.Native.Nat.{_≤_, _<_, _+_};
 ghost use mathlib.Core.Path.{_≡_};
 ghost use mathlib.Core.List.{[], _∷_};
 ghost use lib.ListN.{length, replicate};
 ghost use Rattle.tables.specs.Actions.{actionSize, Held};
+ghost use Rattle.tables.specs.Check.{twoAt};
 ghost use Rattle.items.specs.Items.{Wrote};
 
 // Stores one item.
@@ -32,6 +33,16 @@ pub fn action_size(t: &[u8]) -> usize
         return 4 + size + size % 2;
     }
     6
+}
+
+// The number in two bytes, low byte first.
+pub fn two_at(s: &[u8], p: usize) -> usize
+    requires { ⌜ p + 1 < length (now s) ⌝ }
+    ensures { λ r. ⌜ (r ≡ twoAt (now (s .entry)) p) × (r ≤ 65535) ⌝ }
+{
+    let low = s[p] as usize;
+    let high = s[p + 1] as usize;
+    low + 256 * high
 }
 
 // Zeros in k bytes.

@@ -4,6 +4,7 @@ mod matcher;
 mod unit;
 mod walking;
 
+use items::two_at;
 use keeping::copy_state;
 use keeping::has_calls;
 use moments::Passed;
@@ -57,7 +58,5 @@ fn pattern_end(slot: &[u8]) -> usize
     requires { ⌜ 3 < length (now slot) ⌝ }
     ensures { λ r. ⌜ r ≡ 8 + twoAt (now (slot .entry)) 2 ⌝ }
 {
-    let low = slot[2] as usize;
-    let high = slot[3] as usize;
-    8 + (low + 256 * high)
+    8 + two_at(slot, 2)
 }

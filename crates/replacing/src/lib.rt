@@ -7,24 +7,13 @@ mod texts;
 
 use actions::act;
 use faults::Outcome;
+use items::two_at;
 use texts::copy;
 ghost use mathlib.Core.Path.{_≡_};
-ghost use Prim.Native.Nat.{_+_, _≤_, _<_};
-ghost use lib.ListN.{length};
+ghost use Prim.Native.Nat.{_+_, _≤_};
 ghost use Rattle.macros.specs.Bounds.{mostLineBytes};
-ghost use Rattle.tables.specs.Check.{twoAt};
 ghost use Rattle.replacing.specs.Contract.{Lent, Occurs, sizeOf};
 ghost use Rattle.replacing.specs.Moments.{behind as behindOf};
-
-// The length in two bytes of a slot's header.
-fn size_at(slot: &[u8], i: usize) -> usize
-    requires { ⌜ (i < 8) × (i + 1 < length (now slot)) ⌝ }
-    ensures { λ r. ⌜ r ≡ twoAt (now (slot .entry)) i ⌝ }
-{
-    let low = slot[i] as usize;
-    let high = slot[i + 1] as usize;
-    low + 256 * high
-}
 
 // The bytes that an answer tells of.
 fn size_of(done: Outcome) -> usize
@@ -60,9 +49,9 @@ pub fn occurrence(
     requires { ⌜ Lent (now slot) (now ends) (now line) (now state) (now out) size ⌝ }
     ensures { λ r. ⌜ Occurs (now (slot .entry)) (now (ends .entry)) (now (line .entry)) (now (state .entry)) (now (state .exit)) (now (out .entry)) (now (out .exit)) size r ⌝ }
 {
-    let pattern = 8 + size_at(slot, 2);
-    let replacement = pattern + size_at(slot, 4);
-    let commands = replacement + size_at(slot, 6);
+    let pattern = 8 + two_at(slot, 2);
+    let replacement = pattern + two_at(slot, 4);
+    let commands = replacement + two_at(slot, 6);
     let mut text = [0u8; 1054];
     let done = act(
         &slot[8..pattern],

@@ -14,9 +14,11 @@ use Rattle.macros.specs.Macro.Action.{call}
 use Rattle.macros.specs.Macro.Symbol.{equal, less}
 use Rattle.macros.specs.Formed.{Formed}
 use Rattle.macros.specs.Write.{writePattern, symbolSign, written}
+use Rattle.tables.specs.Check.{twoAt}
 use Rattle.tables.specs.Form.{memberItems, membersItems, unitRest, pieceItems, patternItems, callsItems, replacementItems, two, symbolCode, header, body, bodyBytes, slot, slotBytes}
-use Rattle.writing.specs.Slots.{sizeAt, patternEnd, replacementEnd, commandsEnd, symbolByte, part, leftText, rightText, slotText, Parts}
+use Rattle.writing.specs.Slots.{patternEnd, replacementEnd, commandsEnd, symbolByte, part, leftText, rightText, slotText, Parts}
 use Rattle.tables.proofs.Actions.{slot-length, calls-items}
+use Rattle.tables.proofs.Slots.{pattern-at, replacement-at, commands-at}
 use Rattle.writing.proofs.Decoded.{pattern-kinds, pattern-text, actions-text, actions-whole, calls-text}
 
 -- the items of a pattern are two bytes each
@@ -68,23 +70,11 @@ module _ (m : Macro) where
   unfolding header two
   header-length = refl
 
-  pattern-size : sizeAt (slot m) 2 ≡ length P
-  unfolding sizeAt slot header two
-  pattern-size = omega arith
-
-  replacement-size : sizeAt (slot m) 4 ≡ length R
-  unfolding sizeAt slot header two
-  replacement-size = omega arith
-
-  commands-size : sizeAt (slot m) 6 ≡ length C
-  unfolding sizeAt slot header two
-  commands-size = omega arith
-
   slot-pattern : part 8 (patternEnd (slot m)) (slot m) ≡ P
   unfolding patternEnd slot body
   slot-pattern =
-      ap (λ (x : List ℕ). part 8 (8 + sizeAt (slot m) 2) (header m ++ x)) (append-assoc P (R ++ C) rest)
-      ∙ part-at (header m) P ((R ++ C) ++ rest) 8 (8 + sizeAt (slot m) 2) header-length (ap (λ (n : ℕ). 8 + n) pattern-size)
+      ap (λ (x : List ℕ). part 8 (8 + twoAt (slot m) 2) (header m ++ x)) (append-assoc P (R ++ C) rest)
+      ∙ part-at (header m) P ((R ++ C) ++ rest) 8 (8 + twoAt (slot m) 2) header-length (ap (λ (n : ℕ). 8 + n) (pattern-at m))
 
   slot-replacement : part (patternEnd (slot m)) (replacementEnd (slot m)) (slot m) ≡ R
   unfolding patternEnd replacementEnd slot body
@@ -92,10 +82,10 @@ module _ (m : Macro) where
       let e : header m ++ ((P ++ (R ++ C)) ++ rest) ≡ (header m ++ P) ++ (R ++ (C ++ rest)) = simp append-assoc in
       let l = length-append (header m) P in
       let h = header-length in
-      let p = pattern-size in
-      let r = replacement-size in
-      ap (part (8 + sizeAt (slot m) 2) (8 + sizeAt (slot m) 2 + sizeAt (slot m) 4)) e
-      ∙ part-at (header m ++ P) R (C ++ rest) (8 + sizeAt (slot m) 2) (8 + sizeAt (slot m) 2 + sizeAt (slot m) 4) (omega arith) (omega arith)
+      let p = pattern-at m in
+      let r = replacement-at m in
+      ap (part (8 + twoAt (slot m) 2) (8 + twoAt (slot m) 2 + twoAt (slot m) 4)) e
+      ∙ part-at (header m ++ P) R (C ++ rest) (8 + twoAt (slot m) 2) (8 + twoAt (slot m) 2 + twoAt (slot m) 4) (omega arith) (omega arith)
 
   slot-commands : part (replacementEnd (slot m)) (commandsEnd (slot m)) (slot m) ≡ C
   unfolding patternEnd replacementEnd commandsEnd slot body
@@ -104,20 +94,20 @@ module _ (m : Macro) where
       let l = length-append (header m) (P ++ R) in
       let k = length-append P R in
       let h = header-length in
-      let p = pattern-size in
-      let r = replacement-size in
-      let c = commands-size in
-      ap (part (8 + sizeAt (slot m) 2 + sizeAt (slot m) 4) (8 + sizeAt (slot m) 2 + sizeAt (slot m) 4 + sizeAt (slot m) 6)) e
-      ∙ part-at (header m ++ (P ++ R)) C rest (8 + sizeAt (slot m) 2 + sizeAt (slot m) 4) (8 + sizeAt (slot m) 2 + sizeAt (slot m) 4 + sizeAt (slot m) 6) (omega arith) (omega arith)
+      let p = pattern-at m in
+      let r = replacement-at m in
+      let c = commands-at m in
+      ap (part (8 + twoAt (slot m) 2 + twoAt (slot m) 4) (8 + twoAt (slot m) 2 + twoAt (slot m) 4 + twoAt (slot m) 6)) e
+      ∙ part-at (header m ++ (P ++ R)) C rest (8 + twoAt (slot m) 2 + twoAt (slot m) 4) (8 + twoAt (slot m) 2 + twoAt (slot m) 4 + twoAt (slot m) 6) (omega arith) (omega arith)
 
   ends-within : length (body m) ≤ bodyBytes → commandsEnd (slot m) ≤ slotBytes
   unfolding patternEnd replacementEnd commandsEnd body
   ends-within h =
       let l = length-append P (R ++ C) in
       let k = length-append R C in
-      let p = pattern-size in
-      let r = replacement-size in
-      let c = commands-size in
+      let p = pattern-at m in
+      let r = replacement-at m in
+      let c = commands-at m in
       omega arith
 
   symbol-text : symbolByte (getD (slot m) 0 0) ≡ symbolSign (m .symbol)
@@ -145,18 +135,18 @@ module _ (m : Macro) where
       record {
         size = slot-length m h;
         fits = ends-within h;
-        even = rw pattern-size (pattern-even (m .pattern));
+        even = rw (pattern-at m) (pattern-even (m .pattern));
         replacement = rw slot-replacement (actions-whole (m .replacement));
         commands = rw (slot-commands, calls-items) (actions-whole (map call (m .commands)));
       }
 
 -- the parts end within the slot
-pub parts-fit : (s : List ℕ) → Parts s → 8 + sizeAt s 2 + sizeAt s 4 + sizeAt s 6 ≤ length s
+pub parts-fit : (s : List ℕ) → Parts s → 8 + twoAt s 2 + twoAt s 4 + twoAt s 6 ≤ length s
 unfolding patternEnd replacementEnd commandsEnd
 parts-fit s h = let f = h .fits in let l = h .size in omega arith
 
 -- what the code takes for the parts of a slot
-module _ (s : List ℕ) {x : ℕ} (p : x ≡ sizeAt s 2) where
+module _ (s : List ℕ) {x : ℕ} (p : x ≡ twoAt s 2) where
   pub pattern-here : take (8 + x - 8) (drop 8 s) ≡ part 8 (patternEnd s) s
   unfolding part patternEnd
   pattern-here = rw p
@@ -169,11 +159,11 @@ module _ (s : List ℕ) {x : ℕ} (p : x ≡ sizeAt s 2) where
       let l : length (take (8 + x - 8) (drop 8 s)) ≡ 8 + x - 8 = length-take-le (8 + x - 8) (drop 8 s) (omega arith) in
       omega arith
 
-  module _ {y : ℕ} (q : y ≡ sizeAt s 4) where
+  module _ {y : ℕ} (q : y ≡ twoAt s 4) where
     pub replacement-here : take (8 + x + y - (8 + x)) (drop (8 + x) s) ≡ part (patternEnd s) (replacementEnd s) s
     unfolding part patternEnd replacementEnd
     replacement-here = rw (p, q)
 
-    pub commands-here : {z : ℕ} → z ≡ sizeAt s 6 → take (8 + x + y + z - (8 + x + y)) (drop (8 + x + y) s) ≡ part (replacementEnd s) (commandsEnd s) s
+    pub commands-here : {z : ℕ} → z ≡ twoAt s 6 → take (8 + x + y + z - (8 + x + y)) (drop (8 + x + y) s) ≡ part (replacementEnd s) (commandsEnd s) s
     unfolding part patternEnd replacementEnd commandsEnd
     commands-here r = rw (p, q, r)

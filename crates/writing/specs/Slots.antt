@@ -1,5 +1,5 @@
 -- What a slot and a table are written out as.
-use Prim.Native.Nat.{ℕ, suc, _+_, _-_, _*_, _%_, _≤_, _<_}
+use Prim.Native.Nat.{ℕ, suc, _+_, _-_, _%_, _≤_, _<_}
 use mathlib.Core.Path.{_≡_}
 use mathlib.Core.List.{List, [], _∷_, _++_}
 use lib.Dec.{leb, ltb, eqb}
@@ -11,6 +11,7 @@ use Rattle.macros.specs.Refusals.FileRefusal.{fileTooLong, macroTooLong}
 use Rattle.macros.specs.Write.{Written, written, writeFrom, writeOut}
 use Rattle.macros.specs.Write.Written.{refused, file}
 use Rattle.macros.specs.Accepted.{Accepted}
+use Rattle.tables.specs.Check.{twoAt}
 use Rattle.tables.specs.Form.{form, slotBytes}
 use Rattle.writing.specs.Items.{patternText, actionsText, Whole}
 use Rattle.writing.specs.declared.Fault.{Fault}
@@ -18,19 +19,15 @@ use Rattle.writing.specs.declared.Fault.the-variants.{MacroTooLong, File
 use Rattle.writing.specs.declared.Answer.{Answer}
 use Rattle.writing.specs.declared.Answer.the-variants.{Written as WrittenOut, Refused}
 
--- the length at a place of the header
-unfoldable pub sizeAt : List ℕ → ℕ → ℕ
-sizeAt s i = getD s i 0 + 256 * getD s (i + 1) 0
-
 -- where the pattern, the replacement and the commands end
 unfoldable pub patternEnd : List ℕ → ℕ
-patternEnd s = 8 + sizeAt s 2
+patternEnd s = 8 + twoAt s 2
 
 unfoldable pub replacementEnd : List ℕ → ℕ
-replacementEnd s = patternEnd s + sizeAt s 4
+replacementEnd s = patternEnd s + twoAt s 4
 
 unfoldable pub commandsEnd : List ℕ → ℕ
-commandsEnd s = replacementEnd s + sizeAt s 6
+commandsEnd s = replacementEnd s + twoAt s 6
 
 unfoldable pub symbolByte : ℕ → ℕ
 symbolByte c = pick (eqb c 1) 60 61
@@ -57,7 +54,7 @@ slotText s = leftText s ++ rightText s
 pub record Parts (s : List ℕ) : Type 0 where
   pub size : length s ≡ slotBytes
   pub fits : commandsEnd s ≤ slotBytes
-  pub even : sizeAt s 2 % 2 ≡ 0
+  pub even : twoAt s 2 % 2 ≡ 0
   pub replacement : Whole (part (patternEnd s) (replacementEnd s) s)
   pub commands : Whole (part (replacementEnd s) (commandsEnd s) s)
 

@@ -5,11 +5,12 @@ use crate::actions::put_actions;
 use crate::pattern::put_pattern;
 use crate::put::Short;
 use crate::put::put;
+use items::two_at;
 ghost use mathlib.Core.Path.{_≡_};
-ghost use Prim.Native.Nat.{_+_, _*_, _≤_, _<_};
+ghost use Prim.Native.Nat.{_≤_};
 ghost use lib.ListN.{length};
 ghost use Rattle.writing.specs.Puts.{Puts};
-ghost use Rattle.writing.specs.Slots.{sizeAt, symbolByte, leftText, rightText, slotText, limitOf, faultOf, answerOf, Parts, Adds, Lists};
+ghost use Rattle.writing.specs.Slots.{symbolByte, leftText, rightText, slotText, limitOf, faultOf, answerOf, Parts, Adds, Lists};
 ghost use Rattle.writing.specs.Contract.{SomeTable};
 
 fn symbol(code: u8) -> u8
@@ -21,22 +22,12 @@ fn symbol(code: u8) -> u8
     b'='
 }
 
-// The length in two bytes of the header.
-fn size_at(slot: &[u8], i: usize) -> usize
-    requires { ⌜ (i < 8) × (i + 1 < length (now slot)) ⌝ }
-    ensures { λ r. ⌜ r ≡ sizeAt (now (slot .entry)) i ⌝ }
-{
-    let low = slot[i] as usize;
-    let high = slot[i + 1] as usize;
-    low + 256 * high
-}
-
 // The pattern in quotes, and the symbol.
 fn put_left(file: &mut [u8], n: usize, slot: &[u8]) -> usize
     requires { ⌜ (length (now file) ≤ 32768) × Parts (now slot) ⌝ }
     ensures { λ r. ⌜ Puts n (leftText (now (slot .entry))) (now (file .entry)) (now (file .exit)) r ⌝ }
 {
-    let e = 8 + size_at(slot, 2);
+    let e = 8 + two_at(slot, 2);
     let sign = symbol(slot[0]);
     let m = put_pattern(file, n, &slot[8..e]);
     put(file, m, Short::Two(b'\'', sign))
@@ -47,9 +38,9 @@ fn put_right(file: &mut [u8], n: usize, slot: &[u8]) -> usize
     requires { ⌜ (length (now file) ≤ 32768) × Parts (now slot) ⌝ }
     ensures { λ r. ⌜ Puts n (rightText (now (slot .entry))) (now (file .entry)) (now (file .exit)) r ⌝ }
 {
-    let p = 8 + size_at(slot, 2);
-    let r = p + size_at(slot, 4);
-    let e = r + size_at(slot, 6);
+    let p = 8 + two_at(slot, 2);
+    let r = p + two_at(slot, 4);
+    let e = r + two_at(slot, 6);
     let a = put_actions(file, n, &slot[p..r]);
     let b = put_actions(file, a, &slot[r..e]);
     put(file, b, Short::One(b';'))

@@ -13,11 +13,11 @@ use borrow.Author.Needs.{needs}
 use Rattle.writing.proofs.slots.put_left.Statement.{statement}
 use Rattle.writing.proofs.slots.put_left.Tie as tie
 
-size-at-requires : tie.Need-size-at-requires
-size-at-requires c κs = (omega arith, omega (arith, c .before .before .pre .1 .size))
+two-at-requires : tie.Need-two-at-requires
+two-at-requires c κs = omega (arith, c .before .before .pre .1 .size)
 
 add-e : tie.Need-add-e
-add-e c = omega (arith, parts-fit (now (c .before .before .before .args .slot)) (c .before .before .before .pre .1), c .before .before .before .pre .1 .size, c .size-at .ensures)
+add-e c = omega (arith, parts-fit (now (c .before .before .before .args .slot)) (c .before .before .before .pre .1), c .before .before .before .pre .1 .size, c .two-at .ensures .0)
 
 shared-slice-read-symbol : tie.Need-shared-slice-read-symbol
 shared-slice-read-symbol c = search needs
@@ -32,11 +32,11 @@ part-put-pattern-start : tie.Need-part-put-pattern-start
 part-put-pattern-start c = omega arith
 
 part-put-pattern-end : tie.Need-part-put-pattern-end
-part-put-pattern-end c = omega (arith, parts-fit (now (c .before .before .before .before .before .before .args .slot)) (c .before .before .before .before .before .before .pre .1), c .before .before .before .before .before .before .pre .1 .size, c .before .before .before .size-at .ensures)
+part-put-pattern-end c = omega (arith, parts-fit (now (c .before .before .before .before .before .before .args .slot)) (c .before .before .before .before .before .before .pre .1), c .before .before .before .before .before .before .pre .1 .size, c .before .before .before .two-at .ensures .0)
 
 put-pattern-requires : tie.Need-put-pattern-requires
 put-pattern-requires c κs =
-    let fits = pattern-fits (now (c .before .before .before .before .before .before .before .args .slot)) (c .before .before .before .before .size-at .ensures) (c .before .before .before .before .before .before .before .pre .1) in
+    let fits = pattern-fits (now (c .before .before .before .before .before .before .before .args .slot)) (c .before .before .before .before .two-at .ensures .0) (c .before .before .before .before .before .before .before .pre .1) in
     (c .before .before .before .before .before .before .before .pre .0, fits .0, fits .1)
 
 put-requires : tie.Need-put-requires
@@ -48,14 +48,14 @@ same-length c = omega (arith, c .before .before .before .before .before .before 
 returns : tie.Need-returns
 unfolding leftText shortText
 returns c =
-    let one = by-bytes (ap (λ (l : List ℕ). 39 ∷ patternText 0 l) (pattern-here (now (c .before .before .before .before .before .before .before .before .before .before .before .before .before .before .args .slot)) (c .before .before .before .before .before .before .before .before .before .before .before .size-at .ensures))) (c .before .before .before .before .before .before .put-pattern .ensures) in
+    let one = by-bytes (ap (λ (l : List ℕ). 39 ∷ patternText 0 l) (pattern-here (now (c .before .before .before .before .before .before .before .before .before .before .before .before .before .before .args .slot)) (c .before .before .before .before .before .before .before .before .before .before .before .two-at .ensures .0))) (c .before .before .before .before .before .before .put-pattern .ensures) in
     also one (by-bytes (ap (λ (x : ℕ). 39 ∷ x ∷ []) (c .before .before .before .before .before .before .before .before .before .symbol .ensures)) (c .before .before .put .ensures))
 
 pub put-left-spec : {M : Type 1} → statement M
 put-left-spec =
     tie.close
     (tie.spec
-    size-at-requires
+    two-at-requires
     add-e
     shared-slice-read-symbol
     symbol-requires

@@ -12,23 +12,23 @@ use native.Mathlib.Omega.{arith}
 use Rattle.writing.proofs.slots.put_right.Statement.{statement}
 use Rattle.writing.proofs.slots.put_right.Tie as tie
 
-size-at-requires : tie.Need-size-at-requires
-size-at-requires c κs = (omega arith, omega (arith, c .before .before .pre .1 .size))
+two-at-requires : tie.Need-two-at-requires
+two-at-requires c κs = omega (arith, c .before .before .pre .1 .size)
 
 add-p : tie.Need-add-p
-add-p c = omega (arith, parts-fit (now (c .before .before .before .args .slot)) (c .before .before .before .pre .1), c .before .before .before .pre .1 .size, c .size-at .ensures)
+add-p c = omega (arith, parts-fit (now (c .before .before .before .args .slot)) (c .before .before .before .pre .1), c .before .before .before .pre .1 .size, c .two-at .ensures .0)
 
-size-at-requires-2 : tie.Need-size-at-requires-2
-size-at-requires-2 c κs = (omega arith, omega (arith, c .before .before .before .pre .1 .size))
+two-at-requires-2 : tie.Need-two-at-requires-2
+two-at-requires-2 c κs = omega (arith, c .before .before .before .pre .1 .size)
 
 add-r : tie.Need-add-r
-add-r c = omega (arith, parts-fit (now (c .before .before .before .before .args .slot)) (c .before .before .before .before .pre .1), c .before .before .before .before .pre .1 .size, c .before .size-at .ensures, c .size-at2 .ensures)
+add-r c = omega (arith, parts-fit (now (c .before .before .before .before .args .slot)) (c .before .before .before .before .pre .1), c .before .before .before .before .pre .1 .size, c .before .two-at .ensures .0, c .two-at2 .ensures .0)
 
-size-at-requires-3 : tie.Need-size-at-requires-3
-size-at-requires-3 c κs = (omega arith, omega (arith, c .before .before .before .before .pre .1 .size))
+two-at-requires-3 : tie.Need-two-at-requires-3
+two-at-requires-3 c κs = omega (arith, c .before .before .before .before .pre .1 .size)
 
 add-e : tie.Need-add-e
-add-e c = omega (arith, parts-fit (now (c .before .before .before .before .before .args .slot)) (c .before .before .before .before .before .pre .1), c .before .before .before .before .before .pre .1 .size, c .before .before .size-at .ensures, c .before .size-at2 .ensures, c .size-at3 .ensures)
+add-e c = omega (arith, parts-fit (now (c .before .before .before .before .before .args .slot)) (c .before .before .before .before .before .pre .1), c .before .before .before .before .before .pre .1 .size, c .before .before .two-at .ensures .0, c .before .two-at2 .ensures .0, c .two-at3 .ensures .0)
 
 sub-put-actions : tie.Need-sub-put-actions
 sub-put-actions c = omega arith
@@ -37,10 +37,10 @@ part-put-actions-start : tie.Need-part-put-actions-start
 part-put-actions-start c = omega arith
 
 part-put-actions-end : tie.Need-part-put-actions-end
-part-put-actions-end c = omega (arith, parts-fit (now (c .before .before .before .before .before .before .args .slot)) (c .before .before .before .before .before .before .pre .1), c .before .before .before .before .before .before .pre .1 .size, c .before .before .before .size-at .ensures, c .before .before .size-at2 .ensures)
+part-put-actions-end c = omega (arith, parts-fit (now (c .before .before .before .before .before .before .args .slot)) (c .before .before .before .before .before .before .pre .1), c .before .before .before .before .before .before .pre .1 .size, c .before .before .before .two-at .ensures .0, c .before .before .two-at2 .ensures .0)
 
 put-actions-requires : tie.Need-put-actions-requires
-put-actions-requires c κs = (c .before .before .before .before .before .before .before .pre .0, rw (replacement-here (now (c .before .before .before .before .before .before .before .args .slot)) (c .before .before .before .before .size-at .ensures) (c .before .before .before .size-at2 .ensures)) (c .before .before .before .before .before .before .before .pre .1 .replacement))
+put-actions-requires c κs = (c .before .before .before .before .before .before .before .pre .0, rw (replacement-here (now (c .before .before .before .before .before .before .before .args .slot)) (c .before .before .before .before .two-at .ensures .0) (c .before .before .before .two-at2 .ensures .0)) (c .before .before .before .before .before .before .before .pre .1 .replacement))
 
 sub-put-actions-2 : tie.Need-sub-put-actions-2
 sub-put-actions-2 c = omega arith
@@ -49,10 +49,10 @@ part-put-actions-start-2 : tie.Need-part-put-actions-start-2
 part-put-actions-start-2 c = omega arith
 
 part-put-actions-end-2 : tie.Need-part-put-actions-end-2
-part-put-actions-end-2 c = omega (arith, parts-fit (now (c .before .before .before .before .before .before .before .before .before .before .before .args .slot)) (c .before .before .before .before .before .before .before .before .before .before .before .pre .1), c .before .before .before .before .before .before .before .before .before .before .before .pre .1 .size, c .before .before .before .before .before .before .before .before .size-at .ensures, c .before .before .before .before .before .before .before .size-at2 .ensures, c .before .before .before .before .before .before .size-at3 .ensures)
+part-put-actions-end-2 c = omega (arith, parts-fit (now (c .before .before .before .before .before .before .before .before .before .before .before .args .slot)) (c .before .before .before .before .before .before .before .before .before .before .before .pre .1), c .before .before .before .before .before .before .before .before .before .before .before .pre .1 .size, c .before .before .before .before .before .before .before .before .two-at .ensures .0, c .before .before .before .before .before .before .before .two-at2 .ensures .0, c .before .before .before .before .before .before .two-at3 .ensures .0)
 
 put-actions-requires-2 : tie.Need-put-actions-requires-2
-put-actions-requires-2 c κs = (omega (arith, c .before .before .before .before .before .before .before .before .before .before .before .before .pre .0, c .before .before .before .before .put-actions .kept .0), rw (commands-here (now (c .before .before .before .before .before .before .before .before .before .before .before .before .args .slot)) (c .before .before .before .before .before .before .before .before .before .size-at .ensures) (c .before .before .before .before .before .before .before .before .size-at2 .ensures) (c .before .before .before .before .before .before .before .size-at3 .ensures)) (c .before .before .before .before .before .before .before .before .before .before .before .before .pre .1 .commands))
+put-actions-requires-2 c κs = (omega (arith, c .before .before .before .before .before .before .before .before .before .before .before .before .pre .0, c .before .before .before .before .put-actions .kept .0), rw (commands-here (now (c .before .before .before .before .before .before .before .before .before .before .before .before .args .slot)) (c .before .before .before .before .before .before .before .before .before .two-at .ensures .0) (c .before .before .before .before .before .before .before .before .two-at2 .ensures .0) (c .before .before .before .before .before .before .before .two-at3 .ensures .0)) (c .before .before .before .before .before .before .before .before .before .before .before .before .pre .1 .commands))
 
 put-requires : tie.Need-put-requires
 put-requires c κs = omega (arith, c .before .before .before .before .before .before .before .before .before .before .before .before .before .before .before .before .pre .0, c .before .before .before .before .before .before .before .before .put-actions .kept .0, c .before .before .before .put-actions2 .kept .0)
@@ -64,19 +64,19 @@ returns : tie.Need-returns
 unfolding rightText shortText
 returns c =
     let slot = (now (c .before .before .before .before .before .before .before .before .before .before .before .before .before .before .before .before .before .before .before .args .slot)) in
-    let one = by-bytes (ap (λ (l : List ℕ). 39 ∷ actionsText 0 l) (replacement-here slot (c .before .before .before .before .before .before .before .before .before .before .before .before .before .before .before .before .size-at .ensures) (c .before .before .before .before .before .before .before .before .before .before .before .before .before .before .before .size-at2 .ensures))) (c .before .before .before .before .before .before .before .before .before .before .before .put-actions .ensures) in
-    let two = by-bytes (ap (λ (l : List ℕ). 39 ∷ actionsText 0 l) (commands-here slot (c .before .before .before .before .before .before .before .before .before .before .before .before .before .before .before .before .size-at .ensures) (c .before .before .before .before .before .before .before .before .before .before .before .before .before .before .before .size-at2 .ensures) (c .before .before .before .before .before .before .before .before .before .before .before .before .before .before .size-at3 .ensures))) (c .before .before .before .before .before .before .put-actions2 .ensures) in
+    let one = by-bytes (ap (λ (l : List ℕ). 39 ∷ actionsText 0 l) (replacement-here slot (c .before .before .before .before .before .before .before .before .before .before .before .before .before .before .before .before .two-at .ensures .0) (c .before .before .before .before .before .before .before .before .before .before .before .before .before .before .before .two-at2 .ensures .0))) (c .before .before .before .before .before .before .before .before .before .before .before .put-actions .ensures) in
+    let two = by-bytes (ap (λ (l : List ℕ). 39 ∷ actionsText 0 l) (commands-here slot (c .before .before .before .before .before .before .before .before .before .before .before .before .before .before .before .before .two-at .ensures .0) (c .before .before .before .before .before .before .before .before .before .before .before .before .before .before .before .two-at2 .ensures .0) (c .before .before .before .before .before .before .before .before .before .before .before .before .before .before .two-at3 .ensures .0))) (c .before .before .before .before .before .before .put-actions2 .ensures) in
     also one (also two (c .before .before .put .ensures))
 
 pub put-right-spec : {M : Type 1} → statement M
 put-right-spec =
     tie.close
     (tie.spec
-    size-at-requires
+    two-at-requires
     add-p
-    size-at-requires-2
+    two-at-requires-2
     add-r
-    size-at-requires-3
+    two-at-requires-3
     add-e
     sub-put-actions
     part-put-actions-start
