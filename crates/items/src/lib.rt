@@ -7,7 +7,7 @@ ghost use Rattle.tables.specs.Actions.{actionSize, Held};
 ghost use Rattle.tables.specs.Check.{twoAt};
 ghost use Rattle.items.specs.Items.{Wrote};
 
-// Stores one item.
+// Stores one item, from place n on.
 pub fn put_item(out: &mut [u8], n: usize, x: u8, y: u8)
     requires { ⌜ n + 1 < length (now out) ⌝ }
     ensures { λ _. ⌜ Wrote (now (out .entry)) (now (out .exit)) n (x ∷ y ∷ []) ⌝ }
@@ -45,7 +45,7 @@ pub fn two_at(s: &[u8], p: usize) -> usize
     low + 256 * high
 }
 
-// Zeros in k bytes.
+// Zeros in k bytes, from place n on.
 pub fn clear(out: &mut [u8], n: usize, k: usize)
     requires { ⌜ n + k ≤ length (now out) ⌝ }
     ensures { λ _. ⌜ Wrote (now (out .entry)) (now (out .exit)) n (replicate k 0) ⌝ }

@@ -12,7 +12,7 @@ use lib.ListN.{length, getD, set, drop, replicate}
 abbrev pub byteOf : ℕ → ℕ → ℕ
 byteOf at q = at * 66 + q / 8
 
--- the mark, a bit of it: 1 where the pair has failed
+-- the mark, a bit of it: 1 where the pair was found to have failed
 unfoldable pub mark : List ℕ → ℕ → ℕ → ℕ
 mark marks at q = (getD marks (byteOf at q) 0 / 2 ^ (q % 8)) % 2
 

@@ -5,7 +5,7 @@ ghost use lib.Dec.{eqb};
 ghost use lib.ListN.{length};
 ghost use Rattle.marks.specs.Marks.{mark, ByteThere, marked, cleared};
 
-// Whether the pair has failed.
+// Whether the pair was found to have failed.
 pub fn is_marked(marks: &[u8], at: usize, q: usize) -> bool
     requires { ⌜ ByteThere (now marks) at q ⌝ }
     ensures { λ r. ⌜ r ≡ eqb (mark (now (marks .entry)) at q) 1 ⌝ }
@@ -15,7 +15,7 @@ pub fn is_marked(marks: &[u8], at: usize, q: usize) -> bool
     (byte >> shift) % 2 == 1
 }
 
-// The pair has failed: its bit is set in its byte, and every other byte stays.
+// The pair is found to have failed: its bit is set in its byte, and every other byte stays.
 pub fn set_mark(marks: &mut [u8], at: usize, q: usize)
     requires { ⌜ ByteThere (now marks) at q ⌝ }
     ensures { λ _. ⌜ now (marks .exit) ≡ marked (now (marks .entry)) at q ⌝ }

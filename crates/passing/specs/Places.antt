@@ -48,6 +48,7 @@ pub record AtPlace (s items kinds t b out marks ends : List ℕ) (a : At) : Type
   pub bytes : Bytes t
   pub short : length t ≤ mostLineBytes
   pub place : a .place ≤ length t
+  -- nothing was refused yet
   pub well : a .fate ≡ Well
   pub moment : (w : Work) × IsMoment out b (a .size) w
   pub room : length out ≡ mostLineBytes
@@ -62,6 +63,7 @@ pub record Onward (m : Macro) (t : List ℕ) (x : Walk) (hit : Bool) (a : At) (w
   pub on : a .place ≤ length t → (outcome x ≡ outcome (from m t (a .last) (a .place) w)) × (hit || occurred x ≡ a .hit || occurred (from m t (a .last) (a .place) w))
   pub over : length t < a .place → (outcome x ≡ doneOf (passedOf a) w) × SaysOccurred (passedOf a) (hit || occurred x)
 
+-- from the moment a, at whose place the macro is tried, the pass goes on at the moment r
 pub record Goes (s items t b b′ out out′ marks marks′ seen ends : List ℕ) (a r : At) : Type 0 where
   pub comes : (m : Macro) → IsSlot s m → (w : Work) → IsMoment out b (a .size) w → (v : Work) × IsMoment out′ b′ (r .size) v × Onward m t (from m t (a .last) (a .place) w) (a .hit) r v
   pub past : drop (r .size) out′ ≡ drop (r .size) out

@@ -9,7 +9,7 @@ use Rattle.replies.specs.Fed.{kindOf, passesOf, sizeOf}
 use Rattle.replies.specs.declared.Fed.{Fed}
 use Rattle.replies.specs.declared.Answer.{Answer}
 
--- "It returns the number, the place (10 to 19, else 0) and the passes begun": an answer without passes and kind, of a refusal, or with the length of what was read or written
+-- "It returns the number, the place (10 to 19, else 0) and the passes begun": an answer without passes and kind, of a refusal, or with the number of macros read or of bytes written
 unfoldable pub reply : (number place length : ℕ) → Answer
 reply n p k = record { number = n; place = p; passes = 0; kind = 0; length = k }
 
