@@ -1,4 +1,4 @@
--- 01, part 3, "Chosen is the division with the most repeats": the law that joins the chooser to the divisions. In brackets stand the edits of must-fail/ that a law rules out.
+-- 01, part 3, "Chosen is the division with the most repeats": the laws that join the chooser to the divisions. In brackets stand the edits of must-fail/ that a law rules out.
 use mathlib.Core.Path.{_≡_}
 use Prim.Native.Nat.{ℕ}
 use mathlib.Core.Logic.{_⊎_}

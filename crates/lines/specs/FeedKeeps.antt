@@ -19,7 +19,7 @@ abbrev pub Placed : ℕ → Type 0
 Placed n = Between 10 19 n
 
 -- 0 for a line that is taken, and the refusals that a line can meet: the host's 4, the table writer's, the sender's, the table's at work;
--- not 10 or 11: a control line has at most 1,054 bytes, and none is 0
+-- not 10 or 11: a control line has at most 1,054 bytes, and none is 0; not 1, 2 or 3, which are about memories: here the table is accepted and the state in range
 abbrev pub Number : ℕ → Type 0
 Number n = (n ≡ 0) ⊎ (n ≡ 4) ⊎ Between 12 19 n ⊎ Between 21 23 n ⊎ Between 31 35 n
 
@@ -37,9 +37,9 @@ pub record Kept (ms : Table) (st : State) (budget : ℕ) (a : Answer) : Type 0 w
   pub passes : a .passes ≤ budget
   -- a refused line leaves table and state as they were [refused_line_keeps_state]
   pub refused : (r : Refusal) → a .kind ≡ refusedWith r → (a .table ≡ ms) × (a .state ≡ st)
-  -- the number is one that a line can be answered with
+  -- the number is one that a line can be answered with [number_too_high]
   pub number : Number (numberOf (a .kind))
-  -- the place is 0 unless the number is 10 to 19
+  -- the place is 0 unless the number is 10 to 19 [place_too_far]
   pub place : Placed (numberOf (a .kind)) ⊎ (placeOf (a .kind) ≡ 0)
 
 -- THE LAW: any bytes, with any budget, fed to an accepted table and a state in range

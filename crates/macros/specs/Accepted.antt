@@ -10,7 +10,7 @@ use Rattle.macros.specs.Read.{readFile}
 use Rattle.macros.specs.Read.Read.{table}
 use Rattle.macros.specs.Spell.{shortest}
 
--- "some file spells it": a file that reading takes as this macro alone
+-- "some file spells" it: a file that reading takes as this macro alone
 abbrev pub Spelled : Macro → Type 0
 Spelled m = (s : List ℕ) × Octets s × (readFile s ≡ table (m ∷ []))
 

@@ -1,4 +1,4 @@
--- What is promised of the shortest spelling, and so of "some file spells it" (01, refusal 1).
+-- What is promised of the shortest spelling, and so of "each of which some file spells" (01, refusal 1).
 -- Edits of must-fail/ that ShortestReads rules out: star_dash (a `\` too few), dash_lost and class_skips (a class is read otherwise).
 -- NoShorter: needless_mark and needless_brace (a `\` too many). SomeFileSpells and AcceptedMeans: all five, and bound_512 (513 bytes are read).
 use Prim.Native.Nat.{ℕ, _≤_}
@@ -18,7 +18,7 @@ use Rattle.macros.specs.Accepted.{Spelled, Spellable, Each, Accepted}
 abbrev pub ShortestReads : Type 0
 ShortestReads = (m : Macro) → Formed m → length (shortest m) ≤ mostMacroBytes → readFile (shortest m) ≡ table (m ∷ [])
 
--- No text that is read as this macro is shorter: with `older` empty a file, with any other macros before it a text in a file or behind `$MACRO`.
+-- No text that is read as this macro is shorter than its shortest spelling: with `older` empty a file, with any other macros before it a text in a file or behind `$MACRO`.
 abbrev pub NoShorter : Type 0
 NoShorter = (older : Table) (m : Macro) (s : List ℕ) → Octets s → readOnto older s ≡ table (older ++ (m ∷ [])) → length (shortest m) ≤ length s
 
