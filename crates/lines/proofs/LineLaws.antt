@@ -20,9 +20,9 @@ use Rattle.lines.specs.Pass.{Walk, ended, occurs, pass, occurred, outcom
 use Rattle.lines.specs.Line.{Numbered, Pass, Line, passed, refused, done, control, isIn, newestFirst, closing, closedBy}
 use Rattle.lines.specs.Line.{isControl, due, follow, afterPass, textOf, passes, lineOf, ending}
 use Rattle.lines.specs.Line.{Line.ended as lineEnded}
-use Rattle.lines.specs.Demand.{Nowhere, Walks, Copied, Due, PassHolds, closedIf, closedAfter, sinceAfter, Passes, closedIn}
+use Rattle.lines.specs.Demand.{Nowhere, Walks, Copied, NotIn, Due, PassHolds, closedIf, closedAfter, sinceAfter, Passes, closedIn}
 use Rattle.lines.proofs.PassLaws.{Good, pass-walks}
-use Rattle.lines.proofs.OpenLaws.{in-cons, Todo, todo-next, todo-all}
+use Rattle.lines.proofs.OpenLaws.{in-cons, not-in, Todo, todo-next, todo-all}
 
 -- the line is not refused
 abbrev pub NotRefused : Line → Type 0
@@ -135,7 +135,7 @@ line-holds ms st budget t h = passes-hold ms _ [] [] (newestFirst [] ms) st t (t
 
 -- the open macros that passed since the last occurrence have nothing anywhere
 abbrev Empty : Table → List ℕ → List ℕ → List ℕ → State → Type 0
-Empty ms closed since t st = (i : ℕ) (m : Macro) → getElem? ms i ≡ some m → isIn i closed ≡ false → isIn i since ≡ true → Nowhere st m t
+Empty ms closed since t st = (i : ℕ) (m : Macro) → getElem? ms i ≡ some m → NotIn i closed → isIn i since ≡ true → Nowhere st m t
 
 empty-next : (ms : Table) (closed since : List ℕ) (t : List ℕ) (st : State) (x : Pass) → PassHolds ms closed since t st x → (v : Work) → outcome (x .events) ≡ good v
     → Empty ms closed since t st → (o : Bool) → occurred (x .events) ≡ o
@@ -156,7 +156,7 @@ empty-next ms closed since t st x h v e g false o i m at f s =
 -- THE LAW
 module _ (ms : Table) (s : List ℕ) (z : State) (i : ℕ) (m : Macro) (at : getElem? ms i ≡ some m) where
   pub left-nothing : (closed since : List ℕ) (t : List ℕ) (st : State) (l : Line) → Passes ms closed since t st l → Empty ms closed since t st
-      → ending l ≡ done s z → isIn i (closedIn closed l) ≡ false → Nowhere z m s
+      → ending l ≡ done s z → NotIn i (closedIn closed l) → Nowhere z m s
   unfolding ending
   left-nothing closed since t st (lineEnded (refused r)) h g e f = absurd h
   left-nothing closed since t st (lineEnded (control r y)) h g e f = absurd (let n : _≡_ {A = ℕ} 0 1 = cc in omega arith)
@@ -167,6 +167,6 @@ module _ (ms : Table) (s : List ℕ) (z : State) (i : ℕ) (m : Macro) (at : get
     where
       go : (o : Bool) → isIn i since ≡ o → Nowhere st m t
       go true o = g i m at f o
-      go false o = absurd (h .3 i m (at, f, o))
+      go false o = absurd (h .3 i m (at, f, not-in i since .0 o))
   left-nothing closed since t st (passed x l) h g e f =
       left-nothing (closedAfter x closed) (sinceAfter x since) (textOf (h .1 .0)) (h .1 .0 .state) l (h .1 .2) (empty-next ms closed since t st x (h .0) (h .1 .0) (h .1 .1) g (occurred (x .events)) refl) e f

@@ -19,7 +19,7 @@ use Rattle.lines.specs.Replacing.{Work, occur}
 use Rattle.lines.specs.Replacing.Done.{bad, good}
 use Rattle.lines.specs.Pass.{Occurrence, Walk, occurred, outcome}
 use Rattle.lines.specs.Pass.Walk.{ended, occurs}
-use Rattle.lines.specs.Line.{Pass, Line, isIn, isControl, textOf, lineOf, passesOf, hadOccurrence, ending}
+use Rattle.lines.specs.Line.{Pass, Line, isControl, textOf, lineOf, passesOf, hadOccurrence, ending}
 use Rattle.lines.specs.Line.Ending.{refused, done, control}
 use Rattle.lines.specs.Line.{Line.ended as lineEnded, Line.passed as passed}
 use Rattle.lines.specs.Feeding.{orderOf, Kind, Answer, kindOfDone, Fed, feeds}
@@ -88,9 +88,14 @@ Walks m t from last w (ended (bad r v)) = ⊥
 
 -- THE PASSES OF A LINE, from its text t and its state st on; closed: the numbers of the macros closed to it; since: of those that passed since its last occurrence
 
+-- i is none of the numbers: "all others are open" (01, part 6) [closed_from_start]
+abbrev pub NotIn : ℕ → List ℕ → Type 0
+NotIn i [] = Unit {0}
+NotIn i (k ∷ ks) = (i ≡ k → ⊥) × NotIn i ks
+
 -- the macro m with the number i is open, and has not passed since
 abbrev pub Due : Table → List ℕ → List ℕ → ℕ → Macro → Type 0
-Due ms closed since i m = (getElem? ms i ≡ some m) × (isIn i closed ≡ false) × (isIn i since ≡ false)
+Due ms closed since i m = (getElem? ms i ≡ some m) × NotIn i closed × NotIn i since
 
 pub record PassHolds (ms : Table) (closed since : List ℕ) (t : List ℕ) (st : State) (x : Pass) : Type 0 where
   -- it begins with the text and the state that the last pass made
@@ -151,7 +156,7 @@ pub record Finished (ms : Table) (l : Line) (a : Answer) (s : List ℕ) : Type 0
   -- the table stays
   pub table : a .table ≡ ms
   -- "no macro still open to it has a division at any place of its final text" [no_restart, early_end]
-  pub nothingLeft : (i : ℕ) (m : Macro) → getElem? ms i ≡ some m → isIn i (closedIn [] l) ≡ false → Nowhere (a .state) m s
+  pub nothingLeft : (i : ℕ) (m : Macro) → getElem? ms i ≡ some m → NotIn i (closedIn [] l) → Nowhere (a .state) m s
 
 -- a control line: its final text and its last state give the order that makes the new table and state
 pub record Controlled (ms : Table) (l : Line) (a : Answer) (s : List ℕ) (x : State) : Type 0 where
