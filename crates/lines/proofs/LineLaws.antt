@@ -20,7 +20,7 @@ use Rattle.lines.specs.Pass.{Walk, ended, occurs, pass, occurred, outcom
 use Rattle.lines.specs.Line.{Numbered, Pass, Line, passed, refused, done, control, isIn, newestFirst, closing, closedBy}
 use Rattle.lines.specs.Line.{isControl, due, follow, afterPass, textOf, passes, lineOf, ending}
 use Rattle.lines.specs.Line.{Line.ended as lineEnded}
-use Rattle.lines.specs.Demand.{Nowhere, Walks, Copied, NotIn, Due, PassHolds, closedIf, closedAfter, sinceAfter, Passes, closedIn}
+use Rattle.lines.specs.Demand.{Nowhere, Walks, Copied, NotIn, Due, EndsIn, PassHolds, closedIf, closedAfter, sinceAfter, Passes, closedIn}
 use Rattle.lines.proofs.PassLaws.{Good, pass-walks}
 use Rattle.lines.proofs.OpenLaws.{in-cons, not-in, Todo, todo-next, todo-all}
 
@@ -41,6 +41,12 @@ all-copied : (t : List ℕ) (st : State) (v : Work) → Copied (slice 0 (length 
 unfolding textOf onto
 all-copied t st v h = (h .line ∙ take-length t, h .state)
 
+-- the end of a pass, joined to the demand's own notion
+ends-in : (k : Walk) (v : Work) → (outcome k ≡ good v) ↔ EndsIn k v
+unfolding outcome
+ends-in (ended d) v = (λ e. e, λ e. e)
+ends-in (occurs o k) v = ends-in k v
+
 module _ (m : Macro) (t : List ℕ) (st : State) where
   passed-over : (k : Walk) → Walks m t 0 none (startOf st) k → (occurred k ≡ false) ↔ Nowhere st m t
   unfolding occurred
@@ -55,8 +61,8 @@ module _ (m : Macro) (t : List ℕ) (st : State) where
   )
 
   -- a pass without an occurrence leaves text and state as they were
-  nothing-changed : (k : Walk) → Walks m t 0 none (startOf st) k → (v : Work) → outcome k ≡ good v → occurred k ≡ false → (textOf v ≡ t) × (v .state ≡ st)
-  unfolding outcome occurred
+  nothing-changed : (k : Walk) → Walks m t 0 none (startOf st) k → (v : Work) → EndsIn k v → occurred k ≡ false → (textOf v ≡ t) × (v .state ≡ st)
+  unfolding occurred
   nothing-changed (ended (bad r w)) h v e f = absurd h
   nothing-changed (ended (good x)) h v e f = all-copied t st v (subst (λ (y : Work). Copied (slice 0 (length t) t) (startOf st) y) (let z : x ≡ v = cc in z) (h .0))
   nothing-changed (occurs o k) h v e f = absurd (false≢true (sym f))
@@ -91,13 +97,13 @@ module _ (ms : Table) (closed since : List ℕ) (st : State) (t : List ℕ) wher
     follow-good h r v z = h r (ap (λ (a : Done). ending (follow a (occurred k) on again)) z)
 
     follow-holds : Good k → (a : Done) (o : Bool) → outcome k ≡ a → occurred k ≡ o → NotRefused (follow a o on again)
-        → (v : Work) × (a ≡ good v) × Passes ms (closedIf o (e .macro .symbol) (e .number) closed) (pick o [] (e .number ∷ since)) (textOf v) (v .state) (follow a o on again)
+        → (v : Work) × EndsIn k v × Passes ms (closedIf o (e .macro .symbol) (e .number) closed) (pick o [] (e .number ∷ since)) (textOf v) (v .state) (follow a o on again)
     unfolding follow ending pick
     follow-holds g (bad r w) o ea eo h = absurd (g r w ea)
     follow-holds g (good w) false ea eo h =
-        let c = nothing-changed (e .macro) t st k (walks g) w ea eo in
-        (w, refl, subst (λ (s : List ℕ). Passes ms closed (e .number ∷ since) s (w .state) (on w)) (sym (c .0)) (subst (λ (s : State). Passes ms closed (e .number ∷ since) t s (on w)) (sym (c .1)) (ons w h)))
-    follow-holds g (good w) true ea eo h = (w, refl, subst (λ (c : List ℕ). Passes ms c [] (textOf w) (w .state) (again w)) (closed-by e closed) (agains w h))
+        let c = nothing-changed (e .macro) t st k (walks g) w (ends-in k w .0 ea) eo in
+        (w, ends-in k w .0 ea, subst (λ (s : List ℕ). Passes ms closed (e .number ∷ since) s (w .state) (on w)) (sym (c .0)) (subst (λ (s : State). Passes ms closed (e .number ∷ since) t s (on w)) (sym (c .1)) (ons w h)))
+    follow-holds g (good w) true ea eo h = (w, ends-in k w .0 ea, subst (λ (c : List ℕ). Passes ms c [] (textOf w) (w .state) (again w)) (closed-by e closed) (agains w h))
 
     after-holds : NotRefused (afterPass (record { which = e; text = t; state = st; events = k }) on again)
         → Passes ms closed since t st (afterPass (record { which = e; text = t; state = st; events = k }) on again)
@@ -137,7 +143,7 @@ line-holds ms st budget t h = passes-hold ms _ [] [] (newestFirst [] ms) st t (t
 abbrev Empty : Table → List ℕ → List ℕ → List ℕ → State → Type 0
 Empty ms closed since t st = (i : ℕ) (m : Macro) → getElem? ms i ≡ some m → NotIn i closed → isIn i since ≡ true → Nowhere st m t
 
-empty-next : (ms : Table) (closed since : List ℕ) (t : List ℕ) (st : State) (x : Pass) → PassHolds ms closed since t st x → (v : Work) → outcome (x .events) ≡ good v
+empty-next : (ms : Table) (closed since : List ℕ) (t : List ℕ) (st : State) (x : Pass) → PassHolds ms closed since t st x → (v : Work) → EndsIn (x .events) v
     → Empty ms closed since t st → (o : Bool) → occurred (x .events) ≡ o
     → Empty ms (closedIf o (x .which .macro .symbol) (x .which .number) closed) (pick o [] (x .which .number ∷ since)) (textOf v) (v .state)
 unfolding pick isIn

@@ -17,7 +17,7 @@ use Rattle.lines.specs.Matching.{Division, Divides, Fewer, endOf}
 use Rattle.lines.specs.Tags.{TagsOf}
 use Rattle.lines.specs.Replacing.{Work, occur}
 use Rattle.lines.specs.Replacing.Done.{bad, good}
-use Rattle.lines.specs.Pass.{Occurrence, Walk, occurred, outcome}
+use Rattle.lines.specs.Pass.{Occurrence, Walk, occurred}
 use Rattle.lines.specs.Pass.Walk.{ended, occurs}
 use Rattle.lines.specs.Line.{Pass, Line, isControl, textOf, lineOf, passesOf, hadOccurrence, ending}
 use Rattle.lines.specs.Line.Ending.{refused, done, control}
@@ -124,10 +124,15 @@ closedAfter x closed = closedIf (occurred (x .events)) (x .which .macro .symbol)
 abbrev pub sinceAfter : Pass → List ℕ → List ℕ
 sinceAfter x since = pick (occurred (x .events)) [] (x .which .number ∷ since)
 
+-- the moment at the pass's end, after its last occurrence: replacement and commands act "on the state that the next occurrence sees" (01, part 4) [first_occurrence_ends]
+abbrev pub EndsIn : Walk → Work → Type 0
+EndsIn (ended d) v = d ≡ good v
+EndsIn (occurs o k) v = EndsIn k v
+
 abbrev pub Passes : Table → (closed since : List ℕ) → List ℕ → State → Line → Type 0
 -- a pass, and then the line from the text and the state that it makes
 Passes ms closed since t st (passed x l) =
-    PassHolds ms closed since t st x × ((v : Work) × (outcome (x .events) ≡ good v) × Passes ms (closedAfter x closed) (sinceAfter x since) (textOf v) (v .state) l)
+    PassHolds ms closed since t st x × ((v : Work) × EndsIn (x .events) v × Passes ms (closedAfter x closed) (sinceAfter x since) (textOf v) (v .state) l)
 -- "The line is done when every open macro has passed without one since the line's last occurrence" (01, part 6)
 Passes ms closed since t st (lineEnded (done s x)) = (s ≡ t) × (x ≡ st) × (isControl t ≡ false) × ((i : ℕ) (m : Macro) → Due ms closed since i m → ⊥)
 -- "a line beginning with `$` is a control line: no more passes" (01, part 6)
