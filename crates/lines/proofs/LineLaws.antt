@@ -18,10 +18,10 @@ use Rattle.lines.specs.Replacing.{Work, Done, onto}
 use Rattle.lines.specs.Replacing.Done.{bad, good}
 use Rattle.lines.specs.Pass.{Walk, ended, occurs, pass, occurred, outcome}
 use Rattle.lines.specs.Line.{Numbered, Pass, Line, passed, refused, done, control, isIn, newestFirst, closing, closedBy}
-use Rattle.lines.specs.Line.{isControl, due, follow, afterPass, textOf, passes, lineOf, ending}
+use Rattle.lines.specs.Line.{isControl, due, follow, afterPass, textOf, passes, lineOf, passesOf, ending}
 use Rattle.lines.specs.Line.{Line.ended as lineEnded}
-use Rattle.lines.specs.Demand.{Nowhere, Walks, Copied, NotIn, Due, EndsIn, PassHolds, closedIf, closedAfter, sinceAfter, Passes, closedIn}
-use Rattle.lines.proofs.PassLaws.{Good, pass-walks}
+use Rattle.lines.specs.Demand.{Nowhere, Walks, Copied, NotIn, Due, EndsIn, PassHolds, closedIf, closedAfter, sinceAfter, Passes, closedIn, passCount, endOfLine}
+use Rattle.lines.proofs.PassLaws.{ends-in, Good, pass-walks}
 use Rattle.lines.proofs.OpenLaws.{in-cons, not-in, Todo, todo-next, todo-all}
 
 -- the line is not refused
@@ -40,12 +40,6 @@ startOf st = record { out = []; size = 0; state = st }
 all-copied : (t : List ℕ) (st : State) (v : Work) → Copied (slice 0 (length t) t) (startOf st) v → (textOf v ≡ t) × (v .state ≡ st)
 unfolding textOf onto
 all-copied t st v h = (h .line ∙ take-length t, h .state)
-
--- the end of a pass, joined to the demand's own notion
-ends-in : (k : Walk) (v : Work) → (outcome k ≡ good v) ↔ EndsIn k v
-unfolding outcome
-ends-in (ended d) v = (λ e. e, λ e. e)
-ends-in (occurs o k) v = ends-in k v
 
 module _ (m : Macro) (t : List ℕ) (st : State) where
   passed-over : (k : Walk) → Walks m t 0 none (startOf st) k → (occurred k ≡ false) ↔ Nowhere st m t
@@ -176,3 +170,15 @@ module _ (ms : Table) (s : List ℕ) (z : State) (i : ℕ) (m : Macro) (at : get
       go false o = absurd (h .3 i m (at, f, not-in i since .0 o))
   left-nothing closed since t st (passed x l) h g e f =
       left-nothing (closedAfter x closed) (sinceAfter x since) (textOf (h .1 .0)) (h .1 .0 .state) l (h .1 .2) (empty-next ms closed since t st x (h .0) (h .1 .0) (h .1 .1) g (occurred (x .events)) refl) e f
+
+-- WHAT A LINE COMES TO, joined to the demand's own notions
+
+pub pass-count : (l : Line) → length (passesOf l) ≡ passCount l
+unfolding passesOf
+pass-count (lineEnded e) = refl
+pass-count (passed x l) = ap suc (pass-count l)
+
+pub end-of-line : (l : Line) → ending l ≡ endOfLine l
+unfolding ending
+end-of-line (lineEnded e) = refl
+end-of-line (passed x l) = end-of-line l

@@ -19,7 +19,7 @@ use Rattle.lines.specs.Replacing.{Work, occur}
 use Rattle.lines.specs.Replacing.Done.{bad, good}
 use Rattle.lines.specs.Pass.{Occurrence, Walk, occurred}
 use Rattle.lines.specs.Pass.Walk.{ended, occurs}
-use Rattle.lines.specs.Line.{Pass, Line, isControl, textOf, lineOf, passesOf, hadOccurrence, ending}
+use Rattle.lines.specs.Line.{Pass, Ending, Line, isControl, textOf, lineOf, hadOccurrence}
 use Rattle.lines.specs.Line.Ending.{refused, done, control}
 use Rattle.lines.specs.Line.{Line.ended as lineEnded, Line.passed as passed}
 use Rattle.lines.specs.Feeding.{orderOf, Kind, Answer, kindOfDone, Fed, feeds}
@@ -147,15 +147,25 @@ abbrev pub closedIn : List ℕ → Line → List ℕ
 closedIn closed (lineEnded e) = closed
 closedIn closed (passed x l) = closedIn (closedAfter x closed) l
 
+-- the number of its passes, those without an occurrence included: "Each pass costs one of the budget." (01, part 6)
+abbrev pub passCount : Line → ℕ
+passCount (lineEnded e) = 0
+passCount (passed x l) = suc (passCount l)
+
+-- its end, behind all its passes: "done", "a control line" (01, part 6), or refused
+abbrev pub endOfLine : Line → Ending
+endOfLine (lineEnded e) = e
+endOfLine (passed x l) = endOfLine l
+
 -- a line that is taken: its passes, and "the answer carries the number of passes" [passes_not_counted]
 pub record Taken (ms : Table) (st : State) (t : List ℕ) (l : Line) (a : Answer) : Type 0 where
   pub passes : Passes ms [] [] t st l
-  pub number : a .passes ≡ length (passesOf l)
+  pub number : a .passes ≡ passCount l
 
 -- one that goes out or is withheld, s its final text
 pub record Finished (ms : Table) (l : Line) (a : Answer) (s : List ℕ) : Type 0 where
   -- its passes end with that text and with the new state [taken_line_loses_state]
-  pub final : ending l ≡ done s (a .state)
+  pub final : endOfLine l ≡ done s (a .state)
   -- it is withheld or goes out by NFLAG, and by whether it had an occurrence (01, part 6)
   pub kind : a .kind ≡ kindOfDone (a .state .nflag) (hadOccurrence l) s
   -- the table stays
@@ -165,7 +175,7 @@ pub record Finished (ms : Table) (l : Line) (a : Answer) (s : List ℕ) : Type 0
 
 -- a control line: its final text and its last state give the order that makes the new table and state
 pub record Controlled (ms : Table) (l : Line) (a : Answer) (s : List ℕ) (x : State) : Type 0 where
-  pub final : ending l ≡ control s x
+  pub final : endOfLine l ≡ control s x
   pub ordered : orderOf ms x s ≡ orders (a .table) (a .state)
 
 abbrev pub ByKind : Table → State → List ℕ → Line → Answer → Kind → Type 0
