@@ -6,6 +6,7 @@ use mathlib.Core.List.{List, [], _∷_}
 use mathlib.Core.Option.{Option, none, some}
 use Prim.Native.Nat.{ℕ, zero, suc, _≤_}
 use native.Mathlib.Omega.{arith}
+use borrow.Author.Tests.{eqb-true, eq-eqb}
 use lib.ListN.{length, getElem?}
 use lib.Seq.{slice, take-length}
 use Rattle.macros.specs.Refusals.{WorkRefusal}
@@ -20,7 +21,7 @@ use Rattle.lines.specs.Pass.{Walk, ended, occurs, pass, occurred, outcom
 use Rattle.lines.specs.Line.{Numbered, Pass, Line, passed, refused, done, control, isIn, newestFirst, closing, closedBy}
 use Rattle.lines.specs.Line.{isControl, due, follow, afterPass, textOf, passes, lineOf, passesOf, ending}
 use Rattle.lines.specs.Line.{Line.ended as lineEnded}
-use Rattle.lines.specs.Demand.{Nowhere, Walks, Copied, NotIn, Due, EndsIn, PassHolds, closedIf, closedAfter, sinceAfter, Passes, closedIn, passCount, endOfLine}
+use Rattle.lines.specs.Demand.{Nowhere, Walks, Copied, NotIn, Due, Dollar, EndsIn, PassHolds, closedIf, closedAfter, sinceAfter, Passes, closedIn, passCount, endOfLine}
 use Rattle.lines.proofs.PassLaws.{ends-in, Good, pass-walks}
 use Rattle.lines.proofs.OpenLaws.{in-cons, not-in, Todo, todo-next, todo-all}
 
@@ -63,6 +64,15 @@ module _ (m : Macro) (t : List ℕ) (st : State) where
 
 -- THE PASSES
 
+-- control lines, joined to the demand's own notion
+dollar : (t : List ℕ) → (isControl t ≡ true) ↔ Dollar t
+unfolding isControl
+dollar [] = (λ e. false≢true e, λ h. absurd h)
+dollar (b ∷ bs) = (λ e. eqb-true b 36 e, λ e. eq-eqb b 36 e)
+
+no-dollar : (t : List ℕ) → isControl t ≡ false → Dollar t → ⊥
+no-dollar t e h = false≢true (sym e ∙ dollar t .1 h)
+
 -- what a pass with an occurrence closes
 closed-by : (e : Numbered) (closed : List ℕ) → closedBy e closed ≡ closedIf true (e .macro .symbol) (e .number) closed
 unfolding closedBy closing
@@ -77,8 +87,8 @@ module _ (ms : Table) (closed since : List ℕ) (st : State) (t : List ℕ) wher
       → ((e : Numbered) (es : List Numbered) → isControl t ≡ false → Todo (Due ms closed since) (e ∷ es) → NotRefused (next e es) → Passes ms closed since t st (next e es))
       → Passes ms closed since t st (due b t st todo next)
   unfolding due
-  due-holds true c todo next a k h = (refl, refl, c)
-  due-holds false c [] next a k h = (refl, refl, c, a)
+  due-holds true c todo next a k h = (refl, refl, dollar t .0 c)
+  due-holds false c [] next a k h = (refl, refl, no-dollar t c, a)
   due-holds false c (e ∷ es) next a k h = h e es c a k
 
   -- what follows a pass of the macro e whose events are k
@@ -104,7 +114,7 @@ module _ (ms : Table) (closed since : List ℕ) (st : State) (t : List ℕ) wher
     unfolding afterPass ending
     after-holds h =
         let g : Good k = follow-good h in (
-          record { text = refl; state = refl; plain = plain; due = d; newest = newest; passedOver = passed-over (e .macro) t st k (walks g); walks = walks g },
+          record { text = refl; state = refl; plain = no-dollar t plain; due = d; newest = newest; passedOver = passed-over (e .macro) t st k (walks g); walks = walks g },
           follow-holds g (outcome k) (occurred k) refl refl h,
         )
 

@@ -19,7 +19,7 @@ use Rattle.lines.specs.Replacing.{Work, occur}
 use Rattle.lines.specs.Replacing.Done.{bad, good}
 use Rattle.lines.specs.Pass.{Occurrence, Walk, occurred}
 use Rattle.lines.specs.Pass.Walk.{ended, occurs}
-use Rattle.lines.specs.Line.{Pass, Ending, Line, isControl, textOf, lineOf, hadOccurrence}
+use Rattle.lines.specs.Line.{Pass, Ending, Line, textOf, lineOf, hadOccurrence}
 use Rattle.lines.specs.Line.Ending.{refused, done, control}
 use Rattle.lines.specs.Line.{Line.ended as lineEnded, Line.passed as passed}
 use Rattle.lines.specs.Feeding.{orderOf, Kind, Answer, kindOfDone, Fed, feeds}
@@ -97,12 +97,17 @@ NotIn i (k ∷ ks) = (i ≡ k → ⊥) × NotIn i ks
 abbrev pub Due : Table → List ℕ → List ℕ → ℕ → Macro → Type 0
 Due ms closed since i m = (getElem? ms i ≡ some m) × NotIn i closed × NotIn i since
 
+-- "a line beginning with `$`" (01, part 6), byte 36
+abbrev pub Dollar : List ℕ → Type 0
+Dollar [] = ⊥
+Dollar (b ∷ bs) = b ≡ 36
+
 pub record PassHolds (ms : Table) (closed since : List ℕ) (t : List ℕ) (st : State) (x : Pass) : Type 0 where
   -- it begins with the text and the state that the last pass made
   pub text : x .text ≡ t
   pub state : x .state ≡ st
   -- a control line has "no more passes" (01, part 6) [control_passes]
-  pub plain : isControl t ≡ false
+  pub plain : Dollar t → ⊥
   -- "an open macro", the newest one whose pass is due (01, part 6) [oldest_first, no_restart]
   pub due : Due ms closed since (x .which .number) (x .which .macro)
   pub newest : (i : ℕ) (m : Macro) → Due ms closed since i m → i ≤ x .which .number
@@ -134,9 +139,9 @@ abbrev pub Passes : Table → (closed since : List ℕ) → List ℕ → State �
 Passes ms closed since t st (passed x l) =
     PassHolds ms closed since t st x × ((v : Work) × EndsIn (x .events) v × Passes ms (closedAfter x closed) (sinceAfter x since) (textOf v) (v .state) l)
 -- "The line is done when every open macro has passed without one since the line's last occurrence" (01, part 6)
-Passes ms closed since t st (lineEnded (done s x)) = (s ≡ t) × (x ≡ st) × (isControl t ≡ false) × ((i : ℕ) (m : Macro) → Due ms closed since i m → ⊥)
+Passes ms closed since t st (lineEnded (done s x)) = (s ≡ t) × (x ≡ st) × (Dollar t → ⊥) × ((i : ℕ) (m : Macro) → Due ms closed since i m → ⊥)
 -- "a line beginning with `$` is a control line: no more passes" (01, part 6)
-Passes ms closed since t st (lineEnded (control s x)) = (s ≡ t) × (x ≡ st) × (isControl t ≡ true)
+Passes ms closed since t st (lineEnded (control s x)) = (s ≡ t) × (x ≡ st) × Dollar t
 -- a taken line's passes are not refused
 Passes ms closed since t st (lineEnded (refused r)) = ⊥
 
