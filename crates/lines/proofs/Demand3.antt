@@ -11,7 +11,7 @@ use Rattle.lines.specs.State.{State, fresh}
 use Rattle.lines.specs.Line.{Ending, Line, refused, done, control, isIn, passesOf, hadOccurrence, ending, lineOf}
 use Rattle.lines.specs.Feeding.{Order, wrong, orders, orderOf, Answer, kindOfDone, refusal, ofOrder, answered, answer, feed, Fed, feeds}
 use Rattle.lines.specs.Demand.{Taken, Finished, ByKind, Lines, Demand3}
-use Rattle.lines.proofs.LineLaws.{NotRefused, line-holds, left-nothing, pass-count, end-of-line}
+use Rattle.lines.proofs.LineLaws.{NotRefused, line-holds, left-nothing, pass-count, end-of-line, kind-of-done}
 use Rattle.lines.proofs.FeedLaws.{feed-cases}
 
 done-kept : (e : Ending) (s : List ℕ) (z : State) → e ≡ done s z → (r : WorkRefusal) → e ≡ refused r → ⊥
@@ -37,7 +37,7 @@ module _ (ms : Table) (st : State) (budget : ℕ) (t : List ℕ) where
   finished s z e =
       record {
         final = sym (end-of-line history) ∙ e;
-        kind = refl;
+        kind = kind-of-done history s z (z .nflag) (hadOccurrence history) refl refl;
         table = refl;
         nothingLeft = λ i m at f. left-nothing ms s z i m at [] [] t st history (line-holds ms st budget t (done-kept (ending history) s z e)) (λ j k b c d. absurd (false≢true d)) e f;
       }

@@ -1,6 +1,6 @@
 -- The passes of a line that is not refused do what demand 3 says of them, and leave no open macro with a division at its end.
 use mathlib.Core.Path.{_≡_, refl, sym, ap, _∙_, subst}
-use mathlib.Core.Bool.{Bool, true, false, false≢true}
+use mathlib.Core.Bool.{Bool, true, false, _||_, false≢true}
 use mathlib.Core.Logic.{_⊎_, inl, inr, _↔_}
 use mathlib.Core.List.{List, [], _∷_}
 use mathlib.Core.Option.{Option, none, some}
@@ -19,9 +19,10 @@ use Rattle.lines.specs.Replacing.{Work, Done, onto}
 use Rattle.lines.specs.Replacing.Done.{bad, good}
 use Rattle.lines.specs.Pass.{Walk, ended, occurs, pass, occurred, outcome}
 use Rattle.lines.specs.Line.{Numbered, Pass, Line, passed, refused, done, control, isIn, newestFirst, closing, closedBy}
-use Rattle.lines.specs.Line.{isControl, due, follow, afterPass, textOf, passes, lineOf, passesOf, ending}
+use Rattle.lines.specs.Line.{isControl, due, follow, afterPass, textOf, passes, lineOf, passesOf, hadOccurrence, ending}
 use Rattle.lines.specs.Line.{Line.ended as lineEnded}
-use Rattle.lines.specs.Demand.{Nowhere, Walks, Copied, NotIn, Due, Dollar, EndsIn, PassHolds, closedIf, closedAfter, sinceAfter, Passes, closedIn, passCount, endOfLine}
+use Rattle.lines.specs.Feeding.{withheld, out, kindOfDone}
+use Rattle.lines.specs.Demand.{Nowhere, Walks, Copied, NotIn, Due, Dollar, EndsIn, PassHolds, closedIf, closedAfter, sinceAfter, Passes, closedIn, passCount, endOfLine, NoOccurrence, Withholds}
 use Rattle.lines.proofs.PassLaws.{ends-in, Good, pass-walks}
 use Rattle.lines.proofs.OpenLaws.{in-cons, not-in, Todo, todo-next, todo-all}
 
@@ -192,3 +193,21 @@ pub end-of-line : (l : Line) → ending l ≡ endOfLine l
 unfolding ending
 end-of-line (lineEnded e) = refl
 end-of-line (passed x l) = end-of-line l
+
+or-false : (a b : Bool) → (a || b ≡ false) ↔ ((a ≡ false) × (b ≡ false))
+or-false true b = (λ e. absurd (false≢true (sym e)), λ h. absurd (false≢true (sym (h .0))))
+or-false false b = (λ e. (refl, e), λ h. h .1)
+
+no-occurrence : (l : Line) → (hadOccurrence l ≡ false) ↔ NoOccurrence l
+unfolding hadOccurrence
+no-occurrence (lineEnded e) = (λ e. tt, λ h. refl)
+no-occurrence (passed x l) =
+    let y = or-false (occurred (x .events)) (hadOccurrence l) in
+    (λ e. (y .0 e .0, no-occurrence l .0 (y .0 e .1)), λ h. y .1 (h .0, no-occurrence l .1 (h .1)))
+
+pub kind-of-done : (l : Line) (s : List ℕ) (st : State) (f : ℕ) (o : Bool) → st .nflag ≡ f → hadOccurrence l ≡ o
+    → (Withholds st l × (kindOfDone f o s ≡ withheld)) ⊎ ((Withholds st l → ⊥) × (kindOfDone f o s ≡ out s))
+unfolding kindOfDone
+kind-of-done l s st zero o e g = inr (λ h. h .0 e, refl)
+kind-of-done l s st (suc f) true e g = inr (λ h. false≢true (sym (no-occurrence l .1 (h .1)) ∙ g), refl)
+kind-of-done l s st (suc f) false e g = inl ((λ z. absurd (omega (arith, e, z)), no-occurrence l .0 g), refl)

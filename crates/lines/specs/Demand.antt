@@ -19,10 +19,10 @@ use Rattle.lines.specs.Replacing.{Work, occur}
 use Rattle.lines.specs.Replacing.Done.{bad, good}
 use Rattle.lines.specs.Pass.{Occurrence, Walk, occurred}
 use Rattle.lines.specs.Pass.Walk.{ended, occurs}
-use Rattle.lines.specs.Line.{Pass, Ending, Line, textOf, lineOf, hadOccurrence}
+use Rattle.lines.specs.Line.{Pass, Ending, Line, textOf, lineOf}
 use Rattle.lines.specs.Line.Ending.{refused, done, control}
 use Rattle.lines.specs.Line.{Line.ended as lineEnded, Line.passed as passed}
-use Rattle.lines.specs.Feeding.{orderOf, Kind, Answer, kindOfDone, Fed, feeds}
+use Rattle.lines.specs.Feeding.{orderOf, Kind, Answer, Fed, feeds}
 use Rattle.lines.specs.Feeding.Order.{orders}
 use Rattle.lines.specs.Feeding.Kind.{refusedWith, out, withheld, controlled}
 
@@ -162,6 +162,15 @@ abbrev pub endOfLine : Line → Ending
 endOfLine (lineEnded e) = e
 endOfLine (passed x l) = endOfLine l
 
+-- no pass of it had an occurrence
+abbrev pub NoOccurrence : Line → Type 0
+NoOccurrence (lineEnded e) = Unit {0}
+NoOccurrence (passed x l) = (occurred (x .events) ≡ false) × NoOccurrence l
+
+-- it is to be "withheld if NFLAG is 1 and it had no occurrence" (01, part 6); NFLAG is 0 or 1 by InRange of State
+abbrev pub Withholds : State → Line → Type 0
+Withholds st l = (st .nflag ≡ 0 → ⊥) × NoOccurrence l
+
 -- a line that is taken: its passes, and "the answer carries the number of passes" [passes_not_counted]
 pub record Taken (ms : Table) (st : State) (t : List ℕ) (l : Line) (a : Answer) : Type 0 where
   pub passes : Passes ms [] [] t st l
@@ -171,8 +180,8 @@ pub record Taken (ms : Table) (st : State) (t : List ℕ) (l : Line) (a : Answer
 pub record Finished (ms : Table) (l : Line) (a : Answer) (s : List ℕ) : Type 0 where
   -- its passes end with that text and with the new state [taken_line_loses_state]
   pub final : endOfLine l ≡ done s (a .state)
-  -- it is withheld or goes out by NFLAG, and by whether it had an occurrence (01, part 6)
-  pub kind : a .kind ≡ kindOfDone (a .state .nflag) (hadOccurrence l) s
+  -- it is withheld by that rule; "otherwise it goes out" (01, part 6), with its final text
+  pub kind : (Withholds (a .state) l × (a .kind ≡ withheld)) ⊎ ((Withholds (a .state) l → ⊥) × (a .kind ≡ out s))
   -- the table stays
   pub table : a .table ≡ ms
   -- "no macro still open to it has a division at any place of its final text" [no_restart, early_end]
