@@ -15,14 +15,15 @@ use Rattle.macros.specs.Macro.{Symbol, Macro, Table, pick}
 use Rattle.macros.specs.Macro.Symbol.{equal, less}
 use Rattle.lines.specs.State.{State}
 use Rattle.lines.specs.Matching.{Divides}
-use Rattle.lines.specs.Replacing.{Work, Done, onto}
+use Rattle.lines.specs.Replacing.{Work, Done}
 use Rattle.lines.specs.Replacing.Done.{bad, good}
 use Rattle.lines.specs.Pass.{Walk, ended, occurs, pass, occurred, outcome}
 use Rattle.lines.specs.Line.{Numbered, Pass, Line, passed, refused, done, control, isIn, newestFirst, closing, closedBy}
 use Rattle.lines.specs.Line.{isControl, due, follow, afterPass, textOf, passes, lineOf, passesOf, hadOccurrence, ending}
 use Rattle.lines.specs.Line.{Line.ended as lineEnded}
 use Rattle.lines.specs.Feeding.{withheld, out, kindOfDone}
-use Rattle.lines.specs.Demand.{Nowhere, Walks, Copied, NotIn, Due, Dollar, EndsIn, PassHolds, closedIf, closedAfter, sinceAfter, Passes, closedIn, passCount, endOfLine, NoOccurrence, Withholds}
+use Rattle.lines.specs.Demand.{Nowhere, Walks, newLine, Copied, NotIn, Due, Dollar, EndsIn, PassHolds, closedIf, closedAfter, sinceAfter, Passes, closedIn, passCount, endOfLine, NoOccurrence, Withholds}
+use Rattle.lines.proofs.CopiedLaws.{text-of}
 use Rattle.lines.proofs.PassLaws.{ends-in, Good, pass-walks}
 use Rattle.lines.proofs.OpenLaws.{in-cons, not-in, Todo, todo-next, todo-all}
 
@@ -39,8 +40,7 @@ abbrev startOf : State → Work
 startOf st = record { out = []; size = 0; state = st }
 
 -- the whole text copied is the text
-all-copied : (t : List ℕ) (st : State) (v : Work) → Copied (slice 0 (length t) t) (startOf st) v → (textOf v ≡ t) × (v .state ≡ st)
-unfolding textOf onto
+all-copied : (t : List ℕ) (st : State) (v : Work) → Copied (slice 0 (length t) t) (startOf st) v → (newLine v ≡ t) × (v .state ≡ st)
 all-copied t st v h = (h .line ∙ take-length t, h .state)
 
 module _ (m : Macro) (t : List ℕ) (st : State) where
@@ -57,7 +57,7 @@ module _ (m : Macro) (t : List ℕ) (st : State) where
   )
 
   -- a pass without an occurrence leaves text and state as they were
-  nothing-changed : (k : Walk) → Walks m t 0 none (startOf st) k → (v : Work) → EndsIn k v → occurred k ≡ false → (textOf v ≡ t) × (v .state ≡ st)
+  nothing-changed : (k : Walk) → Walks m t 0 none (startOf st) k → (v : Work) → EndsIn k v → occurred k ≡ false → (newLine v ≡ t) × (v .state ≡ st)
   unfolding occurred
   nothing-changed (ended (bad r w)) h v e f = absurd h
   nothing-changed (ended (good x)) h v e f = all-copied t st v (subst (λ (y : Work). Copied (slice 0 (length t) t) (startOf st) y) (let z : x ≡ v = cc in z) (h .0))
@@ -102,13 +102,18 @@ module _ (ms : Table) (closed since : List ℕ) (st : State) (t : List ℕ) wher
     follow-good h r v z = h r (ap (λ (a : Done). ending (follow a (occurred k) on again)) z)
 
     follow-holds : Good k → (a : Done) (o : Bool) → outcome k ≡ a → occurred k ≡ o → NotRefused (follow a o on again)
-        → (v : Work) × EndsIn k v × Passes ms (closedIf o (e .macro .symbol) (e .number) closed) (pick o [] (e .number ∷ since)) (textOf v) (v .state) (follow a o on again)
+        → (v : Work) × EndsIn k v × Passes ms (closedIf o (e .macro .symbol) (e .number) closed) (pick o [] (e .number ∷ since)) (newLine v) (v .state) (follow a o on again)
     unfolding follow ending pick
     follow-holds g (bad r w) o ea eo h = absurd (g r w ea)
     follow-holds g (good w) false ea eo h =
         let c = nothing-changed (e .macro) t st k (walks g) w (ends-in k w .0 ea) eo in
         (w, ends-in k w .0 ea, subst (λ (s : List ℕ). Passes ms closed (e .number ∷ since) s (w .state) (on w)) (sym (c .0)) (subst (λ (s : State). Passes ms closed (e .number ∷ since) t s (on w)) (sym (c .1)) (ons w h)))
-    follow-holds g (good w) true ea eo h = (w, ends-in k w .0 ea, subst (λ (c : List ℕ). Passes ms c [] (textOf w) (w .state) (again w)) (closed-by e closed) (agains w h))
+    follow-holds g (good w) true ea eo h = (
+      w,
+      ends-in k w .0 ea,
+      subst (λ (c : List ℕ). Passes ms c [] (newLine w) (w .state) (again w)) (closed-by e closed)
+          (subst (λ (s : List ℕ). Passes ms (closedBy e closed) [] s (w .state) (again w)) (text-of w) (agains w h)),
+    )
 
     after-holds : NotRefused (afterPass (record { which = e; text = t; state = st; events = k }) on again)
         → Passes ms closed since t st (afterPass (record { which = e; text = t; state = st; events = k }) on again)
@@ -150,7 +155,7 @@ Empty ms closed since t st = (i : ℕ) (m : Macro) → getElem? ms i ≡ some m 
 
 empty-next : (ms : Table) (closed since : List ℕ) (t : List ℕ) (st : State) (x : Pass) → PassHolds ms closed since t st x → (v : Work) → EndsIn (x .events) v
     → Empty ms closed since t st → (o : Bool) → occurred (x .events) ≡ o
-    → Empty ms (closedIf o (x .which .macro .symbol) (x .which .number) closed) (pick o [] (x .which .number ∷ since)) (textOf v) (v .state)
+    → Empty ms (closedIf o (x .which .macro .symbol) (x .which .number) closed) (pick o [] (x .which .number ∷ since)) (newLine v) (v .state)
 unfolding pick isIn
 empty-next ms closed since t st x h v e g true o i m at f s = absurd (false≢true s)
 empty-next ms closed since t st x h v e g false o i m at f s =
@@ -180,7 +185,7 @@ module _ (ms : Table) (s : List ℕ) (z : State) (i : ℕ) (m : Macro) (at : get
       go true o = g i m at f o
       go false o = absurd (h .3 i m (at, f, not-in i since .0 o))
   left-nothing closed since t st (passed x l) h g e f =
-      left-nothing (closedAfter x closed) (sinceAfter x since) (textOf (h .1 .0)) (h .1 .0 .state) l (h .1 .2) (empty-next ms closed since t st x (h .0) (h .1 .0) (h .1 .1) g (occurred (x .events)) refl) e f
+      left-nothing (closedAfter x closed) (sinceAfter x since) (newLine (h .1 .0)) (h .1 .0 .state) l (h .1 .2) (empty-next ms closed since t st x (h .0) (h .1 .0) (h .1 .1) g (occurred (x .events)) refl) e f
 
 -- WHAT A LINE COMES TO, joined to the demand's own notions
 

@@ -4,7 +4,7 @@ use mathlib.Core.Path.{_≡_}
 use Prim.Native.Nat.{ℕ, suc, _≤_, _<_}
 use mathlib.Core.Bool.{Bool, true, false}
 use mathlib.Core.Logic.{_⊎_, _↔_}
-use mathlib.Core.List.{List, [], _∷_, _++_}
+use mathlib.Core.List.{List, [], _∷_, _++_, reverse}
 use mathlib.Core.Option.{Option, none, some}
 use lib.Dec.{eqb}
 use lib.ListN.{length, getElem?}
@@ -19,7 +19,7 @@ use Rattle.lines.specs.Replacing.{Work, occur}
 use Rattle.lines.specs.Replacing.Done.{bad, good}
 use Rattle.lines.specs.Pass.{Occurrence, Walk, occurred}
 use Rattle.lines.specs.Pass.Walk.{ended, occurs}
-use Rattle.lines.specs.Line.{Pass, Ending, Line, textOf, lineOf}
+use Rattle.lines.specs.Line.{Pass, Ending, Line, lineOf}
 use Rattle.lines.specs.Line.Ending.{refused, done, control}
 use Rattle.lines.specs.Line.{Line.ended as lineEnded, Line.passed as passed}
 use Rattle.lines.specs.Feeding.{orderOf, Kind, Answer, Fed, feeds}
@@ -71,9 +71,13 @@ abbrev pub behind : Option ℕ → ℕ
 behind none = 0
 behind (some q) = q
 
+-- the new line so far: out has its last byte first
+abbrev pub newLine : Work → List ℕ
+newLine w = reverse (w .out)
+
 -- from the moment w to the moment v the bytes s are copied: the new line grows by them, and the state stays
 pub record Copied (s : List ℕ) (w v : Work) : Type 0 where
-  pub line : textOf v ≡ textOf w ++ s
+  pub line : newLine v ≡ newLine w ++ s
   pub state : v .state ≡ w .state
 
 -- the pass from the moment w on
@@ -137,7 +141,7 @@ EndsIn (occurs o k) v = EndsIn k v
 abbrev pub Passes : Table → (closed since : List ℕ) → List ℕ → State → Line → Type 0
 -- a pass, and then the line from the text and the state that it makes
 Passes ms closed since t st (passed x l) =
-    PassHolds ms closed since t st x × ((v : Work) × EndsIn (x .events) v × Passes ms (closedAfter x closed) (sinceAfter x since) (textOf v) (v .state) l)
+    PassHolds ms closed since t st x × ((v : Work) × EndsIn (x .events) v × Passes ms (closedAfter x closed) (sinceAfter x since) (newLine v) (v .state) l)
 -- "The line is done when every open macro has passed without one since the line's last occurrence" (01, part 6)
 Passes ms closed since t st (lineEnded (done s x)) = (s ≡ t) × (x ≡ st) × (Dollar t → ⊥) × ((i : ℕ) (m : Macro) → Due ms closed since i m → ⊥)
 -- "a line beginning with `$` is a control line: no more passes" (01, part 6)
