@@ -22,7 +22,8 @@ use Rattle.lines.specs.Line.{Numbered, Pass, Line, passed, refused, done
 use Rattle.lines.specs.Line.{isControl, due, follow, afterPass, textOf, passes, lineOf, passesOf, hadOccurrence, ending}
 use Rattle.lines.specs.Line.{Line.ended as lineEnded}
 use Rattle.lines.specs.Feeding.{withheld, out, kindOfDone}
-use Rattle.lines.specs.Demand.{Nowhere, Walks, newLine, Copied, NotIn, Due, Dollar, EndsIn, PassHolds, closedIf, closedAfter, sinceAfter, Passes, closedIn, passCount, endOfLine, NoOccurrence, Withholds}
+use Rattle.lines.specs.Demand.{Nowhere, Walks, newLine, Copied, NotIn, Due, Dollar, EndsIn}
+use Rattle.lines.specs.Demand.{PassHolds, closedIf, closedAfter, sinceAfter, Passes, closedIn, passCount, endOfLine, NoOccurrence, Withholds}
 use Rattle.lines.proofs.CopiedLaws.{text-of}
 use Rattle.lines.proofs.PassLaws.{ends-in, Good, pass-walks}
 use Rattle.lines.proofs.OpenLaws.{in-cons, not-in, Todo, todo-next, todo-all}

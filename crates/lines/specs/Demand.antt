@@ -71,7 +71,7 @@ abbrev pub behind : Option ℕ → ℕ
 behind none = 0
 behind (some q) = q
 
--- the new line so far: out has its last byte first
+-- "the new line" (01, part 4) so far; out has its last byte first
 abbrev pub newLine : Work → List ℕ
 newLine w = reverse (w .out)
 
@@ -133,7 +133,7 @@ closedAfter x closed = closedIf (occurred (x .events)) (x .which .macro .symbol)
 abbrev pub sinceAfter : Pass → List ℕ → List ℕ
 sinceAfter x since = pick (occurred (x .events)) [] (x .which .number ∷ since)
 
--- the moment at the pass's end, after its last occurrence: replacement and commands act "on the state that the next occurrence sees" (01, part 4) [first_occurrence_ends]
+-- the moment in which the pass ends, after all its occurrences: each acts "on the state that the next occurrence sees" (01, part 4) [first_occurrence_ends]
 abbrev pub EndsIn : Walk → Work → Type 0
 EndsIn (ended d) v = d ≡ good v
 EndsIn (occurs o k) v = EndsIn k v
@@ -184,7 +184,7 @@ pub record Taken (ms : Table) (st : State) (t : List ℕ) (l : Line) (a : Answer
 pub record Finished (ms : Table) (l : Line) (a : Answer) (s : List ℕ) : Type 0 where
   -- its passes end with that text and with the new state [taken_line_loses_state]
   pub final : endOfLine l ≡ done s (a .state)
-  -- it is withheld by that rule; "otherwise it goes out" (01, part 6), with its final text
+  -- it is withheld by that rule; "otherwise it goes out" (01, part 6), with that text
   pub kind : (Withholds (a .state) l × (a .kind ≡ withheld)) ⊎ ((Withholds (a .state) l → ⊥) × (a .kind ≡ out s))
   -- the table stays
   pub table : a .table ≡ ms
