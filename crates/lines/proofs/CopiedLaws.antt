@@ -49,6 +49,9 @@ put-copied b w v h =
     let e = unless-good (ltb (w .size) mostLineBytes) newLineTooLong w (record { out = b ∷ w .out; size = suc (w .size); state = w .state }) v h in
     record { line = ap newLine e ∙ reverse-onto (w .out) (b ∷ []); state = ap (λ (y : Work). y .state) e }
 
+pub put-text : (b : ℕ) (w v : Work) → put b w ≡ good v → textOf v ≡ textOf w ++ (b ∷ [])
+put-text b w v h = text-of v ∙ put-copied b w v h .line ∙ ap (λ (s : List ℕ). s ++ (b ∷ [])) (sym (text-of w))
+
 -- the byte b at place p of the line t
 module _ (t : List ℕ) (p b : ℕ) (bs : List ℕ) (e : b ∷ bs ≡ drop p t) where
   pub byte-inside : p < length t
