@@ -1,7 +1,7 @@
 -- Copied bytes: copying composes, one byte at a time over the line.
 use mathlib.Core.Path.{_≡_, refl, sym, ap, _∙_, subst}
 use mathlib.Core.Bool.{Bool, true, false}
-use mathlib.Core.List.{List, [], _∷_, _++_, append-nil, append-assoc}
+use mathlib.Core.List.{List, [], _∷_, _++_, reverse, reverseAux, append-nil, append-assoc}
 use Prim.Native.Nat.{ℕ, suc, _-_, _≤_, _<_}
 use native.Mathlib.Omega.{arith}
 use lib.Dec.{ltb}
@@ -13,21 +13,30 @@ use Rattle.macros.specs.Refusals.WorkRefusal.{newLineTooLong}
 use Rattle.lines.specs.Replacing.{Work, unless, onto, put}
 use Rattle.lines.specs.Replacing.Done.{good}
 use Rattle.lines.specs.Line.{textOf}
-use Rattle.lines.specs.Demand.{Copied}
+use Rattle.lines.specs.Demand.{newLine, Copied}
 
-onto-nil : (l o : List ℕ) → onto l o ≡ onto l [] ++ o
+reverse-onto : (l o : List ℕ) → reverseAux l o ≡ reverse l ++ o
+reverse-onto [] o = refl
+reverse-onto (b ∷ l) o = reverse-onto l (b ∷ o) ∙ sym (append-assoc (reverse l) (b ∷ []) o) ∙ ap (λ (x : List ℕ). x ++ o) (sym (reverse-onto l (b ∷ [])))
+
+onto-reverse : (l o : List ℕ) → onto l o ≡ reverseAux l o
 unfolding onto
-onto-nil [] o = refl
-onto-nil (b ∷ l) o = onto-nil l (b ∷ o) ∙ sym (append-assoc (onto l []) (b ∷ []) o) ∙ ap (λ (x : List ℕ). x ++ o) (sym (onto-nil l (b ∷ [])))
+onto-reverse [] o = refl
+onto-reverse (b ∷ l) o = onto-reverse l (b ∷ o)
+
+-- the text that a pass made, joined to the demand's own notion
+pub text-of : (w : Work) → textOf w ≡ newLine w
+unfolding textOf
+text-of w = onto-reverse (w .out) []
 
 -- nothing is copied between a place and itself
 pub copied-none : (t : List ℕ) (p q : ℕ) (w : Work) → q ≡ p → Copied (slice q p t) w w
 copied-none t p q w e =
-    subst (λ (s : List ℕ). Copied s w w) (sym (slice-empty p t) ∙ ap (λ (j : ℕ). slice j p t) (sym e)) (record { line = sym (append-nil (textOf w)); state = refl })
+    subst (λ (s : List ℕ). Copied s w w) (sym (slice-empty p t) ∙ ap (λ (j : ℕ). slice j p t) (sym e)) (record { line = sym (append-nil (newLine w)); state = refl })
 
 pub copied-append : (l m : List ℕ) (w v x : Work) → Copied l w v → Copied m v x → Copied (l ++ m) w x
 copied-append l m w v x h g =
-    record { line = g .line ∙ ap (λ (s : List ℕ). s ++ m) (h .line) ∙ append-assoc (textOf w) l m; state = g .state ∙ h .state }
+    record { line = g .line ∙ ap (λ (s : List ℕ). s ++ m) (h .line) ∙ append-assoc (newLine w) l m; state = g .state ∙ h .state }
 
 unless-good : (b : Bool) (r : WorkRefusal) (w x v : Work) → unless b r w x ≡ good v → v ≡ x
 unfolding unless
@@ -35,10 +44,13 @@ unless-good true r w x v e = cc
 unless-good false r w x v e = absurd (let z : _≡_ {A = ℕ} 0 1 = cc in omega arith)
 
 pub put-copied : (b : ℕ) (w v : Work) → put b w ≡ good v → Copied (b ∷ []) w v
-unfolding put textOf onto
+unfolding put
 put-copied b w v h =
     let e = unless-good (ltb (w .size) mostLineBytes) newLineTooLong w (record { out = b ∷ w .out; size = suc (w .size); state = w .state }) v h in
-    record { line = ap (λ (y : Work). onto (y .out) []) e ∙ onto-nil (w .out) (b ∷ []); state = ap (λ (y : Work). y .state) e }
+    record { line = ap newLine e ∙ reverse-onto (w .out) (b ∷ []); state = ap (λ (y : Work). y .state) e }
+
+pub put-text : (b : ℕ) (w v : Work) → put b w ≡ good v → textOf v ≡ textOf w ++ (b ∷ [])
+put-text b w v h = text-of v ∙ put-copied b w v h .line ∙ ap (λ (s : List ℕ). s ++ (b ∷ [])) (sym (text-of w))
 
 -- the byte b at place p of the line t
 module _ (t : List ℕ) (p b : ℕ) (bs : List ℕ) (e : b ∷ bs ≡ drop p t) where

@@ -1,5 +1,5 @@
 -- Demand 3, proved.
-use mathlib.Core.Path.{_≡_, refl}
+use mathlib.Core.Path.{_≡_, refl, sym, _∙_}
 use mathlib.Core.Bool.{Bool, true, false, false≢true}
 use mathlib.Core.List.{List, [], _∷_}
 use Prim.Native.Nat.{ℕ, zero, suc}
@@ -11,7 +11,7 @@ use Rattle.lines.specs.State.{State, fresh}
 use Rattle.lines.specs.Line.{Ending, Line, refused, done, control, isIn, passesOf, hadOccurrence, ending, lineOf}
 use Rattle.lines.specs.Feeding.{Order, wrong, orders, orderOf, Answer, kindOfDone, refusal, ofOrder, answered, answer, feed, Fed, feeds}
 use Rattle.lines.specs.Demand.{Taken, Finished, ByKind, Lines, Demand3}
-use Rattle.lines.proofs.LineLaws.{NotRefused, line-holds, left-nothing}
+use Rattle.lines.proofs.LineLaws.{NotRefused, line-holds, left-nothing, pass-count, end-of-line, kind-of-done}
 use Rattle.lines.proofs.FeedLaws.{feed-cases}
 
 done-kept : (e : Ending) (s : List ℕ) (z : State) → e ≡ done s z → (r : WorkRefusal) → e ≡ refused r → ⊥
@@ -29,15 +29,15 @@ module _ (ms : Table) (st : State) (budget : ℕ) (t : List ℕ) where
   count = length (passesOf history)
 
   taken : (a : Answer) → a .passes ≡ count → NotRefused history → Taken ms st t history a
-  taken a n k = record { passes = line-holds ms st budget t k; number = n }
+  taken a n k = record { passes = line-holds ms st budget t k; number = n ∙ pass-count history }
 
   finished : (s : List ℕ) (z : State) → ending history ≡ done s z
       → Finished ms history (record { kind = kindOfDone (z .nflag) (hadOccurrence history) s; passes = count; table = ms; state = z }) s
   unfolding isIn
   finished s z e =
       record {
-        final = e;
-        kind = refl;
+        final = sym (end-of-line history) ∙ e;
+        kind = kind-of-done history s z (z .nflag) (hadOccurrence history) refl refl;
         table = refl;
         nothingLeft = λ i m at f. left-nothing ms s z i m at [] [] t st history (line-holds ms st budget t (done-kept (ending history) s z e)) (λ j k b c d. absurd (false≢true d)) e f;
       }
@@ -53,7 +53,7 @@ module _ (ms : Table) (st : State) (budget : ℕ) (t : List ℕ) where
       → ByKind ms st t history (ofOrder ms st count x) (ofOrder ms st count x .kind)
   unfolding ofOrder refusal
   control-holds s z e (wrong r) g = (refl, refl)
-  control-holds s z e (orders ks y) g = (taken _ refl (control-kept (ending history) s z e), (s, z, record { final = e; ordered = g }))
+  control-holds s z e (orders ks y) g = (taken _ refl (control-kept (ending history) s z e), (s, z, record { final = sym (end-of-line history) ∙ e; ordered = g }))
 
   ending-holds : (e : Ending) → ending history ≡ e
       → ByKind ms st t history (answered ms st count (hadOccurrence history) e) (answered ms st count (hadOccurrence history) e .kind)

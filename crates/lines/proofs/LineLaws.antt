@@ -1,11 +1,12 @@
 -- The passes of a line that is not refused do what demand 3 says of them, and leave no open macro with a division at its end.
 use mathlib.Core.Path.{_≡_, refl, sym, ap, _∙_, subst}
-use mathlib.Core.Bool.{Bool, true, false, false≢true}
+use mathlib.Core.Bool.{Bool, true, false, _||_, false≢true}
 use mathlib.Core.Logic.{_⊎_, inl, inr, _↔_}
 use mathlib.Core.List.{List, [], _∷_}
 use mathlib.Core.Option.{Option, none, some}
 use Prim.Native.Nat.{ℕ, zero, suc, _≤_}
 use native.Mathlib.Omega.{arith}
+use borrow.Author.Tests.{eqb-true, eq-eqb}
 use lib.ListN.{length, getElem?}
 use lib.Seq.{slice, take-length}
 use Rattle.macros.specs.Refusals.{WorkRefusal}
@@ -14,15 +15,18 @@ use Rattle.macros.specs.Macro.{Symbol, Macro, Table, pick}
 use Rattle.macros.specs.Macro.Symbol.{equal, less}
 use Rattle.lines.specs.State.{State}
 use Rattle.lines.specs.Matching.{Divides}
-use Rattle.lines.specs.Replacing.{Work, Done, onto}
+use Rattle.lines.specs.Replacing.{Work, Done}
 use Rattle.lines.specs.Replacing.Done.{bad, good}
 use Rattle.lines.specs.Pass.{Walk, ended, occurs, pass, occurred, outcome}
 use Rattle.lines.specs.Line.{Numbered, Pass, Line, passed, refused, done, control, isIn, newestFirst, closing, closedBy}
-use Rattle.lines.specs.Line.{isControl, due, follow, afterPass, textOf, passes, lineOf, ending}
+use Rattle.lines.specs.Line.{isControl, due, follow, afterPass, textOf, passes, lineOf, passesOf, hadOccurrence, ending}
 use Rattle.lines.specs.Line.{Line.ended as lineEnded}
-use Rattle.lines.specs.Demand.{Nowhere, Walks, Copied, Due, PassHolds, closedIf, closedAfter, sinceAfter, Passes, closedIn}
-use Rattle.lines.proofs.PassLaws.{Good, pass-walks}
-use Rattle.lines.proofs.OpenLaws.{in-cons, Todo, todo-next, todo-all}
+use Rattle.lines.specs.Feeding.{withheld, out, kindOfDone}
+use Rattle.lines.specs.Demand.{Nowhere, Walks, newLine, Copied, NotIn, Due, Dollar, EndsIn}
+use Rattle.lines.specs.Demand.{PassHolds, closedIf, closedAfter, sinceAfter, Passes, closedIn, passCount, endOfLine, NoOccurrence, Withholds}
+use Rattle.lines.proofs.CopiedLaws.{text-of}
+use Rattle.lines.proofs.PassLaws.{ends-in, Good, pass-walks}
+use Rattle.lines.proofs.OpenLaws.{in-cons, not-in, Todo, todo-next, todo-all}
 
 -- the line is not refused
 abbrev pub NotRefused : Line → Type 0
@@ -37,8 +41,7 @@ abbrev startOf : State → Work
 startOf st = record { out = []; size = 0; state = st }
 
 -- the whole text copied is the text
-all-copied : (t : List ℕ) (st : State) (v : Work) → Copied (slice 0 (length t) t) (startOf st) v → (textOf v ≡ t) × (v .state ≡ st)
-unfolding textOf onto
+all-copied : (t : List ℕ) (st : State) (v : Work) → Copied (slice 0 (length t) t) (startOf st) v → (newLine v ≡ t) × (v .state ≡ st)
 all-copied t st v h = (h .line ∙ take-length t, h .state)
 
 module _ (m : Macro) (t : List ℕ) (st : State) where
@@ -55,13 +58,22 @@ module _ (m : Macro) (t : List ℕ) (st : State) where
   )
 
   -- a pass without an occurrence leaves text and state as they were
-  nothing-changed : (k : Walk) → Walks m t 0 none (startOf st) k → (v : Work) → outcome k ≡ good v → occurred k ≡ false → (textOf v ≡ t) × (v .state ≡ st)
-  unfolding outcome occurred
+  nothing-changed : (k : Walk) → Walks m t 0 none (startOf st) k → (v : Work) → EndsIn k v → occurred k ≡ false → (newLine v ≡ t) × (v .state ≡ st)
+  unfolding occurred
   nothing-changed (ended (bad r w)) h v e f = absurd h
   nothing-changed (ended (good x)) h v e f = all-copied t st v (subst (λ (y : Work). Copied (slice 0 (length t) t) (startOf st) y) (let z : x ≡ v = cc in z) (h .0))
   nothing-changed (occurs o k) h v e f = absurd (false≢true (sym f))
 
 -- THE PASSES
+
+-- control lines, joined to the demand's own notion
+dollar : (t : List ℕ) → (isControl t ≡ true) ↔ Dollar t
+unfolding isControl
+dollar [] = (λ e. false≢true e, λ h. absurd h)
+dollar (b ∷ bs) = (λ e. eqb-true b 36 e, λ e. eq-eqb b 36 e)
+
+no-dollar : (t : List ℕ) → isControl t ≡ false → Dollar t → ⊥
+no-dollar t e h = false≢true (sym e ∙ dollar t .1 h)
 
 -- what a pass with an occurrence closes
 closed-by : (e : Numbered) (closed : List ℕ) → closedBy e closed ≡ closedIf true (e .macro .symbol) (e .number) closed
@@ -77,8 +89,8 @@ module _ (ms : Table) (closed since : List ℕ) (st : State) (t : List ℕ) wher
       → ((e : Numbered) (es : List Numbered) → isControl t ≡ false → Todo (Due ms closed since) (e ∷ es) → NotRefused (next e es) → Passes ms closed since t st (next e es))
       → Passes ms closed since t st (due b t st todo next)
   unfolding due
-  due-holds true c todo next a k h = (refl, refl, c)
-  due-holds false c [] next a k h = (refl, refl, c, a)
+  due-holds true c todo next a k h = (refl, refl, dollar t .0 c)
+  due-holds false c [] next a k h = (refl, refl, no-dollar t c, a)
   due-holds false c (e ∷ es) next a k h = h e es c a k
 
   -- what follows a pass of the macro e whose events are k
@@ -91,20 +103,25 @@ module _ (ms : Table) (closed since : List ℕ) (st : State) (t : List ℕ) wher
     follow-good h r v z = h r (ap (λ (a : Done). ending (follow a (occurred k) on again)) z)
 
     follow-holds : Good k → (a : Done) (o : Bool) → outcome k ≡ a → occurred k ≡ o → NotRefused (follow a o on again)
-        → (v : Work) × (a ≡ good v) × Passes ms (closedIf o (e .macro .symbol) (e .number) closed) (pick o [] (e .number ∷ since)) (textOf v) (v .state) (follow a o on again)
+        → (v : Work) × EndsIn k v × Passes ms (closedIf o (e .macro .symbol) (e .number) closed) (pick o [] (e .number ∷ since)) (newLine v) (v .state) (follow a o on again)
     unfolding follow ending pick
     follow-holds g (bad r w) o ea eo h = absurd (g r w ea)
     follow-holds g (good w) false ea eo h =
-        let c = nothing-changed (e .macro) t st k (walks g) w ea eo in
-        (w, refl, subst (λ (s : List ℕ). Passes ms closed (e .number ∷ since) s (w .state) (on w)) (sym (c .0)) (subst (λ (s : State). Passes ms closed (e .number ∷ since) t s (on w)) (sym (c .1)) (ons w h)))
-    follow-holds g (good w) true ea eo h = (w, refl, subst (λ (c : List ℕ). Passes ms c [] (textOf w) (w .state) (again w)) (closed-by e closed) (agains w h))
+        let c = nothing-changed (e .macro) t st k (walks g) w (ends-in k w .0 ea) eo in
+        (w, ends-in k w .0 ea, subst (λ (s : List ℕ). Passes ms closed (e .number ∷ since) s (w .state) (on w)) (sym (c .0)) (subst (λ (s : State). Passes ms closed (e .number ∷ since) t s (on w)) (sym (c .1)) (ons w h)))
+    follow-holds g (good w) true ea eo h = (
+      w,
+      ends-in k w .0 ea,
+      subst (λ (c : List ℕ). Passes ms c [] (newLine w) (w .state) (again w)) (closed-by e closed)
+          (subst (λ (s : List ℕ). Passes ms (closedBy e closed) [] s (w .state) (again w)) (text-of w) (agains w h)),
+    )
 
     after-holds : NotRefused (afterPass (record { which = e; text = t; state = st; events = k }) on again)
         → Passes ms closed since t st (afterPass (record { which = e; text = t; state = st; events = k }) on again)
     unfolding afterPass ending
     after-holds h =
         let g : Good k = follow-good h in (
-          record { text = refl; state = refl; plain = plain; due = d; newest = newest; passedOver = passed-over (e .macro) t st k (walks g); walks = walks g },
+          record { text = refl; state = refl; plain = no-dollar t plain; due = d; newest = newest; passedOver = passed-over (e .macro) t st k (walks g); walks = walks g },
           follow-holds g (outcome k) (occurred k) refl refl h,
         )
 
@@ -135,11 +152,11 @@ line-holds ms st budget t h = passes-hold ms _ [] [] (newestFirst [] ms) st t (t
 
 -- the open macros that passed since the last occurrence have nothing anywhere
 abbrev Empty : Table → List ℕ → List ℕ → List ℕ → State → Type 0
-Empty ms closed since t st = (i : ℕ) (m : Macro) → getElem? ms i ≡ some m → isIn i closed ≡ false → isIn i since ≡ true → Nowhere st m t
+Empty ms closed since t st = (i : ℕ) (m : Macro) → getElem? ms i ≡ some m → NotIn i closed → isIn i since ≡ true → Nowhere st m t
 
-empty-next : (ms : Table) (closed since : List ℕ) (t : List ℕ) (st : State) (x : Pass) → PassHolds ms closed since t st x → (v : Work) → outcome (x .events) ≡ good v
+empty-next : (ms : Table) (closed since : List ℕ) (t : List ℕ) (st : State) (x : Pass) → PassHolds ms closed since t st x → (v : Work) → EndsIn (x .events) v
     → Empty ms closed since t st → (o : Bool) → occurred (x .events) ≡ o
-    → Empty ms (closedIf o (x .which .macro .symbol) (x .which .number) closed) (pick o [] (x .which .number ∷ since)) (textOf v) (v .state)
+    → Empty ms (closedIf o (x .which .macro .symbol) (x .which .number) closed) (pick o [] (x .which .number ∷ since)) (newLine v) (v .state)
 unfolding pick isIn
 empty-next ms closed since t st x h v e g true o i m at f s = absurd (false≢true s)
 empty-next ms closed since t st x h v e g false o i m at f s =
@@ -156,7 +173,7 @@ empty-next ms closed since t st x h v e g false o i m at f s =
 -- THE LAW
 module _ (ms : Table) (s : List ℕ) (z : State) (i : ℕ) (m : Macro) (at : getElem? ms i ≡ some m) where
   pub left-nothing : (closed since : List ℕ) (t : List ℕ) (st : State) (l : Line) → Passes ms closed since t st l → Empty ms closed since t st
-      → ending l ≡ done s z → isIn i (closedIn closed l) ≡ false → Nowhere z m s
+      → ending l ≡ done s z → NotIn i (closedIn closed l) → Nowhere z m s
   unfolding ending
   left-nothing closed since t st (lineEnded (refused r)) h g e f = absurd h
   left-nothing closed since t st (lineEnded (control r y)) h g e f = absurd (let n : _≡_ {A = ℕ} 0 1 = cc in omega arith)
@@ -167,6 +184,36 @@ module _ (ms : Table) (s : List ℕ) (z : State) (i : ℕ) (m : Macro) (at : get
     where
       go : (o : Bool) → isIn i since ≡ o → Nowhere st m t
       go true o = g i m at f o
-      go false o = absurd (h .3 i m (at, f, o))
+      go false o = absurd (h .3 i m (at, f, not-in i since .0 o))
   left-nothing closed since t st (passed x l) h g e f =
-      left-nothing (closedAfter x closed) (sinceAfter x since) (textOf (h .1 .0)) (h .1 .0 .state) l (h .1 .2) (empty-next ms closed since t st x (h .0) (h .1 .0) (h .1 .1) g (occurred (x .events)) refl) e f
+      left-nothing (closedAfter x closed) (sinceAfter x since) (newLine (h .1 .0)) (h .1 .0 .state) l (h .1 .2) (empty-next ms closed since t st x (h .0) (h .1 .0) (h .1 .1) g (occurred (x .events)) refl) e f
+
+-- WHAT A LINE COMES TO, joined to the demand's own notions
+
+pub pass-count : (l : Line) → length (passesOf l) ≡ passCount l
+unfolding passesOf
+pass-count (lineEnded e) = refl
+pass-count (passed x l) = ap suc (pass-count l)
+
+pub end-of-line : (l : Line) → ending l ≡ endOfLine l
+unfolding ending
+end-of-line (lineEnded e) = refl
+end-of-line (passed x l) = end-of-line l
+
+or-false : (a b : Bool) → (a || b ≡ false) ↔ ((a ≡ false) × (b ≡ false))
+or-false true b = (λ e. absurd (false≢true (sym e)), λ h. absurd (false≢true (sym (h .0))))
+or-false false b = (λ e. (refl, e), λ h. h .1)
+
+no-occurrence : (l : Line) → (hadOccurrence l ≡ false) ↔ NoOccurrence l
+unfolding hadOccurrence
+no-occurrence (lineEnded e) = (λ e. tt, λ h. refl)
+no-occurrence (passed x l) =
+    let y = or-false (occurred (x .events)) (hadOccurrence l) in
+    (λ e. (y .0 e .0, no-occurrence l .0 (y .0 e .1)), λ h. y .1 (h .0, no-occurrence l .1 (h .1)))
+
+pub kind-of-done : (l : Line) (s : List ℕ) (st : State) (f : ℕ) (o : Bool) → st .nflag ≡ f → hadOccurrence l ≡ o
+    → (Withholds st l × (kindOfDone f o s ≡ withheld)) ⊎ ((Withholds st l → ⊥) × (kindOfDone f o s ≡ out s))
+unfolding kindOfDone
+kind-of-done l s st zero o e g = inr (λ h. h .0 e, refl)
+kind-of-done l s st (suc f) true e g = inr (λ h. false≢true (sym (no-occurrence l .1 (h .1)) ∙ g), refl)
+kind-of-done l s st (suc f) false e g = inl ((λ z. absurd (omega (arith, e, z)), no-occurrence l .0 g), refl)

@@ -1,7 +1,7 @@
 -- The macros whose pass is due: the list of the open ones goes from the newest to the oldest and leaves none out.
 use mathlib.Core.Path.{_≡_, refl, sym, ap, _∙_, subst}
 use mathlib.Core.Bool.{Bool, true, false, false≢true}
-use mathlib.Core.Logic.{_⊎_, inl, inr}
+use mathlib.Core.Logic.{_⊎_, inl, inr, _↔_}
 use mathlib.Core.List.{List, [], _∷_, reverseAux}
 use mathlib.Core.Option.{some}
 use Prim.Native.Nat.{ℕ, zero, suc, _+_, _≤_, _<_}
@@ -12,7 +12,7 @@ use lib.Dec.{eqb}
 use lib.ListN.{length, getElem?}
 use Rattle.macros.specs.Macro.{Macro, Table}
 use Rattle.lines.specs.Line.{Numbered, isIn, unlessClosed, openFrom, newestFirst}
-use Rattle.lines.specs.Demand.{Due}
+use Rattle.lines.specs.Demand.{NotIn, Due}
 
 -- numbers in a list
 module _ (i k : ℕ) (ks : List ℕ) where
@@ -20,15 +20,23 @@ module _ (i k : ℕ) (ks : List ℕ) where
   unfolding isIn
   in-split b e = rw (e, isIn)
 
-  not-in-cons : (i ≡ k → ⊥) → isIn i ks ≡ false → isIn i (k ∷ ks) ≡ false
-  not-in-cons f g = in-split false (ne-eqb i k f) ∙ g
-
   pub in-cons : (b : Bool) → isIn i (k ∷ ks) ≡ b → ((i ≡ k) × (b ≡ true)) ⊎ ((i ≡ k → ⊥) × (isIn i ks ≡ b))
   in-cons b e = go (eqb i k) refl
     where
       go : (c : Bool) → eqb i k ≡ c → ((i ≡ k) × (b ≡ true)) ⊎ ((i ≡ k → ⊥) × (isIn i ks ≡ b))
       go true f = inl (eqb-true i k f, sym e ∙ in-split true f)
       go false f = inr (eqb-false i k f, sym (in-split false f) ∙ e)
+
+  not-in-rest : (isIn i ks ≡ false → NotIn i ks) → ((i ≡ k) × (_≡_ {A = Bool} false true)) ⊎ ((i ≡ k → ⊥) × (isIn i ks ≡ false)) → NotIn i (k ∷ ks)
+  not-in-rest h (inl x) = absurd (false≢true (x .1))
+  not-in-rest h (inr x) = (x .0, h (x .1))
+
+-- joined to the demand's own notion
+pub not-in : (i : ℕ) (ks : List ℕ) → (isIn i ks ≡ false) ↔ NotIn i ks
+unfolding isIn
+not-in i [] = (λ e. tt, λ h. refl)
+not-in i (k ∷ ks) =
+    (λ e. not-in-rest i k ks (not-in i ks .0) (in-cons i k ks false e), λ h. in-split i k ks false (ne-eqb i k (h .0)) ∙ not-in i ks .1 (h .1))
 
 -- the list holds, newest first, exactly the macros of which P holds
 abbrev pub Todo : (ℕ → Macro → Type 0) → List Numbered → Type 0
@@ -45,18 +53,9 @@ todo-iff P Q to from (e ∷ es) h = (
 
 -- after a pass of the first without an occurrence
 pub todo-next : (ms : Table) (closed since : List ℕ) (e : Numbered) (es : List Numbered) → Todo (Due ms closed since) (e ∷ es) → Todo (Due ms closed (e .number ∷ since)) es
-todo-next ms closed since e es h = todo-iff (λ i m. Due ms closed since i m × (i ≡ e .number → ⊥)) (Due ms closed (e .number ∷ since)) to from es (h .2)
-  where
-    to : (i : ℕ) (m : Macro) → Due ms closed since i m × (i ≡ e .number → ⊥) → Due ms closed (e .number ∷ since) i m
-    to i m p = (p .0 .0, p .0 .1, not-in-cons i (e .number) since (p .1) (p .0 .2))
-
-    apart : (i : ℕ) (m : Macro) → Due ms closed (e .number ∷ since) i m → ((i ≡ e .number) × (_≡_ {A = Bool} false true)) ⊎ ((i ≡ e .number → ⊥) × (isIn i since ≡ false))
-        → Due ms closed since i m × (i ≡ e .number → ⊥)
-    apart i m d (inl x) = absurd (false≢true (x .1))
-    apart i m d (inr x) = ((d .0, d .1, x .1), x .0)
-
-    from : (i : ℕ) (m : Macro) → Due ms closed (e .number ∷ since) i m → Due ms closed since i m × (i ≡ e .number → ⊥)
-    from i m d = apart i m d (in-cons i (e .number) since false (d .2))
+todo-next ms closed since e es h =
+    todo-iff (λ i m. Due ms closed since i m × (i ≡ e .number → ⊥)) (Due ms closed (e .number ∷ since))
+    (λ i m p. (p .0 .0, p .0 .1, (p .1, p .0 .2))) (λ i m d. ((d .0, d .1, d .2 .1), d .2 .0)) es (h .2)
 
 -- at a line's start, and after an occurrence
 at-inside : (ms : Table) (i : ℕ) (m : Macro) → getElem? ms i ≡ some m → i < length ms
@@ -108,7 +107,8 @@ module _ (all : Table) (closed : List ℕ) where
 
 -- THE LAW
 pub todo-all : (ms : Table) (closed : List ℕ) → Todo (Due ms closed []) (newestFirst closed ms)
-unfolding newestFirst isIn
+unfolding newestFirst
 todo-all ms closed =
-    todo-iff (Below ms closed (0 + length ms)) (Due ms closed []) (λ i m p. (p .0, p .1, refl)) (λ i m p. (p .0, p .1, (let h : i < length ms = at-inside ms i m (p .0) in omega arith))) (newestFirst closed ms)
+    todo-iff (Below ms closed (0 + length ms)) (Due ms closed []) (λ i m p. (p .0, not-in i closed .0 (p .1), tt))
+    (λ i m p. (p .0, not-in i closed .1 (p .1), (let h : i < length ms = at-inside ms i m (p .0) in omega arith))) (newestFirst closed ms)
     (below-all ms closed 0 ms (λ j. ap (getElem? ms) (let z : j ≡ 0 + j = omega arith in z)) [] (λ i m p. absurd (omega arith)))

@@ -1,6 +1,6 @@
 -- A pass that is not refused does what demand 3 says of it.
 use mathlib.Core.Path.{_≡_, refl, sym, ap, _∙_, subst}
-use mathlib.Core.Logic.{_⊎_, inl, inr}
+use mathlib.Core.Logic.{_⊎_, inl, inr, _↔_}
 use mathlib.Core.List.{List, [], _∷_}
 use mathlib.Core.Option.{Option, none, some}
 use Prim.Native.Nat.{ℕ, zero, suc, _+_, _-_, _≤_, _<_}
@@ -17,11 +17,17 @@ use Rattle.lines.specs.Matching.{Division, Divides, endOf}
 use Rattle.lines.specs.Replacing.{Work, Done, put, occur}
 use Rattle.lines.specs.Replacing.Done.{bad, good}
 use Rattle.lines.specs.Pass.{Walk, ended, occurs, match, goOn, matched, atEnd, onward, atByte, walk, pass, outcome}
-use Rattle.lines.specs.Demand.{NoneAhead, Copied, behind, Walks}
+use Rattle.lines.specs.Demand.{NoneAhead, Copied, behind, Walks, EndsIn}
 use Rattle.lines.proofs.CopyLaws.{ends-on, ends-inside}
 use Rattle.lines.proofs.MatchLaws.{Matches, match-matches}
 use Rattle.lines.proofs.TagLaws.{tags-run}
 use Rattle.lines.proofs.CopiedLaws.{copied-none, copied-append, put-copied, byte-inside, byte-rest, slice-next}
+
+-- the end of a pass, joined to the demand's own notion
+pub ends-in : (k : Walk) (v : Work) → (outcome k ≡ good v) ↔ EndsIn k v
+unfolding outcome
+ends-in (ended d) v = (λ e. e, λ e. e)
+ends-in (occurs o k) v = ends-in k v
 
 -- the pass is not refused
 abbrev pub Good : Walk → Type 0

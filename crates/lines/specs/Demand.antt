@@ -4,7 +4,7 @@ use mathlib.Core.Path.{_≡_}
 use Prim.Native.Nat.{ℕ, suc, _≤_, _<_}
 use mathlib.Core.Bool.{Bool, true, false}
 use mathlib.Core.Logic.{_⊎_, _↔_}
-use mathlib.Core.List.{List, [], _∷_, _++_}
+use mathlib.Core.List.{List, [], _∷_, _++_, reverse}
 use mathlib.Core.Option.{Option, none, some}
 use lib.Dec.{eqb}
 use lib.ListN.{length, getElem?}
@@ -17,12 +17,12 @@ use Rattle.lines.specs.Matching.{Division, Divides, Fewer, endOf}
 use Rattle.lines.specs.Tags.{TagsOf}
 use Rattle.lines.specs.Replacing.{Work, occur}
 use Rattle.lines.specs.Replacing.Done.{bad, good}
-use Rattle.lines.specs.Pass.{Occurrence, Walk, occurred, outcome}
+use Rattle.lines.specs.Pass.{Occurrence, Walk, occurred}
 use Rattle.lines.specs.Pass.Walk.{ended, occurs}
-use Rattle.lines.specs.Line.{Pass, Line, isIn, isControl, textOf, lineOf, passesOf, hadOccurrence, ending}
+use Rattle.lines.specs.Line.{Pass, Ending, Line, lineOf}
 use Rattle.lines.specs.Line.Ending.{refused, done, control}
 use Rattle.lines.specs.Line.{Line.ended as lineEnded, Line.passed as passed}
-use Rattle.lines.specs.Feeding.{orderOf, Kind, Answer, kindOfDone, Fed, feeds}
+use Rattle.lines.specs.Feeding.{orderOf, Kind, Answer, Fed, feeds}
 use Rattle.lines.specs.Feeding.Order.{orders}
 use Rattle.lines.specs.Feeding.Kind.{refusedWith, out, withheld, controlled}
 
@@ -71,9 +71,13 @@ abbrev pub behind : Option ℕ → ℕ
 behind none = 0
 behind (some q) = q
 
+-- "the new line" (01, part 4) so far; out has its last byte first
+abbrev pub newLine : Work → List ℕ
+newLine w = reverse (w .out)
+
 -- from the moment w to the moment v the bytes s are copied: the new line grows by them, and the state stays
 pub record Copied (s : List ℕ) (w v : Work) : Type 0 where
-  pub line : textOf v ≡ textOf w ++ s
+  pub line : newLine v ≡ newLine w ++ s
   pub state : v .state ≡ w .state
 
 -- the pass from the moment w on
@@ -88,16 +92,26 @@ Walks m t from last w (ended (bad r v)) = ⊥
 
 -- THE PASSES OF A LINE, from its text t and its state st on; closed: the numbers of the macros closed to it; since: of those that passed since its last occurrence
 
+-- i is none of the numbers: "all others are open" (01, part 6) [closed_from_start]
+abbrev pub NotIn : ℕ → List ℕ → Type 0
+NotIn i [] = Unit {0}
+NotIn i (k ∷ ks) = (i ≡ k → ⊥) × NotIn i ks
+
 -- the macro m with the number i is open, and has not passed since
 abbrev pub Due : Table → List ℕ → List ℕ → ℕ → Macro → Type 0
-Due ms closed since i m = (getElem? ms i ≡ some m) × (isIn i closed ≡ false) × (isIn i since ≡ false)
+Due ms closed since i m = (getElem? ms i ≡ some m) × NotIn i closed × NotIn i since
+
+-- "a line beginning with `$`" (01, part 6), byte 36
+abbrev pub Dollar : List ℕ → Type 0
+Dollar [] = ⊥
+Dollar (b ∷ bs) = b ≡ 36
 
 pub record PassHolds (ms : Table) (closed since : List ℕ) (t : List ℕ) (st : State) (x : Pass) : Type 0 where
   -- it begins with the text and the state that the last pass made
   pub text : x .text ≡ t
   pub state : x .state ≡ st
   -- a control line has "no more passes" (01, part 6) [control_passes]
-  pub plain : isControl t ≡ false
+  pub plain : Dollar t → ⊥
   -- "an open macro", the newest one whose pass is due (01, part 6) [oldest_first, no_restart]
   pub due : Due ms closed since (x .which .number) (x .which .macro)
   pub newest : (i : ℕ) (m : Macro) → Due ms closed since i m → i ≤ x .which .number
@@ -119,14 +133,19 @@ closedAfter x closed = closedIf (occurred (x .events)) (x .which .macro .symbol)
 abbrev pub sinceAfter : Pass → List ℕ → List ℕ
 sinceAfter x since = pick (occurred (x .events)) [] (x .which .number ∷ since)
 
+-- the moment in which the pass ends, after all its occurrences: each acts "on the state that the next occurrence sees" (01, part 4) [first_occurrence_ends]
+abbrev pub EndsIn : Walk → Work → Type 0
+EndsIn (ended d) v = d ≡ good v
+EndsIn (occurs o k) v = EndsIn k v
+
 abbrev pub Passes : Table → (closed since : List ℕ) → List ℕ → State → Line → Type 0
 -- a pass, and then the line from the text and the state that it makes
 Passes ms closed since t st (passed x l) =
-    PassHolds ms closed since t st x × ((v : Work) × (outcome (x .events) ≡ good v) × Passes ms (closedAfter x closed) (sinceAfter x since) (textOf v) (v .state) l)
+    PassHolds ms closed since t st x × ((v : Work) × EndsIn (x .events) v × Passes ms (closedAfter x closed) (sinceAfter x since) (newLine v) (v .state) l)
 -- "The line is done when every open macro has passed without one since the line's last occurrence" (01, part 6)
-Passes ms closed since t st (lineEnded (done s x)) = (s ≡ t) × (x ≡ st) × (isControl t ≡ false) × ((i : ℕ) (m : Macro) → Due ms closed since i m → ⊥)
+Passes ms closed since t st (lineEnded (done s x)) = (s ≡ t) × (x ≡ st) × (Dollar t → ⊥) × ((i : ℕ) (m : Macro) → Due ms closed since i m → ⊥)
 -- "a line beginning with `$` is a control line: no more passes" (01, part 6)
-Passes ms closed since t st (lineEnded (control s x)) = (s ≡ t) × (x ≡ st) × (isControl t ≡ true)
+Passes ms closed since t st (lineEnded (control s x)) = (s ≡ t) × (x ≡ st) × Dollar t
 -- a taken line's passes are not refused
 Passes ms closed since t st (lineEnded (refused r)) = ⊥
 
@@ -137,25 +156,44 @@ abbrev pub closedIn : List ℕ → Line → List ℕ
 closedIn closed (lineEnded e) = closed
 closedIn closed (passed x l) = closedIn (closedAfter x closed) l
 
+-- the number of its passes, those without an occurrence included: "Each pass costs one of the budget." (01, part 6)
+abbrev pub passCount : Line → ℕ
+passCount (lineEnded e) = 0
+passCount (passed x l) = suc (passCount l)
+
+-- its end, behind all its passes: "done", "a control line" (01, part 6), or refused
+abbrev pub endOfLine : Line → Ending
+endOfLine (lineEnded e) = e
+endOfLine (passed x l) = endOfLine l
+
+-- no pass of it had an occurrence
+abbrev pub NoOccurrence : Line → Type 0
+NoOccurrence (lineEnded e) = Unit {0}
+NoOccurrence (passed x l) = (occurred (x .events) ≡ false) × NoOccurrence l
+
+-- it is to be "withheld if NFLAG is 1 and it had no occurrence" (01, part 6); NFLAG is 0 or 1 by InRange of State
+abbrev pub Withholds : State → Line → Type 0
+Withholds st l = (st .nflag ≡ 0 → ⊥) × NoOccurrence l
+
 -- a line that is taken: its passes, and "the answer carries the number of passes" [passes_not_counted]
 pub record Taken (ms : Table) (st : State) (t : List ℕ) (l : Line) (a : Answer) : Type 0 where
   pub passes : Passes ms [] [] t st l
-  pub number : a .passes ≡ length (passesOf l)
+  pub number : a .passes ≡ passCount l
 
 -- one that goes out or is withheld, s its final text
 pub record Finished (ms : Table) (l : Line) (a : Answer) (s : List ℕ) : Type 0 where
   -- its passes end with that text and with the new state [taken_line_loses_state]
-  pub final : ending l ≡ done s (a .state)
-  -- it is withheld or goes out by NFLAG, and by whether it had an occurrence (01, part 6)
-  pub kind : a .kind ≡ kindOfDone (a .state .nflag) (hadOccurrence l) s
+  pub final : endOfLine l ≡ done s (a .state)
+  -- it is withheld by that rule; "otherwise it goes out" (01, part 6), with that text
+  pub kind : (Withholds (a .state) l × (a .kind ≡ withheld)) ⊎ ((Withholds (a .state) l → ⊥) × (a .kind ≡ out s))
   -- the table stays
   pub table : a .table ≡ ms
   -- "no macro still open to it has a division at any place of its final text" [no_restart, early_end]
-  pub nothingLeft : (i : ℕ) (m : Macro) → getElem? ms i ≡ some m → isIn i (closedIn [] l) ≡ false → Nowhere (a .state) m s
+  pub nothingLeft : (i : ℕ) (m : Macro) → getElem? ms i ≡ some m → NotIn i (closedIn [] l) → Nowhere (a .state) m s
 
 -- a control line: its final text and its last state give the order that makes the new table and state
 pub record Controlled (ms : Table) (l : Line) (a : Answer) (s : List ℕ) (x : State) : Type 0 where
-  pub final : ending l ≡ control s x
+  pub final : endOfLine l ≡ control s x
   pub ordered : orderOf ms x s ≡ orders (a .table) (a .state)
 
 abbrev pub ByKind : Table → State → List ℕ → Line → Answer → Kind → Type 0

@@ -20,7 +20,7 @@ use Rattle.lines.specs.Replacing.{Work, unless, put, occur}
 use Rattle.lines.specs.Replacing.Done.{bad, good}
 use Rattle.lines.specs.Pass.{Walk, match, goOn, matched, atEnd, onward, atByte, walk, pass, outcome, occurred}
 use Rattle.lines.proofs.StepLaws.{walk-end, walk-byte, step-copy, step-match, step-empty}
-use Rattle.lines.proofs.CopiedLaws.{put-copied}
+use Rattle.lines.proofs.CopiedLaws.{put-text}
 use Rattle.lines.proofs.CopyLaws.{ends-on, ends-inside}
 use Rattle.lines.proofs.MatchLaws.{Matches, match-matches}
 use Rattle.states.specs.Access.{IsState}
@@ -67,7 +67,7 @@ put-moment out b c n w h l x =
       v,
       e,
       record {
-        line = put-copied c w v e .line ∙ ap (λ (s : List ℕ). s ++ (c ∷ [])) (x .line) ∙ sym (take-suc-set out n c (omega arith)) ∙ ap (λ (j : ℕ). take j (set out n c)) (sym (add-one n));
+        line = put-text c w v e ∙ ap (λ (s : List ℕ). s ++ (c ∷ [])) (x .line) ∙ sym (take-suc-set out n c (omega arith)) ∙ ap (λ (j : ℕ). take j (set out n c)) (sym (add-one n));
         size = (let z = x .size in omega arith);
         state = x .state;
       },
