@@ -1,13 +1,13 @@
 -- Copies in a row, and what the pieces behind a closure give after them.
 -- Assumes nothing.
-use mathlib.Core.Path.{_≡_, refl, sym, ap, _∙_}
+use mathlib.Core.Path.{_≡_, refl, sym, ap, _∙_, subst}
 use mathlib.Core.Bool.{Bool, true, false}
 use mathlib.Core.List.{List, [], _∷_}
 use mathlib.Core.Option.{Option, none, some}
 use Prim.Native.Nat.{ℕ, zero, suc, _+_, _-_, _*_, _≤_, _<_}
 use native.Mathlib.Omega.{arith}
 use native.Mathlib.Decide.{ℕ-discrete}
-use native.Mathlib.Nat.{zero-mul, suc-mul, mul-le-mul, le-mul-of-pos-right}
+use native.Mathlib.Nat.{zero-mul, suc-mul, add-mul, mul-le-mul, le-mul-of-pos-right}
 use lib.ListN.{length, set, drop}
 use Rattle.macros.specs.Bounds.{mostLineBytes}
 use Rattle.macros.specs.Macro.{Closure, PatternUnit, Piece}
@@ -23,7 +23,7 @@ use Rattle.marks.specs.Marks.{mark, marked}
 use Rattle.marks.proofs.MarkLaws.{length-marked, drop-marked}
 use Rattle.passing.specs.Marks.{copiesFrom}
 use Rattle.passing.specs.Pieces.{membersOf, fitU, widthU, Stands, IsUnit, Wide}
-use Rattle.passing.specs.Trying.{answer, after, thenP, foundOf, Noted, Trying, Kept, Row, Furthest, Counting, Most, Repeating, Tried, Copied}
+use Rattle.passing.specs.Trying.{answer, after, thenP, foundOf, Row, Furthest, Counting, Most, Repeating, Tried, Copied}
 use Rattle.passing.specs.declared.unit.Unit.{Unit as CodeUnit}
 use Rattle.passing.specs.declared.Found.{Found}
 use Rattle.passing.specs.declared.Found.the-variants.{Matched, NoMatch}
@@ -31,7 +31,7 @@ use Rattle.passing.proofs.ItemLaws.{rest-next, rest-inside, rest-even}
 use Rattle.passing.proofs.MarkLaws.{sound-at, sound-set}
 use Rattle.passing.proofs.CopyFits.{copy-inside}
 use Rattle.passing.proofs.RepeatLaws.{orP, more-stop, more-step, fit-element, width-element}
-use Rattle.passing.proofs.TryLaws.{found-none, said-none, said-first, kept-start, kept-on, kept-end, next-trying}
+use Rattle.passing.proofs.TryLaws.{found-none, said-none, said-first, said-any, kept-on, kept-end}
 
 -- PLACES
 
@@ -130,34 +130,74 @@ module _ (items kinds b t : List ℕ) (at : ℕ) (v : CodeUnit) (w q : ℕ) (mar
           ∙ ap (λ (a : Option Division). orP (stopsOf a) (thenP r (answer st es t r))) (sound-at items b t marks at (r + w) (omega arith) (k .sound) m u c es i st h));
     }
 
--- GIVING BACK
+-- REPEATS
 
--- `back` copies of n are given back: the divisions with more copies have failed
-pub record Untried (items b t : List ℕ) (at w q n back : ℕ) (marks₀ marks ends : List ℕ) : Type 0 where
-  pub some : back ≤ n
-  pub kept : Kept items b t marks₀ marks ends
-  pub furthest : Furthest items b t at (q + (n - back) * w)
+-- more copies from q on, behind j of them
+place-sum : (q j h w : ℕ) → q + (j + h) * w ≡ q + j * w + h * w
+place-sum q j h w = let z = add-mul j h w in omega arith
 
-module _ (items kinds b t : List ℕ) (at next w q n : ℕ) (marks₀ ends₀ : List ℕ) (k : Repeating items kinds b t at next w q n marks₀ ends₀) where
-  pub untried-start : Untried items b t at w q n 0 marks₀ marks₀ ends₀
-  untried-start = record { some = omega arith; kept = kept-start items b t marks₀ ends₀ (k .noted); furthest = rw (let z : n - 0 ≡ n = omega arith in z) (k .most .furthest) }
+stops-none : (a : Option Division) → stopsOf a ≡ none → a ≡ none
+stops-none none e = refl
+stops-none (some d) e = absurd (let z : _≡_ {A = ℕ} 0 1 = cc in omega arith)
 
+module _ (items kinds b t : List ℕ) (at next w q n : ℕ) (marks ends : List ℕ) (k : Repeating items kinds b t at next w q n marks ends) where
   -- j times v bytes behind q, of n times w
   module _ (j v : ℕ) (l : j ≤ n) (m : v ≤ w) where
-    pub row-place : q + j * v ≤ length t
+    row-place : q + j * v ≤ length t
     row-place = place-inside q j n v w (length t) l m (k .most .row .inside)
 
     pub row-small : q + j * v ≤ mostLineBytes
     row-small = let h = row-place in let s = k .given .short in omega arith
 
-    pub row-trying : (marks ends : List ℕ) → Noted items b t marks ends → Trying items kinds b t next (q + j * v) marks ends
-    row-trying marks ends o = next-trying items kinds b t at next (q + j * v) marks ends (k .given) o (k .stands) (k .behind) row-place
+  pub start-place : q ≤ length t
+  start-place = let l = k .most .row .inside in omega arith
 
-  pub most-small : n ≤ mostLineBytes
-  most-small = let l = count-inside q n w (length t) (k .some) (k .most .row .inside) in let s = k .given .short in omega arith
+  pub start-small : q ≤ mostLineBytes
+  start-small = let h = start-place in let s = k .given .short in omega arith
 
   rest-at : (e : Piece) (es : List Piece) → IsRest items at (e ∷ es) → IsRest items next es
   rest-at e es i = rw (k .behind e es i) (rest-next items at e es i)
+
+  -- ONE NUMBER OF COPIES
+
+  -- none but those before q
+  module _ (one : n ≡ 0) (marks′ ends′ : List ℕ) where
+    only : Furthest items b t at q
+    only = subst (Furthest items b t at) (ap (λ (j : ℕ). q + j * w) one ∙ place-zero q w) (k .most .furthest)
+
+    pub copied-first : (m : ℕ) → at < length ends′ → Tried items b t next q marks marks′ ends′ (Matched m) → Copied items b t at q marks marks′ (set ends′ at q) (Matched m)
+    copied-first m z y = record {
+      said = λ u c es i st h.
+          said-first (element u c) es (after st u es t q) (answer st es t q) at next q q m ends′ (k .behind (element u c) es i) z (only u c es i st h) (y .said es (rest-at (element u c) es i) st h);
+      kept = kept-end items b t marks marks′ ends′ at q z start-place (y .kept);
+    }
+
+    module _ (y : Tried items b t next q marks marks′ ends′ NoMatch) where
+      nothing : (u : PatternUnit) (c : Closure) (es : List Piece) → IsRest items at (element u c ∷ es) → (st : State) → Holds b st → after st u es t q ≡ none
+      nothing u c es i st h = only u c es i st h ∙ ap (thenP q) (found-none q (answer st es t q) (y .said es (rest-at (element u c) es i) st h .found))
+
+      pub copied-none : (marks₂ : List ℕ) → marks₂ ≡ marked marks′ at q → Copied items b t at q marks marks₂ ends′ NoMatch
+      copied-none marks₂ new =
+          let s = k .stands in
+          let l = start-place in
+          let m = k .given .short in
+          let r = rest-inside items at (s .piece) (s .pieces) (s .is) in
+          record {
+            said = λ u c es i st h. said-none (element u c ∷ es) (after st u es t q) at q ends′ (nothing u c es i st h);
+            kept = record {
+              noted = record {
+                size = ap length new ∙ length-marked marks′ at q ∙ y .kept .noted .size;
+                count = y .kept .noted .count;
+                inside = y .kept .noted .inside;
+                sound =
+                    sound-set items b t marks′ marks₂ at q (omega arith) (rest-even items at (s .piece ∷ s .pieces) (s .is)) (y .kept .noted .sound) new
+                    (λ u c es i st h. stops-none (copiesFrom st u es t q) (nothing u c es i st h));
+              };
+              outside = ap (drop (66 * length items)) new ∙ drop-marked marks′ at q (66 * length items) (omega arith) ∙ y .kept .outside;
+            };
+          }
+
+  -- TWO HALVES
 
   module _ (u : PatternUnit) (c : Closure) (es : List Piece) (i : IsRest items at (element u c ∷ es)) (st : State) (h : Holds b st) where
     row-next : (j : ℕ) → j < n → after st u es t (q + j * w) ≡ orP (after st u es t (q + (j + 1) * w)) (thenP (q + j * w) (answer st es t (q + j * w)))
@@ -173,75 +213,69 @@ module _ (items kinds b t : List ℕ) (at next w q n : ℕ) (marks₀ ends₀ : 
         (row-next j (omega arith)
         ∙ ap (λ (a : Option (List ℕ)). orP a (thenP (q + j * w) (answer st es t (q + j * w)))) (ap (λ (y : ℕ). after st u es t (q + y * w)) (let z : j + 1 ≡ suc j = omega arith in z) ∙ e))
 
-    first-found : (j m : ℕ) → j ≤ n → after st u es t (q + j * w) ≡ thenP (q + j * w) (answer st es t (q + j * w)) → Matched m ≡ foundOf (q + j * w) (answer st es t (q + j * w))
-        → after st u es t q ≡ thenP (q + j * w) (answer st es t (q + j * w))
-    first-found j m l e f = go (answer st es t (q + j * w)) refl e f
+    climb-found : (j m : ℕ) → j ≤ n → Matched m ≡ foundOf (q + j * w) (after st u es t (q + j * w)) → after st u es t q ≡ after st u es t (q + j * w)
+    climb-found j m l f = go (after st u es t (q + j * w)) refl f
       where
-        go : (a : Option (List ℕ)) → answer st es t (q + j * w) ≡ a → after st u es t (q + j * w) ≡ thenP (q + j * w) a → Matched m ≡ foundOf (q + j * w) a → after st u es t q ≡ thenP (q + j * w) a
-        go none g x y = absurd (let z : _≡_ {A = ℕ} 0 1 = cc in omega arith)
-        go (some s) g x y = climb j l ((q + j * w) ∷ s) x
+        go : (a : Option (List ℕ)) → after st u es t (q + j * w) ≡ a → Matched m ≡ foundOf (q + j * w) a → after st u es t q ≡ a
+        go none e y = absurd (let z : _≡_ {A = ℕ} 0 1 = cc in omega arith)
+        go (some s) e y = climb j l s e
 
-  module _ (back : ℕ) (marks ends : List ℕ) (o : Untried items b t at w q n back marks₀ marks ends) (marks′ ends′ : List ℕ) where
-    pub copied-first : (m : ℕ) → at < length ends′ → Tried items b t next (q + (n - back) * w) marks marks′ ends′ (Matched m)
-        → Copied items b t at q marks₀ marks′ (set ends′ at (q + (n - back) * w)) (Matched m)
-    copied-first m z y = record {
-      said = λ u c es i st h.
-          let s = y .said es (rest-at (element u c) es i) st h in
-          said-first (element u c) es (after st u es t q) (answer st es t (q + (n - back) * w)) at next q (q + (n - back) * w) m ends′ (k .behind (element u c) es i) z
-          (first-found u c es i st h (n - back) m (omega arith) (o .furthest u c es i st h) (s .found)) s;
-      kept =
-          kept-end items b t marks₀ marks′ ends′ at (q + (n - back) * w) z (row-place (n - back) w (omega arith) (omega arith))
-          (kept-on items b t marks₀ marks marks′ ends ends′ (o .kept) (y .kept));
-    }
+  -- j copies more, and up to h behind them
+  module _ (j h : ℕ) (sum : j + h ≡ n) where
+    place-most : q + n * w ≡ q + j * w + h * w
+    place-most = ap (λ (a : ℕ). q + a * w) (sym sum) ∙ place-sum q j h w
 
-    module _ (y : Tried items b t next (q + (n - back) * w) marks marks′ ends′ NoMatch) where
-      nothing : (u : PatternUnit) (c : Closure) (es : List Piece) → IsRest items at (element u c ∷ es) → (st : State) → Holds b st → after st u es t (q + (n - back) * w) ≡ none
-      nothing u c es i st h =
-          o .furthest u c es i st h
-          ∙ ap (thenP (q + (n - back) * w)) (found-none (q + (n - back) * w) (answer st es t (q + (n - back) * w)) (y .said es (rest-at (element u c) es i) st h .found))
-
-      stops-none : (a : Option Division) → stopsOf a ≡ none → a ≡ none
-      stops-none none e = refl
-      stops-none (some d) e = absurd (let z : _≡_ {A = ℕ} 0 1 = cc in omega arith)
-
-      module _ (marks₂ : List ℕ) (new : marks₂ ≡ marked marks′ at (q + (n - back) * w)) where
-        pub mark-kept : Kept items b t marks₀ marks₂ ends′
-        mark-kept =
-            let s = k .stands in
-            let l = row-place (n - back) w (omega arith) (omega arith) in
-            let m = k .given .short in
-            let r = rest-inside items at (s .piece) (s .pieces) (s .is) in
-            record {
-              noted = record {
-                size = ap length new ∙ length-marked marks′ at (q + (n - back) * w) ∙ y .kept .noted .size;
-                count = y .kept .noted .count;
-                inside = y .kept .noted .inside;
-                sound =
-                    sound-set items b t marks′ marks₂ at (q + (n - back) * w) (omega arith) (rest-even items at (s .piece ∷ s .pieces) (s .is)) (y .kept .noted .sound) new
-                    (λ u c es i st h. stops-none (copiesFrom st u es t (q + (n - back) * w)) (nothing u c es i st h));
-              };
-              outside = ap (drop (66 * length items)) new ∙ drop-marked marks′ at (q + (n - back) * w) (66 * length items) (omega arith) ∙ y .kept .outside ∙ o .kept .outside;
-            }
-
-        -- every number of copies has failed
-        pub copied-none : back ≡ n → Copied items b t at q marks₀ marks₂ ends′ NoMatch
-        copied-none e = record {
-          said = λ u c es i st h.
-              said-none (element u c ∷ es) (after st u es t q) at q ends′
-              (ap (after st u es t) (sym (place-zero q w) ∙ ap (λ (j : ℕ). q + j * w) (let z : 0 ≡ n - back = omega arith in z)) ∙ nothing u c es i st h);
-          kept = mark-kept;
+    pub upper-repeating : Repeating items kinds b t at next w (q + j * w) h marks ends
+    upper-repeating =
+        let e = place-most in
+        let l = k .most .row .inside in
+        record {
+          given = k .given;
+          noted = k .noted;
+          stands = k .stands;
+          behind = k .behind;
+          some = k .some;
+          most = record {
+            row = record {
+              inside = omega arith;
+              copies = λ u c es i st g.
+                  let f = k .most .row .copies u c es i st g in
+                  (f .0, λ a m. ap (λ (y : ℕ). fits st u (drop y t)) (sym (place-sum q j a w)) ∙ f .1 (j + a) (omega arith));
+            };
+            furthest = subst (Furthest items b t at) e (k .most .furthest);
+          };
         }
 
-        -- one more copy is given back
-        pub untried-next : (back ≡ n → ⊥) → Untried items b t at w q n (back + 1) marks₀ marks₂ ends′
-        untried-next f =
-            let m = o .some in
-            let g : (back ≡ n) → ⊥ = f in
-            record {
-              some = omega arith;
-              kept = mark-kept;
-              furthest = λ u c es i st h.
-                  row-next u c es i st h (n - (back + 1)) (omega arith)
-                  ∙ ap (λ (a : Option (List ℕ)). orP a (thenP (q + (n - (back + 1)) * w) (answer st es t (q + (n - (back + 1)) * w))))
-                  (ap (λ (j : ℕ). after st u es t (q + j * w)) (let z : n - (back + 1) + 1 ≡ n - back = omega arith in z) ∙ nothing u c es i st h);
-            }
+    -- a match after j copies or more is one of the element
+    pub copied-upper : (marks′ ends′ : List ℕ) (f : Found) (m : ℕ) → f ≡ Matched m → Copied items b t at (q + j * w) marks marks′ ends′ f → Copied items b t at q marks marks′ ends′ f
+    copied-upper marks′ ends′ f m e y = record {
+      said = λ u c es i st g.
+          let s = y .said u c es i st g in
+          said-any st u (element u c) es t (after st u es t q) at q (q + j * w) ends′ f (climb-found u c es i st g j m (omega arith) (sym e ∙ s .found)) s;
+      kept = y .kept;
+    }
+
+    -- else fewer copies are left
+    module _ (some-more : 1 ≤ j) (marks′ ends′ : List ℕ) (y : Copied items b t at (q + j * w) marks marks′ ends′ NoMatch) where
+      pub lower-repeating : Repeating items kinds b t at next w q (j - 1) marks′ ends′
+      lower-repeating = record {
+        given = k .given;
+        noted = y .kept .noted;
+        stands = k .stands;
+        behind = k .behind;
+        some = k .some;
+        most = record {
+          row = record {
+            inside = row-place (j - 1) w (omega arith) (omega arith);
+            copies = λ u c es i st g. let f = k .most .row .copies u c es i st g in (f .0, λ a m. f .1 a (omega arith));
+          };
+          furthest = λ u c es i st g.
+              row-next u c es i st g (j - 1) (omega arith)
+              ∙ ap (λ (a : Option (List ℕ)). orP a (thenP (q + (j - 1) * w) (answer st es t (q + (j - 1) * w))))
+              (ap (λ (a : ℕ). after st u es t (q + a * w)) (let z : j - 1 + 1 ≡ j = omega arith in z)
+              ∙ found-none (q + j * w) (after st u es t (q + j * w)) (y .said u c es i st g .found));
+        };
+      }
+
+      pub copied-lower : (marks₂ ends₂ : List ℕ) (r : Found) → Copied items b t at q marks′ marks₂ ends₂ r → Copied items b t at q marks marks₂ ends₂ r
+      copied-lower marks₂ ends₂ r c = record { said = c .said; kept = kept-on items b t marks marks′ marks₂ ends′ ends₂ (y .kept) (c .kept) }

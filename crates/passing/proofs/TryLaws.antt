@@ -77,7 +77,7 @@ said-first e es a (some qs) at next p q m ends n l i h =
       );
     })
 
-said-any : (st : State) (u : PatternUnit) (e : Piece) (es : List Piece) (t : List ℕ) (a : Option (List ℕ)) (at p q : ℕ) (ends : List ℕ) (r : Found) → a ≡ after st u es t q
+pub said-any : (st : State) (u : PatternUnit) (e : Piece) (es : List Piece) (t : List ℕ) (a : Option (List ℕ)) (at p q : ℕ) (ends : List ℕ) (r : Found) → a ≡ after st u es t q
     → Said (e ∷ es) (after st u es t q) at q ends r → Said (e ∷ es) a at p ends r
 said-any st u e es t a at p q ends r i h =
     rw i (record { found = h .found ∙ more-any (fits st u) (width st u) (chosen st es) (drop q t) 0 q (drop q t) q p; ended = h .ended })

@@ -4,11 +4,11 @@ use native.Mathlib.Omega.{arith}
 use borrow.Author.Tests.{eqb-true}
 use lib.ListN.{length, length-set}
 use Rattle.passing.proofs.TryLaws.{again-wide, read-inside, stands, tried-done, tried-nothing, tried-more, tried-ended, next-trying, next-inside, copied-marked, at-small, in-row, in-ends, place-small}
-use Rattle.passing.proofs.RowLaws.{Untried, untried-start, copied-first, copied-none, untried-next, row-place, row-small, row-trying, most-small, count-inside}
+use Rattle.passing.proofs.RowLaws.{row-small, start-place, start-small, copied-first, copied-none, upper-repeating, copied-upper, lower-repeating, copied-lower, count-inside}
 use mir.Val.{Fits}
 use mir.Syntax.{w16, w64}
 use Rattle.macros.specs.Bounds.{mostLineBytes}
-use Prim.Native.Nat.{ℕ, _+_, _-_, _*_, _≤_, _<_}
+use Prim.Native.Nat.{ℕ, _+_, _-_, _*_, _/_, _≤_, _<_}
 use borrow.Fn.Kinds.{In}
 use borrow.Fn.PlainCycle.{Measures, is, falls, and}
 use Rattle.passing.proofs.matcher.closure.Reads as closure
@@ -48,12 +48,6 @@ abbrev elements-below : ℕ → In 6 elements-kinds.ps
 elements-below t =
     and 6 elements-kinds.ps (falls 6 elements-kinds.ps _<_ μ-elements t) elements.Pre
 
-abbrev closure-Inv-loop : closure-lts.InvT-loop
-closure-Inv-loop items kinds state line at next w q most marks₀ ends₀ back₀ marks ends back = Untried items state line at w q most back marks₀ marks ends
-
-abbrev closure-μ-loop : closure-lts.MeasureT-loop
-closure-μ-loop items kinds state line at next w q most marks₀ ends₀ back₀ marks ends back = most - back
-
 fit-part : (q x y : ℕ) → q + x * y ≤ mostLineBytes → Fits w64 (x * y)
 fit-part q x y l = omega arith
 
@@ -63,65 +57,86 @@ fit-place x l = omega arith
 fit-cast : (x : ℕ) → x ≤ mostLineBytes → Fits w16 x
 fit-cast x l = omega arith
 
-closure-loop-holds : (t : ℕ) → closure-lts.Need-loop-holds (elements-below t, elements.Post, set-mark-reads.Asked, set-mark-reads.Learnt) (closure-at t) closure.Post closure-Inv-loop closure-μ-loop
-closure-loop-holds t c = untried-start (c .before .before .before .before .before .args .items .now) (c .before .before .before .before .before .args .kinds .now) (c .before .before .before .before .before .args .state .now) (c .before .before .before .before .before .args .line .now) (c .before .before .before .before .before .args .at) (c .before .before .before .before .before .args .next) (c .before .before .before .before .before .args .w) (c .before .before .before .before .before .args .q) (c .before .before .before .before .before .args .most) (c .before .before .before .before .before .args .marks .now) (c .before .before .before .before .before .args .ends .now) (c .before .before .before .before .before .pre .1)
+closure-elements-requires : (t : ℕ) → closure-lts.Need-elements-requires (elements-below t, elements.Post, set-mark-reads.Asked, set-mark-reads.Learnt, closure-below t, closure.Post) (closure-at t) closure.Post
+closure-elements-requires t c κs = let m = c .before .before .before .before .before .before .before .before .pre .0 in let i = next-inside _ _ _ (c .before .before .before .before .before .before .before .before .pre .1 .stands) (c .before .before .before .before .before .before .before .before .pre .1 .behind) in (omega arith, next-trying _ _ _ _ _ _ _ _ _ (c .before .before .before .before .before .before .before .before .pre .1 .given) (c .before .before .before .before .before .before .before .before .pre .1 .noted) (c .before .before .before .before .before .before .before .before .pre .1 .stands) (c .before .before .before .before .before .before .before .before .pre .1 .behind) (start-place (c .before .before .before .before .before .before .before .before .args .items .now) (c .before .before .before .before .before .before .before .before .args .kinds .now) (c .before .before .before .before .before .before .before .before .args .state .now) (c .before .before .before .before .before .before .before .before .args .line .now) (c .before .before .before .before .before .before .before .before .args .at) (c .before .before .before .before .before .before .before .before .args .next) (c .before .before .before .before .before .before .before .before .args .w) (c .before .before .before .before .before .before .before .before .args .q) (c .before .before .before .before .before .before .before .before .args .most) (c .before .before .before .before .before .before .before .before .args .marks .now) (c .before .before .before .before .before .before .before .before .args .ends .now) (c .before .before .before .before .before .before .before .before .pre .1)))
 
-closure-sub-kept : (t : ℕ) → closure-lts.Need-sub-kept (elements-below t, elements.Post, set-mark-reads.Asked, set-mark-reads.Learnt) (closure-at t) closure.Post closure-Inv-loop closure-μ-loop
-closure-sub-kept t c = let l = c .loop .inv .some in omega arith
-
-closure-mul-r : (t : ℕ) → closure-lts.Need-mul-r (elements-below t, elements.Post, set-mark-reads.Asked, set-mark-reads.Learnt) (closure-at t) closure.Post closure-Inv-loop closure-μ-loop
-closure-mul-r t c = fit-part _ _ _ (row-small (c .before .before .before .before .before .before .args .items .now) (c .before .before .before .before .before .before .args .kinds .now) (c .before .before .before .before .before .before .args .state .now) (c .before .before .before .before .before .before .args .line .now) (c .before .before .before .before .before .before .args .at) (c .before .before .before .before .before .before .args .next) (c .before .before .before .before .before .before .args .w) (c .before .before .before .before .before .before .args .q) (c .before .before .before .before .before .before .args .most) (c .before .before .before .before .before .before .args .marks .now) (c .before .before .before .before .before .before .args .ends .now) (c .before .before .before .before .before .before .pre .1) _ _ (let l = c .loop .inv .some in omega arith) (let s = c .before .before .before .before .before .before .pre .1 .some in omega arith))
-
-closure-add-r : (t : ℕ) → closure-lts.Need-add-r (elements-below t, elements.Post, set-mark-reads.Asked, set-mark-reads.Learnt) (closure-at t) closure.Post closure-Inv-loop closure-μ-loop
-closure-add-r t c = fit-place _ (row-small (c .before .before .before .before .before .before .args .items .now) (c .before .before .before .before .before .before .args .kinds .now) (c .before .before .before .before .before .before .args .state .now) (c .before .before .before .before .before .before .args .line .now) (c .before .before .before .before .before .before .args .at) (c .before .before .before .before .before .before .args .next) (c .before .before .before .before .before .before .args .w) (c .before .before .before .before .before .before .args .q) (c .before .before .before .before .before .before .args .most) (c .before .before .before .before .before .before .args .marks .now) (c .before .before .before .before .before .before .args .ends .now) (c .before .before .before .before .before .before .pre .1) _ _ (let l = c .loop .inv .some in omega arith) (let s = c .before .before .before .before .before .before .pre .1 .some in omega arith))
-
-closure-elements-requires : (t : ℕ) → closure-lts.Need-elements-requires (elements-below t, elements.Post, set-mark-reads.Asked, set-mark-reads.Learnt) (closure-at t) closure.Post closure-Inv-loop closure-μ-loop
-closure-elements-requires t c κs = let m = c .before .before .before .before .before .before .before .before .pre .0 in let i = next-inside _ _ _ (c .before .before .before .before .before .before .before .before .pre .1 .stands) (c .before .before .before .before .before .before .before .before .pre .1 .behind) in (omega arith, row-trying (c .before .before .before .before .before .before .before .before .args .items .now) (c .before .before .before .before .before .before .before .before .args .kinds .now) (c .before .before .before .before .before .before .before .before .args .state .now) (c .before .before .before .before .before .before .before .before .args .line .now) (c .before .before .before .before .before .before .before .before .args .at) (c .before .before .before .before .before .before .before .before .args .next) (c .before .before .before .before .before .before .before .before .args .w) (c .before .before .before .before .before .before .before .before .args .q) (c .before .before .before .before .before .before .before .before .args .most) (c .before .before .before .before .before .before .before .before .args .marks .now) (c .before .before .before .before .before .before .before .before .args .ends .now) (c .before .before .before .before .before .before .before .before .pre .1) _ _ (let l = c .before .before .loop .inv .some in omega arith) (let s = c .before .before .before .before .before .before .before .before .pre .1 .some in omega arith) _ _ (c .before .before .loop .inv .kept .noted))
-
-closure-enum-known-end : (t : ℕ) → closure-lts.Need-enum-known-end (elements-below t, elements.Post, set-mark-reads.Asked, set-mark-reads.Learnt) (closure-at t) closure.Post closure-Inv-loop closure-μ-loop
+closure-enum-known-end : (t : ℕ) → closure-lts.Need-enum-known-end (elements-below t, elements.Post, set-mark-reads.Asked, set-mark-reads.Learnt, closure-below t, closure.Post) (closure-at t) closure.Post
 closure-enum-known-end t c = c .match .keys1
 
-closure-cast-ends : (t : ℕ) → closure-lts.Need-cast-ends (elements-below t, elements.Post, set-mark-reads.Asked, set-mark-reads.Learnt) (closure-at t) closure.Post closure-Inv-loop closure-μ-loop
-closure-cast-ends t c = fit-cast _ (row-small (c .before .before .before .before .before .before .before .before .before .before .before .before .before .before .before .before .args .items .now) (c .before .before .before .before .before .before .before .before .before .before .before .before .before .before .before .before .args .kinds .now) (c .before .before .before .before .before .before .before .before .before .before .before .before .before .before .before .before .args .state .now) (c .before .before .before .before .before .before .before .before .before .before .before .before .before .before .before .before .args .line .now) (c .before .before .before .before .before .before .before .before .before .before .before .before .before .before .before .before .args .at) (c .before .before .before .before .before .before .before .before .before .before .before .before .before .before .before .before .args .next) (c .before .before .before .before .before .before .before .before .before .before .before .before .before .before .before .before .args .w) (c .before .before .before .before .before .before .before .before .before .before .before .before .before .before .before .before .args .q) (c .before .before .before .before .before .before .before .before .before .before .before .before .before .before .before .before .args .most) (c .before .before .before .before .before .before .before .before .before .before .before .before .before .before .before .before .args .marks .now) (c .before .before .before .before .before .before .before .before .before .before .before .before .before .before .before .before .args .ends .now) (c .before .before .before .before .before .before .before .before .before .before .before .before .before .before .before .before .pre .1) _ _ (let l = c .before .before .before .before .before .before .before .before .before .before .loop .inv .some in omega arith) (let s = c .before .before .before .before .before .before .before .before .before .before .before .before .before .before .before .before .pre .1 .some in omega arith))
+closure-cast-ends : (t : ℕ) → closure-lts.Need-cast-ends (elements-below t, elements.Post, set-mark-reads.Asked, set-mark-reads.Learnt, closure-below t, closure.Post) (closure-at t) closure.Post
+closure-cast-ends t c = fit-cast _ (start-small (c .before .before .before .before .before .before .before .before .before .before .before .before .before .before .before .before .args .items .now) (c .before .before .before .before .before .before .before .before .before .before .before .before .before .before .before .before .args .kinds .now) (c .before .before .before .before .before .before .before .before .before .before .before .before .before .before .before .before .args .state .now) (c .before .before .before .before .before .before .before .before .before .before .before .before .before .before .before .before .args .line .now) (c .before .before .before .before .before .before .before .before .before .before .before .before .before .before .before .before .args .at) (c .before .before .before .before .before .before .before .before .before .before .before .before .before .before .before .before .args .next) (c .before .before .before .before .before .before .before .before .before .before .before .before .before .before .before .before .args .w) (c .before .before .before .before .before .before .before .before .before .before .before .before .before .before .before .before .args .q) (c .before .before .before .before .before .before .before .before .before .before .before .before .before .before .before .before .args .most) (c .before .before .before .before .before .before .before .before .before .before .before .before .before .before .before .before .args .marks .now) (c .before .before .before .before .before .before .before .before .before .before .before .before .before .before .before .before .args .ends .now) (c .before .before .before .before .before .before .before .before .before .before .before .before .before .before .before .before .pre .1))
 
-closure-mul-ends : (t : ℕ) → closure-lts.Need-mul-ends (elements-below t, elements.Post, set-mark-reads.Asked, set-mark-reads.Learnt) (closure-at t) closure.Post closure-Inv-loop closure-μ-loop
+closure-mul-ends : (t : ℕ) → closure-lts.Need-mul-ends (elements-below t, elements.Post, set-mark-reads.Asked, set-mark-reads.Learnt, closure-below t, closure.Post) (closure-at t) closure.Post
 closure-mul-ends t c = let z = at-small _ _ _ _ _ (c .before .before .before .before .before .before .before .before .before .before .before .before .before .before .before .before .pre .1 .given) (c .before .before .before .before .before .before .before .before .before .before .before .before .before .before .before .before .pre .1 .stands) in omega arith
 
-closure-slice-write-ends : (t : ℕ) → closure-lts.Need-slice-write-ends (elements-below t, elements.Post, set-mark-reads.Asked, set-mark-reads.Learnt) (closure-at t) closure.Post closure-Inv-loop closure-μ-loop
+closure-slice-write-ends : (t : ℕ) → closure-lts.Need-slice-write-ends (elements-below t, elements.Post, set-mark-reads.Asked, set-mark-reads.Learnt, closure-below t, closure.Post) (closure-at t) closure.Post
 closure-slice-write-ends t c = in-ends _ _ _ _ _ (c .before .before .before .before .before .before .before .before .before .before .before .before .before .before .before .before .pre .1 .given) (c .before .before .before .before .before .before .before .before .before .before .before .before .before .before .before .before .pre .1 .stands) _ (c .before .before .before .before .before .before .before .elements .ensures .kept .noted .count)
 
-closure-same-length : (t : ℕ) → closure-lts.Need-same-length (elements-below t, elements.Post, set-mark-reads.Asked, set-mark-reads.Learnt) (closure-at t) closure.Post closure-Inv-loop closure-μ-loop
+closure-same-length : (t : ℕ) → closure-lts.Need-same-length (elements-below t, elements.Post, set-mark-reads.Asked, set-mark-reads.Learnt, closure-below t, closure.Post) (closure-at t) closure.Post
 closure-same-length t c = c .before .before .before .before .before .before .before .elements .ensures .kept .noted .size ∙ sym (c .before .before .before .before .before .before .before .before .before .before .before .before .before .before .before .before .pre .1 .noted .size)
 
-closure-same-length-2 : (t : ℕ) → closure-lts.Need-same-length-2 (elements-below t, elements.Post, set-mark-reads.Asked, set-mark-reads.Learnt) (closure-at t) closure.Post closure-Inv-loop closure-μ-loop
+closure-same-length-2 : (t : ℕ) → closure-lts.Need-same-length-2 (elements-below t, elements.Post, set-mark-reads.Asked, set-mark-reads.Learnt, closure-below t, closure.Post) (closure-at t) closure.Post
 closure-same-length-2 t c = simp length-set (c .before .before .before .before .before .before .before .elements .ensures .kept .noted .count ∙ sym (c .before .before .before .before .before .before .before .before .before .before .before .before .before .before .before .before .pre .1 .noted .count))
 
-closure-returns : (t : ℕ) → closure-lts.Need-returns (elements-below t, elements.Post, set-mark-reads.Asked, set-mark-reads.Learnt) (closure-at t) closure.Post closure-Inv-loop closure-μ-loop
-closure-returns t c = copied-first (c .before .before .before .before .before .before .before .before .before .before .before .before .before .before .before .before .args .items .now) (c .before .before .before .before .before .before .before .before .before .before .before .before .before .before .before .before .args .kinds .now) (c .before .before .before .before .before .before .before .before .before .before .before .before .before .before .before .before .args .state .now) (c .before .before .before .before .before .before .before .before .before .before .before .before .before .before .before .before .args .line .now) (c .before .before .before .before .before .before .before .before .before .before .before .before .before .before .before .before .args .at) (c .before .before .before .before .before .before .before .before .before .before .before .before .before .before .before .before .args .next) (c .before .before .before .before .before .before .before .before .before .before .before .before .before .before .before .before .args .w) (c .before .before .before .before .before .before .before .before .before .before .before .before .before .before .before .before .args .q) (c .before .before .before .before .before .before .before .before .before .before .before .before .before .before .before .before .args .most) (c .before .before .before .before .before .before .before .before .before .before .before .before .before .before .before .before .args .marks .now) (c .before .before .before .before .before .before .before .before .before .before .before .before .before .before .before .before .args .ends .now) (c .before .before .before .before .before .before .before .before .before .before .before .before .before .before .before .before .pre .1) _ (c .before .before .before .before .before .before .before .before .before .before .loop .marks) (c .before .before .before .before .before .before .before .before .before .before .loop .ends) (c .before .before .before .before .before .before .before .before .before .before .loop .inv) _ _ _ (in-ends _ _ _ _ _ (c .before .before .before .before .before .before .before .before .before .before .before .before .before .before .before .before .pre .1 .given) (c .before .before .before .before .before .before .before .before .before .before .before .before .before .before .before .before .pre .1 .stands) _ (c .before .before .before .before .before .before .before .elements .ensures .kept .noted .count)) (rw (c .before .end .given .1) at (c .before .before .before .before .before .before .before .elements .ensures))
+closure-returns : (t : ℕ) → closure-lts.Need-returns (elements-below t, elements.Post, set-mark-reads.Asked, set-mark-reads.Learnt, closure-below t, closure.Post) (closure-at t) closure.Post
+closure-returns t c = copied-first (c .before .before .before .before .before .before .before .before .before .before .before .before .before .before .before .before .args .items .now) (c .before .before .before .before .before .before .before .before .before .before .before .before .before .before .before .before .args .kinds .now) (c .before .before .before .before .before .before .before .before .before .before .before .before .before .before .before .before .args .state .now) (c .before .before .before .before .before .before .before .before .before .before .before .before .before .before .before .before .args .line .now) (c .before .before .before .before .before .before .before .before .before .before .before .before .before .before .before .before .args .at) (c .before .before .before .before .before .before .before .before .before .before .before .before .before .before .before .before .args .next) (c .before .before .before .before .before .before .before .before .before .before .before .before .before .before .before .before .args .w) (c .before .before .before .before .before .before .before .before .before .before .before .before .before .before .before .before .args .q) (c .before .before .before .before .before .before .before .before .before .before .before .before .before .before .before .before .args .most) (c .before .before .before .before .before .before .before .before .before .before .before .before .before .before .before .before .args .marks .now) (c .before .before .before .before .before .before .before .before .before .before .before .before .before .before .before .before .args .ends .now) (c .before .before .before .before .before .before .before .before .before .before .before .before .before .before .before .before .pre .1) (c .before .before .before .before .before .before .before .before .before .before .if1 .taken) _ _ _ (in-ends _ _ _ _ _ (c .before .before .before .before .before .before .before .before .before .before .before .before .before .before .before .before .pre .1 .given) (c .before .before .before .before .before .before .before .before .before .before .before .before .before .before .before .before .pre .1 .stands) _ (c .before .before .before .before .before .before .before .elements .ensures .kept .noted .count)) (rw (c .before .end .given .1) at (c .before .before .before .before .before .before .before .elements .ensures))
 
-closure-enum-told : (t : ℕ) → closure-lts.Need-enum-told (elements-below t, elements.Post, set-mark-reads.Asked, set-mark-reads.Learnt) (closure-at t) closure.Post closure-Inv-loop closure-μ-loop
+closure-enum-told : (t : ℕ) → closure-lts.Need-enum-told (elements-below t, elements.Post, set-mark-reads.Asked, set-mark-reads.Learnt, closure-below t, closure.Post) (closure-at t) closure.Post
 closure-enum-told t c = c .match .keys2
 
-closure-set-mark-requires : (t : ℕ) → closure-lts.Need-set-mark-requires (elements-below t, elements.Post, set-mark-reads.Asked, set-mark-reads.Learnt) (closure-at t) closure.Post closure-Inv-loop closure-μ-loop
-closure-set-mark-requires t c κs = in-row _ _ _ _ _ (c .before .before .before .before .before .before .before .before .before .before .before .before .before .before .before .before .pre .1 .given) (c .before .before .before .before .before .before .before .before .before .before .before .before .before .before .before .before .pre .1 .stands) _ _ (c .before .before .before .before .before .before .before .elements .ensures .kept .noted .size) (row-place (c .before .before .before .before .before .before .before .before .before .before .before .before .before .before .before .before .args .items .now) (c .before .before .before .before .before .before .before .before .before .before .before .before .before .before .before .before .args .kinds .now) (c .before .before .before .before .before .before .before .before .before .before .before .before .before .before .before .before .args .state .now) (c .before .before .before .before .before .before .before .before .before .before .before .before .before .before .before .before .args .line .now) (c .before .before .before .before .before .before .before .before .before .before .before .before .before .before .before .before .args .at) (c .before .before .before .before .before .before .before .before .before .before .before .before .before .before .before .before .args .next) (c .before .before .before .before .before .before .before .before .before .before .before .before .before .before .before .before .args .w) (c .before .before .before .before .before .before .before .before .before .before .before .before .before .before .before .before .args .q) (c .before .before .before .before .before .before .before .before .before .before .before .before .before .before .before .before .args .most) (c .before .before .before .before .before .before .before .before .before .before .before .before .before .before .before .before .args .marks .now) (c .before .before .before .before .before .before .before .before .before .before .before .before .before .before .before .before .args .ends .now) (c .before .before .before .before .before .before .before .before .before .before .before .before .before .before .before .before .pre .1) _ _ (let l = c .before .before .before .before .before .before .before .before .before .before .loop .inv .some in omega arith) (let s = c .before .before .before .before .before .before .before .before .before .before .before .before .before .before .before .before .pre .1 .some in omega arith))
+closure-set-mark-requires : (t : ℕ) → closure-lts.Need-set-mark-requires (elements-below t, elements.Post, set-mark-reads.Asked, set-mark-reads.Learnt, closure-below t, closure.Post) (closure-at t) closure.Post
+closure-set-mark-requires t c κs = in-row _ _ _ _ _ (c .before .before .before .before .before .before .before .before .before .before .before .before .before .before .before .before .pre .1 .given) (c .before .before .before .before .before .before .before .before .before .before .before .before .before .before .before .before .pre .1 .stands) _ _ (c .before .before .before .before .before .before .before .elements .ensures .kept .noted .size) (start-place (c .before .before .before .before .before .before .before .before .before .before .before .before .before .before .before .before .args .items .now) (c .before .before .before .before .before .before .before .before .before .before .before .before .before .before .before .before .args .kinds .now) (c .before .before .before .before .before .before .before .before .before .before .before .before .before .before .before .before .args .state .now) (c .before .before .before .before .before .before .before .before .before .before .before .before .before .before .before .before .args .line .now) (c .before .before .before .before .before .before .before .before .before .before .before .before .before .before .before .before .args .at) (c .before .before .before .before .before .before .before .before .before .before .before .before .before .before .before .before .args .next) (c .before .before .before .before .before .before .before .before .before .before .before .before .before .before .before .before .args .w) (c .before .before .before .before .before .before .before .before .before .before .before .before .before .before .before .before .args .q) (c .before .before .before .before .before .before .before .before .before .before .before .before .before .before .before .before .args .most) (c .before .before .before .before .before .before .before .before .before .before .before .before .before .before .before .before .args .marks .now) (c .before .before .before .before .before .before .before .before .before .before .before .before .before .before .before .before .args .ends .now) (c .before .before .before .before .before .before .before .before .before .before .before .before .before .before .before .before .pre .1))
 
-closure-same-length-3 : (t : ℕ) → closure-lts.Need-same-length-3 (elements-below t, elements.Post, set-mark-reads.Asked, set-mark-reads.Learnt) (closure-at t) closure.Post closure-Inv-loop closure-μ-loop
-closure-same-length-3 t c = c .before .before .before .set-mark .kept .0 ∙ c .before .before .before .before .before .before .before .before .before .before .before .elements .ensures .kept .noted .size ∙ sym (c .before .before .before .before .before .before .before .before .before .before .before .before .before .before .before .before .before .before .before .before .pre .1 .noted .size)
+closure-same-length-3 : (t : ℕ) → closure-lts.Need-same-length-3 (elements-below t, elements.Post, set-mark-reads.Asked, set-mark-reads.Learnt, closure-below t, closure.Post) (closure-at t) closure.Post
+closure-same-length-3 t c = c .before .before .set-mark .kept .0 ∙ c .before .before .before .before .before .before .before .before .before .before .elements .ensures .kept .noted .size ∙ sym (c .before .before .before .before .before .before .before .before .before .before .before .before .before .before .before .before .before .before .before .pre .1 .noted .size)
 
-closure-same-length-4 : (t : ℕ) → closure-lts.Need-same-length-4 (elements-below t, elements.Post, set-mark-reads.Asked, set-mark-reads.Learnt) (closure-at t) closure.Post closure-Inv-loop closure-μ-loop
-closure-same-length-4 t c = c .before .before .before .before .before .before .before .before .before .before .before .elements .ensures .kept .noted .count ∙ sym (c .before .before .before .before .before .before .before .before .before .before .before .before .before .before .before .before .before .before .before .before .pre .1 .noted .count)
+closure-same-length-4 : (t : ℕ) → closure-lts.Need-same-length-4 (elements-below t, elements.Post, set-mark-reads.Asked, set-mark-reads.Learnt, closure-below t, closure.Post) (closure-at t) closure.Post
+closure-same-length-4 t c = c .before .before .before .before .before .before .before .before .before .before .elements .ensures .kept .noted .count ∙ sym (c .before .before .before .before .before .before .before .before .before .before .before .before .before .before .before .before .before .before .before .pre .1 .noted .count)
 
-closure-returns-2 : (t : ℕ) → closure-lts.Need-returns-2 (elements-below t, elements.Post, set-mark-reads.Asked, set-mark-reads.Learnt) (closure-at t) closure.Post closure-Inv-loop closure-μ-loop
-closure-returns-2 t c = copied-none (c .before .before .before .before .before .before .before .before .before .before .before .before .before .before .before .before .before .before .before .before .args .items .now) (c .before .before .before .before .before .before .before .before .before .before .before .before .before .before .before .before .before .before .before .before .args .kinds .now) (c .before .before .before .before .before .before .before .before .before .before .before .before .before .before .before .before .before .before .before .before .args .state .now) (c .before .before .before .before .before .before .before .before .before .before .before .before .before .before .before .before .before .before .before .before .args .line .now) (c .before .before .before .before .before .before .before .before .before .before .before .before .before .before .before .before .before .before .before .before .args .at) (c .before .before .before .before .before .before .before .before .before .before .before .before .before .before .before .before .before .before .before .before .args .next) (c .before .before .before .before .before .before .before .before .before .before .before .before .before .before .before .before .before .before .before .before .args .w) (c .before .before .before .before .before .before .before .before .before .before .before .before .before .before .before .before .before .before .before .before .args .q) (c .before .before .before .before .before .before .before .before .before .before .before .before .before .before .before .before .before .before .before .before .args .most) (c .before .before .before .before .before .before .before .before .before .before .before .before .before .before .before .before .before .before .before .before .args .marks .now) (c .before .before .before .before .before .before .before .before .before .before .before .before .before .before .before .before .before .before .before .before .args .ends .now) (c .before .before .before .before .before .before .before .before .before .before .before .before .before .before .before .before .before .before .before .before .pre .1) _ (c .before .before .before .before .before .before .before .before .before .before .before .before .before .before .loop .marks) (c .before .before .before .before .before .before .before .before .before .before .before .before .before .before .loop .ends) (c .before .before .before .before .before .before .before .before .before .before .before .before .before .before .loop .inv) _ _ (rw (c .before .before .before .before .before .enum-told .given .1) at (c .before .before .before .before .before .before .before .before .before .before .before .elements .ensures)) _ (c .before .before .before .set-mark .ensures) (c .if1 .taken)
+closure-returns-2 : (t : ℕ) → closure-lts.Need-returns-2 (elements-below t, elements.Post, set-mark-reads.Asked, set-mark-reads.Learnt, closure-below t, closure.Post) (closure-at t) closure.Post
+closure-returns-2 t c = copied-none (c .before .before .before .before .before .before .before .before .before .before .before .before .before .before .before .before .before .before .before .args .items .now) (c .before .before .before .before .before .before .before .before .before .before .before .before .before .before .before .before .before .before .before .args .kinds .now) (c .before .before .before .before .before .before .before .before .before .before .before .before .before .before .before .before .before .before .before .args .state .now) (c .before .before .before .before .before .before .before .before .before .before .before .before .before .before .before .before .before .before .before .args .line .now) (c .before .before .before .before .before .before .before .before .before .before .before .before .before .before .before .before .before .before .before .args .at) (c .before .before .before .before .before .before .before .before .before .before .before .before .before .before .before .before .before .before .before .args .next) (c .before .before .before .before .before .before .before .before .before .before .before .before .before .before .before .before .before .before .before .args .w) (c .before .before .before .before .before .before .before .before .before .before .before .before .before .before .before .before .before .before .before .args .q) (c .before .before .before .before .before .before .before .before .before .before .before .before .before .before .before .before .before .before .before .args .most) (c .before .before .before .before .before .before .before .before .before .before .before .before .before .before .before .before .before .before .before .args .marks .now) (c .before .before .before .before .before .before .before .before .before .before .before .before .before .before .before .before .before .before .before .args .ends .now) (c .before .before .before .before .before .before .before .before .before .before .before .before .before .before .before .before .before .before .before .pre .1) (c .before .before .before .before .before .before .before .before .before .before .before .before .before .if1 .taken) _ _ (rw (c .before .before .before .before .enum-told .given .1) at (c .before .before .before .before .before .before .before .before .before .before .elements .ensures)) _ (c .before .before .set-mark .ensures)
 
-closure-add-back : (t : ℕ) → closure-lts.Need-add-back (elements-below t, elements.Post, set-mark-reads.Asked, set-mark-reads.Learnt) (closure-at t) closure.Post closure-Inv-loop closure-μ-loop
-closure-add-back t c = let z = most-small (c .before .before .before .before .before .before .before .before .before .before .before .before .before .before .before .before .before .before .before .before .args .items .now) (c .before .before .before .before .before .before .before .before .before .before .before .before .before .before .before .before .before .before .before .before .args .kinds .now) (c .before .before .before .before .before .before .before .before .before .before .before .before .before .before .before .before .before .before .before .before .args .state .now) (c .before .before .before .before .before .before .before .before .before .before .before .before .before .before .before .before .before .before .before .before .args .line .now) (c .before .before .before .before .before .before .before .before .before .before .before .before .before .before .before .before .before .before .before .before .args .at) (c .before .before .before .before .before .before .before .before .before .before .before .before .before .before .before .before .before .before .before .before .args .next) (c .before .before .before .before .before .before .before .before .before .before .before .before .before .before .before .before .before .before .before .before .args .w) (c .before .before .before .before .before .before .before .before .before .before .before .before .before .before .before .before .before .before .before .before .args .q) (c .before .before .before .before .before .before .before .before .before .before .before .before .before .before .before .before .before .before .before .before .args .most) (c .before .before .before .before .before .before .before .before .before .before .before .before .before .before .before .before .before .before .before .before .args .marks .now) (c .before .before .before .before .before .before .before .before .before .before .before .before .before .before .before .before .before .before .before .before .args .ends .now) (c .before .before .before .before .before .before .before .before .before .before .before .before .before .before .before .before .before .before .before .before .pre .1) in let l = c .before .before .before .before .before .before .before .before .before .before .before .before .before .before .loop .inv .some in omega arith
+closure-sub-more : (t : ℕ) → closure-lts.Need-sub-more (elements-below t, elements.Post, set-mark-reads.Asked, set-mark-reads.Learnt, closure-below t, closure.Post) (closure-at t) closure.Post
+closure-sub-more t c = omega arith
 
-closure-loop-less : (t : ℕ) → closure-lts.Need-loop-less (elements-below t, elements.Post, set-mark-reads.Asked, set-mark-reads.Learnt) (closure-at t) closure.Post closure-Inv-loop closure-μ-loop
-closure-loop-less t c = let l = c .before .before .before .before .before .before .before .before .before .before .before .before .before .before .loop .inv .some in let n = c .if1 .left in omega arith
+closure-sub-low : (t : ℕ) → closure-lts.Need-sub-low (elements-below t, elements.Post, set-mark-reads.Asked, set-mark-reads.Learnt, closure-below t, closure.Post) (closure-at t) closure.Post
+closure-sub-low t c = let n = c .if1 .left in omega arith
 
-closure-loop-again : (t : ℕ) → closure-lts.Need-loop-again (elements-below t, elements.Post, set-mark-reads.Asked, set-mark-reads.Learnt) (closure-at t) closure.Post closure-Inv-loop closure-μ-loop
-closure-loop-again t c = untried-next (c .before .before .before .before .before .before .before .before .before .before .before .before .before .before .before .before .before .before .before .before .args .items .now) (c .before .before .before .before .before .before .before .before .before .before .before .before .before .before .before .before .before .before .before .before .args .kinds .now) (c .before .before .before .before .before .before .before .before .before .before .before .before .before .before .before .before .before .before .before .before .args .state .now) (c .before .before .before .before .before .before .before .before .before .before .before .before .before .before .before .before .before .before .before .before .args .line .now) (c .before .before .before .before .before .before .before .before .before .before .before .before .before .before .before .before .before .before .before .before .args .at) (c .before .before .before .before .before .before .before .before .before .before .before .before .before .before .before .before .before .before .before .before .args .next) (c .before .before .before .before .before .before .before .before .before .before .before .before .before .before .before .before .before .before .before .before .args .w) (c .before .before .before .before .before .before .before .before .before .before .before .before .before .before .before .before .before .before .before .before .args .q) (c .before .before .before .before .before .before .before .before .before .before .before .before .before .before .before .before .before .before .before .before .args .most) (c .before .before .before .before .before .before .before .before .before .before .before .before .before .before .before .before .before .before .before .before .args .marks .now) (c .before .before .before .before .before .before .before .before .before .before .before .before .before .before .before .before .before .before .before .before .args .ends .now) (c .before .before .before .before .before .before .before .before .before .before .before .before .before .before .before .before .before .before .before .before .pre .1) _ (c .before .before .before .before .before .before .before .before .before .before .before .before .before .before .loop .marks) (c .before .before .before .before .before .before .before .before .before .before .before .before .before .before .loop .ends) (c .before .before .before .before .before .before .before .before .before .before .before .before .before .before .loop .inv) _ _ (rw (c .before .before .before .before .before .enum-told .given .1) at (c .before .before .before .before .before .before .before .before .before .before .before .elements .ensures)) _ (c .before .before .before .set-mark .ensures) (c .if1 .left)
+closure-mul-r : (t : ℕ) → closure-lts.Need-mul-r (elements-below t, elements.Post, set-mark-reads.Asked, set-mark-reads.Learnt, closure-below t, closure.Post) (closure-at t) closure.Post
+closure-mul-r t c = fit-part _ _ _ (row-small (c .before .before .before .before .before .before .args .items .now) (c .before .before .before .before .before .before .args .kinds .now) (c .before .before .before .before .before .before .args .state .now) (c .before .before .before .before .before .before .args .line .now) (c .before .before .before .before .before .before .args .at) (c .before .before .before .before .before .before .args .next) (c .before .before .before .before .before .before .args .w) (c .before .before .before .before .before .before .args .q) (c .before .before .before .before .before .before .args .most) (c .before .before .before .before .before .before .args .marks .now) (c .before .before .before .before .before .before .args .ends .now) (c .before .before .before .before .before .before .pre .1) _ _ (omega arith) (let s = c .before .before .before .before .before .before .pre .1 .some in omega arith))
+
+closure-add-r : (t : ℕ) → closure-lts.Need-add-r (elements-below t, elements.Post, set-mark-reads.Asked, set-mark-reads.Learnt, closure-below t, closure.Post) (closure-at t) closure.Post
+closure-add-r t c = fit-place _ (row-small (c .before .before .before .before .before .before .args .items .now) (c .before .before .before .before .before .before .args .kinds .now) (c .before .before .before .before .before .before .args .state .now) (c .before .before .before .before .before .before .args .line .now) (c .before .before .before .before .before .before .args .at) (c .before .before .before .before .before .before .args .next) (c .before .before .before .before .before .before .args .w) (c .before .before .before .before .before .before .args .q) (c .before .before .before .before .before .before .args .most) (c .before .before .before .before .before .before .args .marks .now) (c .before .before .before .before .before .before .args .ends .now) (c .before .before .before .before .before .before .pre .1) _ _ (omega arith) (let s = c .before .before .before .before .before .before .pre .1 .some in omega arith))
+
+closure-closure-requires : (t : ℕ) → closure-lts.Need-closure-requires (elements-below t, elements.Post, set-mark-reads.Asked, set-mark-reads.Learnt, closure-below t, closure.Post) (closure-at t) closure.Post
+closure-closure-requires t c κs = let m = c .before .before .before .before .before .before .before .before .pre .0 in let n = c .before .before .if1 .left in (omega arith, upper-repeating (c .before .before .before .before .before .before .before .before .args .items .now) (c .before .before .before .before .before .before .before .before .args .kinds .now) (c .before .before .before .before .before .before .before .before .args .state .now) (c .before .before .before .before .before .before .before .before .args .line .now) (c .before .before .before .before .before .before .before .before .args .at) (c .before .before .before .before .before .before .before .before .args .next) (c .before .before .before .before .before .before .before .before .args .w) (c .before .before .before .before .before .before .before .before .args .q) (c .before .before .before .before .before .before .before .before .args .most) (c .before .before .before .before .before .before .before .before .args .marks .now) (c .before .before .before .before .before .before .before .before .args .ends .now) (c .before .before .before .before .before .before .before .before .pre .1) (c .before .before .before .before .before .before .before .before .args .most - c .before .before .before .before .before .before .before .before .args .most / 2) (c .before .before .before .before .before .before .before .before .args .most / 2) (omega arith))
+
+closure-enum-told-2 : (t : ℕ) → closure-lts.Need-enum-told-2 (elements-below t, elements.Post, set-mark-reads.Asked, set-mark-reads.Learnt, closure-below t, closure.Post) (closure-at t) closure.Post
+closure-enum-told-2 t c = c .match2 .keys1
+
+closure-same-length-5 : (t : ℕ) → closure-lts.Need-same-length-5 (elements-below t, elements.Post, set-mark-reads.Asked, set-mark-reads.Learnt, closure-below t, closure.Post) (closure-at t) closure.Post
+closure-same-length-5 t c = c .before .before .before .before .before .before .closure .ensures .kept .noted .size ∙ sym (c .before .before .before .before .before .before .before .before .before .before .before .before .before .before .before .pre .1 .noted .size)
+
+closure-same-length-6 : (t : ℕ) → closure-lts.Need-same-length-6 (elements-below t, elements.Post, set-mark-reads.Asked, set-mark-reads.Learnt, closure-below t, closure.Post) (closure-at t) closure.Post
+closure-same-length-6 t c = c .before .before .before .before .before .before .closure .ensures .kept .noted .count ∙ sym (c .before .before .before .before .before .before .before .before .before .before .before .before .before .before .before .pre .1 .noted .count)
+
+closure-returns-3 : (t : ℕ) → closure-lts.Need-returns-3 (elements-below t, elements.Post, set-mark-reads.Asked, set-mark-reads.Learnt, closure-below t, closure.Post) (closure-at t) closure.Post
+closure-returns-3 t c = copied-upper (c .before .before .before .before .before .before .before .before .before .before .before .before .before .before .before .args .items .now) (c .before .before .before .before .before .before .before .before .before .before .before .before .before .before .before .args .kinds .now) (c .before .before .before .before .before .before .before .before .before .before .before .before .before .before .before .args .state .now) (c .before .before .before .before .before .before .before .before .before .before .before .before .before .before .before .args .line .now) (c .before .before .before .before .before .before .before .before .before .before .before .before .before .before .before .args .at) (c .before .before .before .before .before .before .before .before .before .before .before .before .before .before .before .args .next) (c .before .before .before .before .before .before .before .before .before .before .before .before .before .before .before .args .w) (c .before .before .before .before .before .before .before .before .before .before .before .before .before .before .before .args .q) (c .before .before .before .before .before .before .before .before .before .before .before .before .before .before .before .args .most) (c .before .before .before .before .before .before .before .before .before .before .before .before .before .before .before .args .marks .now) (c .before .before .before .before .before .before .before .before .before .before .before .before .before .before .before .args .ends .now) (c .before .before .before .before .before .before .before .before .before .before .before .before .before .before .before .pre .1) (c .before .before .before .before .before .before .before .before .before .before .before .before .before .before .before .args .most - c .before .before .before .before .before .before .before .before .before .before .before .before .before .before .before .args .most / 2) (c .before .before .before .before .before .before .before .before .before .before .before .before .before .before .before .args .most / 2) (omega arith) _ _ _ _ (c .enum-told2 .given .1) (c .before .before .before .before .before .before .closure .ensures)
+
+closure-enum-told-3 : (t : ℕ) → closure-lts.Need-enum-told-3 (elements-below t, elements.Post, set-mark-reads.Asked, set-mark-reads.Learnt, closure-below t, closure.Post) (closure-at t) closure.Post
+closure-enum-told-3 t c = c .match2 .keys2
+
+closure-closure-requires-2 : (t : ℕ) → closure-lts.Need-closure-requires-2 (elements-below t, elements.Post, set-mark-reads.Asked, set-mark-reads.Learnt, closure-below t, closure.Post) (closure-at t) closure.Post
+closure-closure-requires-2 t c κs = let m = c .before .before .before .before .before .before .before .before .before .before .before .before .before .before .before .before .before .pre .0 in let n = c .before .before .before .before .before .before .before .before .before .before .before .if1 .left in (omega arith, lower-repeating (c .before .before .before .before .before .before .before .before .before .before .before .before .before .before .before .before .before .args .items .now) (c .before .before .before .before .before .before .before .before .before .before .before .before .before .before .before .before .before .args .kinds .now) (c .before .before .before .before .before .before .before .before .before .before .before .before .before .before .before .before .before .args .state .now) (c .before .before .before .before .before .before .before .before .before .before .before .before .before .before .before .before .before .args .line .now) (c .before .before .before .before .before .before .before .before .before .before .before .before .before .before .before .before .before .args .at) (c .before .before .before .before .before .before .before .before .before .before .before .before .before .before .before .before .before .args .next) (c .before .before .before .before .before .before .before .before .before .before .before .before .before .before .before .before .before .args .w) (c .before .before .before .before .before .before .before .before .before .before .before .before .before .before .before .before .before .args .q) (c .before .before .before .before .before .before .before .before .before .before .before .before .before .before .before .before .before .args .most) (c .before .before .before .before .before .before .before .before .before .before .before .before .before .before .before .before .before .args .marks .now) (c .before .before .before .before .before .before .before .before .before .before .before .before .before .before .before .before .before .args .ends .now) (c .before .before .before .before .before .before .before .before .before .before .before .before .before .before .before .before .before .pre .1) (c .before .before .before .before .before .before .before .before .before .before .before .before .before .before .before .before .before .args .most - c .before .before .before .before .before .before .before .before .before .before .before .before .before .before .before .before .before .args .most / 2) (c .before .before .before .before .before .before .before .before .before .before .before .before .before .before .before .before .before .args .most / 2) (omega arith) (let n = c .before .before .before .before .before .before .before .before .before .before .before .if1 .left in omega arith) _ _ (rw (c .before .before .enum-told3 .given .1) at (c .before .before .before .before .before .before .before .before .closure .ensures)))
+
+closure-same-length-7 : (t : ℕ) → closure-lts.Need-same-length-7 (elements-below t, elements.Post, set-mark-reads.Asked, set-mark-reads.Learnt, closure-below t, closure.Post) (closure-at t) closure.Post
+closure-same-length-7 t c = c .before .before .before .before .closure2 .ensures .kept .noted .size ∙ sym (c .before .before .before .before .before .before .before .before .before .before .before .before .before .before .before .before .before .before .before .before .before .before .pre .1 .noted .size)
+
+closure-same-length-8 : (t : ℕ) → closure-lts.Need-same-length-8 (elements-below t, elements.Post, set-mark-reads.Asked, set-mark-reads.Learnt, closure-below t, closure.Post) (closure-at t) closure.Post
+closure-same-length-8 t c = c .before .before .before .before .closure2 .ensures .kept .noted .count ∙ sym (c .before .before .before .before .before .before .before .before .before .before .before .before .before .before .before .before .before .before .before .before .before .before .pre .1 .noted .count)
+
+closure-returns-4 : (t : ℕ) → closure-lts.Need-returns-4 (elements-below t, elements.Post, set-mark-reads.Asked, set-mark-reads.Learnt, closure-below t, closure.Post) (closure-at t) closure.Post
+closure-returns-4 t c = copied-lower (c .before .before .before .before .before .before .before .before .before .before .before .before .before .before .before .before .before .before .before .before .before .before .args .items .now) (c .before .before .before .before .before .before .before .before .before .before .before .before .before .before .before .before .before .before .before .before .before .before .args .kinds .now) (c .before .before .before .before .before .before .before .before .before .before .before .before .before .before .before .before .before .before .before .before .before .before .args .state .now) (c .before .before .before .before .before .before .before .before .before .before .before .before .before .before .before .before .before .before .before .before .before .before .args .line .now) (c .before .before .before .before .before .before .before .before .before .before .before .before .before .before .before .before .before .before .before .before .before .before .args .at) (c .before .before .before .before .before .before .before .before .before .before .before .before .before .before .before .before .before .before .before .before .before .before .args .next) (c .before .before .before .before .before .before .before .before .before .before .before .before .before .before .before .before .before .before .before .before .before .before .args .w) (c .before .before .before .before .before .before .before .before .before .before .before .before .before .before .before .before .before .before .before .before .before .before .args .q) (c .before .before .before .before .before .before .before .before .before .before .before .before .before .before .before .before .before .before .before .before .before .before .args .most) (c .before .before .before .before .before .before .before .before .before .before .before .before .before .before .before .before .before .before .before .before .before .before .args .marks .now) (c .before .before .before .before .before .before .before .before .before .before .before .before .before .before .before .before .before .before .before .before .before .before .args .ends .now) (c .before .before .before .before .before .before .before .before .before .before .before .before .before .before .before .before .before .before .before .before .before .before .pre .1) (c .before .before .before .before .before .before .before .before .before .before .before .before .before .before .before .before .before .before .before .before .before .before .args .most - c .before .before .before .before .before .before .before .before .before .before .before .before .before .before .before .before .before .before .before .before .before .before .args .most / 2) (c .before .before .before .before .before .before .before .before .before .before .before .before .before .before .before .before .before .before .before .before .before .before .args .most / 2) (omega arith) (let n = c .before .before .before .before .before .before .before .before .before .before .before .before .before .before .before .before .if1 .left in omega arith) _ _ (rw (c .before .before .before .before .before .before .before .enum-told3 .given .1) at (c .before .before .before .before .before .before .before .before .before .before .before .before .before .closure .ensures)) _ _ _ (c .before .before .before .before .closure2 .ensures)
 
 elements-returns : (t : ℕ) → elements-lts.Need-returns (element-at-reads.Asked, element-at-reads.Learnt, width-of-reads.Asked, width-of-reads.Learnt, lead-at-reads.Asked, lead-at-reads.Learnt, behind-reads.Asked, behind-reads.Learnt, may-repeat-reads.Asked, may-repeat-reads.Learnt, is-marked-reads.Asked, is-marked-reads.Learnt, most-copies-reads.Asked, most-copies-reads.Learnt, closure-below t, closure.Post, elements-below t, elements.Post, ended-reads.Asked, ended-reads.Learnt) (elements-at t) elements.Post
 elements-returns t c = tried-done (c .before .before .before .before .before .before .args .items .now) (c .before .before .before .before .before .before .args .kinds .now) (c .before .before .before .before .before .before .args .state .now) (c .before .before .before .before .before .before .args .line .now) (c .before .before .before .before .before .before .args .at) (c .before .before .before .before .before .before .args .p) (c .before .before .before .before .before .before .args .marks .now) (c .before .before .before .before .before .before .args .ends .now) (c .before .before .before .before .before .before .pre .1) (c .if1 .taken)
@@ -190,15 +205,9 @@ elements-returns-5 : (t : ℕ) → elements-lts.Need-returns-5 (element-at-reads
 elements-returns-5 t c = tried-ended (c .before .before .before .before .before .before .before .before .before .before .before .before .before .before .before .before .before .before .before .before .before .before .before .before .before .before .args .items .now) (c .before .before .before .before .before .before .before .before .before .before .before .before .before .before .before .before .before .before .before .before .before .before .before .before .before .before .args .state .now) (c .before .before .before .before .before .before .before .before .before .before .before .before .before .before .before .before .before .before .before .before .before .before .before .before .before .before .args .line .now) (c .before .before .before .before .before .before .before .before .before .before .before .before .before .before .before .before .before .before .before .before .before .before .before .before .before .before .args .at) (c .before .before .before .before .before .before .before .before .before .before .before .before .before .before .before .before .before .before .before .before .before .before .before .before .before .before .args .p) (c .before .before .before .before .before .before .before .before .before .before .before .before .before .before .before .before .before .before .before .before .if1 .left) (c .before .before .before .before .before .before .before .before .before .before .before .before .before .before .before .before .before .before .before .element-at .result) (c .before .before .before .before .before .before .before .before .before .before .before .before .before .before .before .before .before .before .width-of .result) (c .before .before .before .before .before .before .before .before .before .before .before .before .before .before .before .before .before .lead-at .result) (record { is = c .before .before .before .before .before .before .before .before .before .before .before .before .before .before .before .before .before .before .before .element-at .ensures; wide = c .before .before .before .before .before .before .before .before .before .before .before .before .before .before .before .before .before .before .width-of .ensures; lead = c .before .before .before .before .before .before .before .before .before .before .before .before .before .before .before .before .before .lead-at .ensures }) _ (c .before .before .before .before .before .before .before .before .before .before .before .before .before .before .before .q .given .1) (sym (c .before .before .before .before .before .before .before .before .before .before .before .before .may-repeat .ensures) ∙ c .before .before .before .before .before .before .before .before .before .before .before .if2 .left) _ (c .before .before .before .before .before .before .before .before .before .before .before .before .before .behind .ensures) _ _ _ _ (in-ends _ _ _ _ _ (c .before .before .before .before .before .before .before .before .before .before .before .before .before .before .before .before .before .before .before .before .before .before .before .before .before .before .pre .1 .given) (c .before .before .before .before .before .before .before .before .before .before .before .before .before .before .before .before .before .before .before .element-at .ensures .unit .stands) _ (c .before .before .before .before .before .before .before .before .elements .ensures .kept .noted .count)) (read-inside (c .before .before .before .before .before .before .before .before .before .before .before .before .before .before .before .before .before .before .before .before .before .before .before .before .before .before .args .items .now) (c .before .before .before .before .before .before .before .before .before .before .before .before .before .before .before .before .before .before .before .before .before .before .before .before .before .before .args .state .now) (c .before .before .before .before .before .before .before .before .before .before .before .before .before .before .before .before .before .before .before .before .before .before .before .before .before .before .args .line .now) (c .before .before .before .before .before .before .before .before .before .before .before .before .before .before .before .before .before .before .before .before .before .before .before .before .before .before .args .at) (c .before .before .before .before .before .before .before .before .before .before .before .before .before .before .before .before .before .before .before .before .before .before .before .before .before .before .args .p) (c .before .before .before .before .before .before .before .before .before .before .before .before .before .before .before .before .before .before .before .element-at .result) (c .before .before .before .before .before .before .before .before .before .before .before .before .before .before .before .before .before .before .width-of .result) (c .before .before .before .before .before .before .before .before .before .before .before .before .before .before .before .before .before .lead-at .result) _ (record { is = c .before .before .before .before .before .before .before .before .before .before .before .before .before .before .before .before .before .before .before .element-at .ensures; wide = c .before .before .before .before .before .before .before .before .before .before .before .before .before .before .before .before .before .before .width-of .ensures; lead = c .before .before .before .before .before .before .before .before .before .before .before .before .before .before .before .before .before .lead-at .ensures }) (c .before .before .before .before .before .before .before .before .before .before .before .before .before .before .before .before .before .before .before .before .before .before .before .before .before .before .pre .1 .given .state) (c .before .before .before .before .before .before .before .before .before .before .before .before .before .before .before .before .before .before .before .before .before .before .before .before .before .before .pre .1 .place) (c .before .before .before .before .before .before .before .before .before .before .before .before .before .before .before .q .given .1)) (c .before .before .before .before .before .before .before .before .elements .ensures) _ _ (c .before .before .ended .ensures)
 
 pub +closure+elements-spec : {M : Type 1} → statement M
-+closure+elements-spec = close μ-closure μ-elements (λ t. closure-lts.spec (elements-below t, elements.Post, set-mark-reads.Asked, set-mark-reads.Learnt)
++closure+elements-spec = close μ-closure μ-elements (λ t. closure-lts.spec (elements-below t, elements.Post, set-mark-reads.Asked, set-mark-reads.Learnt, closure-below t, closure.Post)
     (closure-at t)
     closure.Post
-    closure-Inv-loop
-    closure-μ-loop
-    (closure-loop-holds t)
-    (closure-sub-kept t)
-    (closure-mul-r t)
-    (closure-add-r t)
     (closure-elements-requires t)
     (closure-enum-known-end t)
     (closure-cast-ends t)
@@ -212,9 +221,20 @@ pub +closure+elements-spec : {M : Type 1} → statement M
     (closure-same-length-3 t)
     (closure-same-length-4 t)
     (closure-returns-2 t)
-    (closure-add-back t)
-    (closure-loop-less t)
-    (closure-loop-again t))
+    (closure-sub-more t)
+    (closure-sub-low t)
+    (closure-mul-r t)
+    (closure-add-r t)
+    (closure-closure-requires t)
+    (closure-enum-told-2 t)
+    (closure-same-length-5 t)
+    (closure-same-length-6 t)
+    (closure-returns-3 t)
+    (closure-enum-told-3 t)
+    (closure-closure-requires-2 t)
+    (closure-same-length-7 t)
+    (closure-same-length-8 t)
+    (closure-returns-4 t))
     λ t. elements-lts.spec (
       element-at-reads.Asked,
       element-at-reads.Learnt,
