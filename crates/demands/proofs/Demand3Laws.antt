@@ -13,7 +13,7 @@ use Rattle.lines.specs.Line.{lineOf}
 use Rattle.lines.specs.Feeding.{Kind, feed, refusal, numberOf, placeOf, kindNumber, outputOf}
 use Rattle.lines.specs.Feeding.Kind.{refusedWith, out, withheld, controlled}
 use Rattle.lines.specs.Feeding.{Answer as Answered}
-use Rattle.lines.specs.Demand.{ByKind, LineHolds}
+use Rattle.lines.specs.Demand.{ByKind}
 use Rattle.lines.proofs.Demand3.{fed-holds}
 use Rattle.states.specs.Form.{stateForm}
 use Rattle.states.specs.Access.{Holds}
@@ -21,14 +21,14 @@ use Rattle.lines.proofs.KeepState.{fresh-in-range}
 use Rattle.memories.specs.Memory.{IsTable}
 use Rattle.feeding.specs.Contract.{laidOut}
 use Rattle.m7.specs.Feeding.{Call, Feeds, Returns, Refuses, sizedToFeed, answerOf}
-use Rattle.demands.specs.Demand3.{InTurn, Keeps, Holds3, Demand3}
+use Rattle.demands.specs.Demand3.{InTurn, CallHolds, Keeps, Holds3, Demand3}
 use Rattle.replies.specs.declared.Answer.{Answer}
 
 -- one call: its answer, what it returns, and what demand 3 says of it
 pub record One (ms : Table) (st : State) (c : Call) : Type 0 where
   pub answer : Answered
   pub returned : Returns c answer
-  pub line : LineHolds ms st (c .budget, c .line) answer
+  pub line : CallHolds (sizedToFeed c) ms st c answer
   pub keeps : Keeps c
 
 -- a line that was fed and refused
@@ -44,7 +44,7 @@ module _ (ms : Table) (st : State) (c : Call) (f : IsTable (c .table) ms) (h : H
     by-kind : (k : Kind) → fed .kind ≡ k → Keeps c
     unfolding numberOf laidOut
     by-kind (refusedWith x) e n =
-        let z = subst (λ (k : Kind). ByKind ms st (c .line) (lineOf ms st (c .budget) (c .line)) fed k) e (fed-holds ms st (c .budget) (c .line)) in (
+        let z = subst (λ (k : Kind). ByKind ms st (c .budget) (c .line) (lineOf ms st (c .budget) (c .line)) fed k) e (fed-holds ms st (c .budget) (c .line)) in (
           sym (r .tableHolds .form) ∙ (ap form (z .0) ∙ f .form),
           sym (r .stateHolds .form) ∙ (ap stateForm (z .1) ∙ h .form),
           r .outputHolds ∙ ap (λ (k : Kind). laidOut k (c .output)) e,
@@ -58,13 +58,13 @@ unfolding refusal answerOf laidOut numberOf placeOf kindNumber outputOf place
 one ms st c f h k = go (sizedToFeed c) refl
   where
     go : (b : Bool) → sizedToFeed c ≡ b → One ms st c
-    go true e = record { answer = feed ms st (c .budget) (c .line); returned = k .fed e ms f st h; line = fed-holds ms st (c .budget) (c .line); keeps = by-kind ms st c f h (k .fed e ms f st h) (fed ms st c f h .kind) refl }
+    go true e = record { answer = feed ms st (c .budget) (c .line); returned = k .fed e ms f st h; line = rw e (fed-holds ms st (c .budget) (c .line)); keeps = by-kind ms st c f h (k .fed e ms f st h) (fed ms st c f h .kind) refl }
     go false e =
         let r : Refuses c badMemory = k .otherSize e in
         record {
           answer = refusal ms st 0 (ofHost badMemory);
           returned = record { answers = r .answer; tableHolds = rw (r .table) f; stateHolds = rw (r .state) h; outputHolds = r .output };
-          line = (refl, refl);
+          line = rw e refl;
           keeps = λ n. (r .table, r .state, r .output);
         }
 

@@ -1,35 +1,64 @@
 -- Demand 3, proved.
 use mathlib.Core.Path.{_≡_, refl, sym, _∙_}
-use mathlib.Core.Bool.{Bool, true, false, false≢true}
+use mathlib.Core.Bool.{Bool, true, false, _||_, false≢true}
+use mathlib.Core.Logic.{_⊎_, inl, inr}
 use mathlib.Core.List.{List, [], _∷_}
 use Prim.Native.Nat.{ℕ, zero, suc}
 use native.Mathlib.Omega.{arith}
+use borrow.Author.Tests.{eqb-true, eqb-false, leb-true, leb-false}
+use lib.Dec.{eqb}
 use lib.ListN.{length}
-use Rattle.macros.specs.Refusals.{WorkRefusal}
+use Rattle.macros.specs.Bounds.{mostLineBytes, mostBudget}
+use Rattle.macros.specs.Refusals.Refusal.{ofHost, ofLine, ofFile, ofWork}
+use Rattle.macros.specs.Refusals.LineRefusal.{lineTooLong, badByte, badControl}
 use Rattle.macros.specs.Macro.{Table}
 use Rattle.lines.specs.State.{State, fresh}
 use Rattle.lines.specs.Line.{Ending, Line, refused, done, control, isIn, passesOf, hadOccurrence, ending, lineOf}
-use Rattle.lines.specs.Feeding.{Order, wrong, orders, orderOf, Answer, kindOfDone, refusal, ofOrder, answered, answer, feed, Fed, feeds}
-use Rattle.lines.specs.Demand.{Taken, Finished, ByKind, Lines, Demand3}
-use Rattle.lines.proofs.LineLaws.{NotRefused, line-holds, left-nothing, pass-count, end-of-line, kind-of-done}
+use Rattle.lines.specs.Feeding.{Order, wrong, orders, orderOf, Answer, kindOfDone, refusal, ofOrder, answered, answer, hasBadByte, feed, Fed, feeds}
+use Rattle.lines.specs.Controls.{Says}
+use Rattle.lines.specs.Demand.{HasBadByte, Fits, History, Run, Finished, ByKind, Lines, Demand3}
+use Rattle.lines.proofs.LineLaws.{line-holds, left-nothing, pass-count, end-of-line, kind-of-done}
+use Rattle.lines.proofs.BudgetLaws.{line-budgeted}
 use Rattle.lines.proofs.FeedLaws.{feed-cases}
+use Rattle.lines.proofs.OrderLaws.{order-says}
 
-done-kept : (e : Ending) (s : List ℕ) (z : State) → e ≡ done s z → (r : WorkRefusal) → e ≡ refused r → ⊥
-done-kept e s z f r g = let n : _≡_ {A = ℕ} 0 1 = cc in omega arith
+-- 22, joined to the demand's own notion
+pub bad-byte : (t : List ℕ) → hasBadByte t ≡ true → HasBadByte t
+unfolding hasBadByte
+bad-byte [] e = false≢true e
+bad-byte (b ∷ bs) e = go (bad-byte bs) (eqb b 0) refl (eqb b 10) refl e
+  where
+    go : (hasBadByte bs ≡ true → HasBadByte bs) → (x : Bool) → eqb b 0 ≡ x → (y : Bool) → eqb b 10 ≡ y → (elim (x || y) [ true ↦ true | false ↦ hasBadByte bs ]) ≡ true → HasBadByte (b ∷ bs)
+    go ih true f y g h = inl (eqb-true b 0 f)
+    go ih false f true g h = inr (inl (eqb-true b 10 g))
+    go ih false f false g h = inr (inr (ih h))
 
-control-kept : (e : Ending) (s : List ℕ) (z : State) → e ≡ control s z → (r : WorkRefusal) → e ≡ refused r → ⊥
-control-kept e s z f r g = let n : _≡_ {A = ℕ} 0 1 = cc in omega arith
+pub no-bad-byte : (t : List ℕ) → hasBadByte t ≡ false → HasBadByte t → ⊥
+unfolding hasBadByte
+no-bad-byte [] e h = h
+no-bad-byte (b ∷ bs) e h = go (no-bad-byte bs) (eqb b 0) refl (eqb b 10) refl e h
+  where
+    go : (hasBadByte bs ≡ false → HasBadByte bs → ⊥) → (x : Bool) → eqb b 0 ≡ x → (y : Bool) → eqb b 10 ≡ y
+        → (elim (x || y) [ true ↦ true | false ↦ hasBadByte bs ]) ≡ false → HasBadByte (b ∷ bs) → ⊥
+    go ih true f y g h k = false≢true (sym h)
+    go ih false f true g h k = false≢true (sym h)
+    go ih false f false g h (inl z) = eqb-false b 0 f z
+    go ih false f false g h (inr (inl z)) = eqb-false b 10 g z
+    go ih false f false g h (inr (inr z)) = ih h z
 
--- a line and the answer that its history makes
-module _ (ms : Table) (st : State) (budget : ℕ) (t : List ℕ) where
+-- a line that fits, and the answer that its history makes
+module _ (ms : Table) (st : State) (budget : ℕ) (t : List ℕ) (fits : Fits budget t) where
   abbrev history : Line
   history = lineOf ms st budget t
 
   abbrev count : ℕ
   count = length (passesOf history)
 
-  taken : (a : Answer) → a .passes ≡ count → NotRefused history → Taken ms st t history a
-  taken a n k = record { passes = line-holds ms st budget t k; number = n ∙ pass-count history }
+  pub line-history : History ms st budget t history
+  line-history = record { fits = fits; passes = line-holds ms st budget t; within = line-budgeted ms st budget t .within; usedUp = line-budgeted ms st budget t .usedUp }
+
+  run : (a : Answer) → a .passes ≡ count → Run ms st budget t history a
+  run a n = record { history = line-history; number = n ∙ pass-count history }
 
   finished : (s : List ℕ) (z : State) → ending history ≡ done s z
       → Finished ms history (record { kind = kindOfDone (z .nflag) (hadOccurrence history) s; passes = count; table = ms; state = z }) s
@@ -39,33 +68,43 @@ module _ (ms : Table) (st : State) (budget : ℕ) (t : List ℕ) where
         final = sym (end-of-line history) ∙ e;
         kind = kind-of-done history s z (z .nflag) (hadOccurrence history) refl refl;
         table = refl;
-        nothingLeft = λ i m at f. left-nothing ms s z i m at [] [] t st history (line-holds ms st budget t (done-kept (ending history) s z e)) (λ j k b c d. absurd (false≢true d)) e f;
+        nothingLeft = λ i m at f. left-nothing ms s z i m at [] [] t st history (line-holds ms st budget t) (λ j k b c d. absurd (false≢true d)) e f;
       }
 
   done-holds : (s : List ℕ) (z : State) → ending history ≡ done s z → (f : ℕ) (o : Bool)
-      → ByKind ms st t history (record { kind = kindOfDone (z .nflag) (hadOccurrence history) s; passes = count; table = ms; state = z }) (kindOfDone f o s)
+      → ByKind ms st budget t history (record { kind = kindOfDone (z .nflag) (hadOccurrence history) s; passes = count; table = ms; state = z }) (kindOfDone f o s)
   unfolding kindOfDone
-  done-holds s z e zero o = (taken _ refl (done-kept (ending history) s z e), finished s z e)
-  done-holds s z e (suc f) true = (taken _ refl (done-kept (ending history) s z e), finished s z e)
-  done-holds s z e (suc f) false = (taken _ refl (done-kept (ending history) s z e), (s, finished s z e))
+  done-holds s z e zero o = (run _ refl, finished s z e)
+  done-holds s z e (suc f) true = (run _ refl, finished s z e)
+  done-holds s z e (suc f) false = (run _ refl, (s, finished s z e))
 
-  control-holds : (s : List ℕ) (z : State) → ending history ≡ control s z → (x : Order) → orderOf ms z s ≡ x
-      → ByKind ms st t history (ofOrder ms st count x) (ofOrder ms st count x .kind)
+  control-holds : (s : List ℕ) (z : State) → ending history ≡ control s z → (x : Order) → Says ms z s x
+      → ByKind ms st budget t history (ofOrder ms st count x) (ofOrder ms st count x .kind)
   unfolding ofOrder refusal
-  control-holds s z e (wrong r) g = (refl, refl)
-  control-holds s z e (orders ks y) g = (taken _ refl (control-kept (ending history) s z e), (s, z, record { final = sym (end-of-line history) ∙ e; ordered = g }))
+  control-holds s z e (wrong (ofHost r)) g = absurd g
+  control-holds s z e (wrong (ofLine lineTooLong)) g = absurd g
+  control-holds s z e (wrong (ofLine badByte)) g = absurd g
+  control-holds s z e (wrong (ofLine badControl)) g = (refl, refl, (run _ refl, (s, z, record { final = sym (end-of-line history) ∙ e; misordered = g })))
+  control-holds s z e (wrong (ofFile r p)) g = (refl, refl, (run _ refl, (s, z, record { final = sym (end-of-line history) ∙ e; misordered = g })))
+  control-holds s z e (wrong (ofWork r)) g = absurd g
+  control-holds s z e (orders ks y) g = (run _ refl, (s, z, record { final = sym (end-of-line history) ∙ e; ordered = g }))
 
   ending-holds : (e : Ending) → ending history ≡ e
-      → ByKind ms st t history (answered ms st count (hadOccurrence history) e) (answered ms st count (hadOccurrence history) e .kind)
+      → ByKind ms st budget t history (answered ms st count (hadOccurrence history) e) (answered ms st count (hadOccurrence history) e .kind)
   unfolding answered refusal
-  ending-holds (refused r) e = (refl, refl)
+  ending-holds (refused r) e = (refl, refl, (run _ refl, sym (end-of-line history) ∙ e))
   ending-holds (done s z) e = done-holds s z e (z .nflag) (hadOccurrence history)
-  ending-holds (control s z) e = control-holds s z e (orderOf ms z s) refl
+  ending-holds (control s z) e = control-holds s z e (orderOf ms z s) (order-says ms z s)
 
-  -- of one line that is fed
-  pub fed-holds : ByKind ms st t history (feed ms st budget t) (feed ms st budget t .kind)
-  unfolding answer refusal
-  fed-holds = feed-cases ms st budget t (λ a. ByKind ms st t history a (a .kind)) (λ r. (refl, refl)) (λ e f g. ending-holds (ending history) refl)
+-- of one line that is fed
+pub fed-holds : (ms : Table) (st : State) (budget : ℕ) (t : List ℕ) → ByKind ms st budget t (lineOf ms st budget t) (feed ms st budget t) (feed ms st budget t .kind)
+unfolding answer refusal
+fed-holds ms st budget t =
+    feed-cases ms st budget t (λ a. ByKind ms st budget t (lineOf ms st budget t) a (a .kind))
+    (λ e. (refl, refl, (leb-false budget mostBudget e, refl)))
+    (λ e f. (refl, refl, (leb-true budget mostBudget e, leb-false (length t) mostLineBytes f, refl)))
+    (λ e f g. (refl, refl, (leb-true budget mostBudget e, leb-true (length t) mostLineBytes f, bad-byte t g, refl)))
+    (λ e f g. ending-holds ms st budget t (record { few = leb-true budget mostBudget e; short = leb-true (length t) mostLineBytes f; clean = no-bad-byte t g }) (ending (lineOf ms st budget t)) refl)
 
 -- of every state, of which fresh is one, and every table
 lines : (ms : Table) (st : State) (xs : List Fed) → Lines ms st xs (feeds ms st xs)

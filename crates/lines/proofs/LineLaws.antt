@@ -1,4 +1,4 @@
--- The passes of a line that is not refused do what demand 3 says of them, and leave no open macro with a division at its end.
+-- The passes of a line do what demand 3 says of them, and leave no open macro with a division at its end.
 use mathlib.Core.Path.{_≡_, refl, sym, ap, _∙_, subst}
 use mathlib.Core.Bool.{Bool, true, false, _||_, false≢true}
 use mathlib.Core.Logic.{_⊎_, inl, inr, _↔_}
@@ -22,15 +22,12 @@ use Rattle.lines.specs.Line.{Numbered, Pass, Line, passed, refused, done
 use Rattle.lines.specs.Line.{isControl, due, follow, afterPass, textOf, passes, lineOf, passesOf, hadOccurrence, ending}
 use Rattle.lines.specs.Line.{Line.ended as lineEnded}
 use Rattle.lines.specs.Feeding.{withheld, out, kindOfDone}
-use Rattle.lines.specs.Demand.{Nowhere, Walks, newLine, Copied, NotIn, Due, Dollar, EndsIn}
+use Rattle.lines.specs.Demand.{Nowhere, Walks, newLine, Copied, NotIn, Due, Dollar, EndsIn, FailsIn}
 use Rattle.lines.specs.Demand.{PassHolds, closedIf, closedAfter, sinceAfter, Passes, closedIn, passCount, endOfLine, NoOccurrence, Withholds}
 use Rattle.lines.proofs.CopiedLaws.{text-of}
-use Rattle.lines.proofs.PassLaws.{ends-in, Good, pass-walks}
+use Rattle.lines.proofs.PassLaws.{ends-in, fails-in, pass-walks}
+use Rattle.lines.proofs.FaultLaws.{NoBudget, pass-no}
 use Rattle.lines.proofs.OpenLaws.{in-cons, not-in, Todo, todo-next, todo-all}
-
--- the line is not refused
-abbrev pub NotRefused : Line → Type 0
-NotRefused l = (r : WorkRefusal) → ending l ≡ refused r → ⊥
 
 -- WHAT A PASS COMES TO
 
@@ -45,22 +42,22 @@ all-copied : (t : List ℕ) (st : State) (v : Work) → Copied (slice 0 (length 
 all-copied t st v h = (h .line ∙ take-length t, h .state)
 
 module _ (m : Macro) (t : List ℕ) (st : State) where
-  passed-over : (k : Walk) → Walks m t 0 none (startOf st) k → (occurred k ≡ false) ↔ Nowhere st m t
+  passed-over : (k : Walk) → Walks m t 0 none (startOf st) k → (v : Work) → EndsIn k v → (occurred k ≡ false) ↔ Nowhere st m t
   unfolding occurred
-  passed-over (ended (bad r w)) h = absurd h
-  passed-over (ended (good x)) h = (
+  passed-over (ended (bad r w)) h v e = absurd (let z : _≡_ {A = ℕ} 0 1 = cc in omega arith)
+  passed-over (ended (good x)) h v e = (
     λ f p l d g. h .1 p (omega arith) (omega arith) d (subst (λ (s : State). Divides s t (m .pattern) p d) (sym (h .0 .state)) g) (λ z. absurd (none-some p z)),
     λ f. refl,
   )
-  passed-over (occurs o k) h = (
+  passed-over (occurs o k) h v e = (
     λ f. absurd (false≢true (sym f)),
-    λ f. absurd (f (o .place) (h .1 .inside) (o .division) (subst (λ (s : State). Divides s t (m .pattern) (o .place) (o .division)) (h .0 .state) (h .1 .divides))),
+    λ f. absurd (f (o .place) (h .1 .stands .inside) (o .division) (subst (λ (s : State). Divides s t (m .pattern) (o .place) (o .division)) (h .0 .state) (h .1 .stands .divides))),
   )
 
   -- a pass without an occurrence leaves text and state as they were
   nothing-changed : (k : Walk) → Walks m t 0 none (startOf st) k → (v : Work) → EndsIn k v → occurred k ≡ false → (newLine v ≡ t) × (v .state ≡ st)
   unfolding occurred
-  nothing-changed (ended (bad r w)) h v e f = absurd h
+  nothing-changed (ended (bad r w)) h v e f = absurd (let z : _≡_ {A = ℕ} 0 1 = cc in omega arith)
   nothing-changed (ended (good x)) h v e f = all-copied t st v (subst (λ (y : Work). Copied (slice 0 (length t) t) (startOf st) y) (let z : x ≡ v = cc in z) (h .0))
   nothing-changed (occurs o k) h v e f = absurd (false≢true (sym f))
 
@@ -85,70 +82,72 @@ closed-by e closed = by (e .macro .symbol)
     by equal = refl
 
 module _ (ms : Table) (closed since : List ℕ) (st : State) (t : List ℕ) where
-  due-holds : (b : Bool) → isControl t ≡ b → (todo : List Numbered) (next : Numbered → List Numbered → Line) → Todo (Due ms closed since) todo → NotRefused (due b t st todo next)
-      → ((e : Numbered) (es : List Numbered) → isControl t ≡ false → Todo (Due ms closed since) (e ∷ es) → NotRefused (next e es) → Passes ms closed since t st (next e es))
+  due-holds : (b : Bool) → isControl t ≡ b → (todo : List Numbered) (next : Numbered → List Numbered → Line) → Todo (Due ms closed since) todo
+      → ((e : Numbered) (es : List Numbered) → isControl t ≡ false → Todo (Due ms closed since) (e ∷ es) → Passes ms closed since t st (next e es))
       → Passes ms closed since t st (due b t st todo next)
   unfolding due
-  due-holds true c todo next a k h = (refl, refl, dollar t .0 c)
-  due-holds false c [] next a k h = (refl, refl, no-dollar t c, a)
-  due-holds false c (e ∷ es) next a k h = h e es c a k
+  due-holds true c todo next a h = (refl, refl, dollar t .0 c)
+  due-holds false c [] next a h = (refl, refl, no-dollar t c, a)
+  due-holds false c (e ∷ es) next a h = h e es c a
 
   -- what follows a pass of the macro e whose events are k
   module _ (e : Numbered) (k : Walk) (on again : Work → Line) (plain : isControl t ≡ false) (d : Due ms closed since (e .number) (e .macro))
-      (newest : (i : ℕ) (m : Macro) → Due ms closed since i m → i ≤ e .number) (walks : Good k → Walks (e .macro) t 0 none (startOf st) k)
-      (ons : (w : Work) → NotRefused (on w) → Passes ms closed (e .number ∷ since) t st (on w))
-      (agains : (w : Work) → NotRefused (again w) → Passes ms (closedBy e closed) [] (textOf w) (w .state) (again w)) where
-    follow-good : NotRefused (follow (outcome k) (occurred k) on again) → Good k
-    unfolding follow ending
-    follow-good h r v z = h r (ap (λ (a : Done). ending (follow a (occurred k) on again)) z)
-
-    follow-holds : Good k → (a : Done) (o : Bool) → outcome k ≡ a → occurred k ≡ o → NotRefused (follow a o on again)
-        → (v : Work) × EndsIn k v × Passes ms (closedIf o (e .macro .symbol) (e .number) closed) (pick o [] (e .number ∷ since)) (newLine v) (v .state) (follow a o on again)
-    unfolding follow ending pick
-    follow-holds g (bad r w) o ea eo h = absurd (g r w ea)
-    follow-holds g (good w) false ea eo h =
-        let c = nothing-changed (e .macro) t st k (walks g) w (ends-in k w .0 ea) eo in
-        (w, ends-in k w .0 ea, subst (λ (s : List ℕ). Passes ms closed (e .number ∷ since) s (w .state) (on w)) (sym (c .0)) (subst (λ (s : State). Passes ms closed (e .number ∷ since) t s (on w)) (sym (c .1)) (ons w h)))
-    follow-holds g (good w) true ea eo h = (
+      (newest : (i : ℕ) (m : Macro) → Due ms closed since i m → i ≤ e .number) (walks : Walks (e .macro) t 0 none (startOf st) k) (steps : NoBudget (outcome k))
+      (ons : (w : Work) → Passes ms closed (e .number ∷ since) t st (on w)) (agains : (w : Work) → Passes ms (closedBy e closed) [] (textOf w) (w .state) (again w)) where
+    follow-holds : (a : Done) (o : Bool) → outcome k ≡ a → occurred k ≡ o → NoBudget a
+        → ((v : Work) × EndsIn k v × Passes ms (closedIf o (e .macro .symbol) (e .number) closed) (pick o [] (e .number ∷ since)) (newLine v) (v .state) (follow a o on again))
+        ⊎ ((r : WorkRefusal) × (v : Work) × FailsIn k r v × (r ≡ budgetUsedUp → ⊥) × (follow a o on again ≡ lineEnded (refused r)))
+    unfolding follow pick
+    follow-holds (bad r w) o ea eo n = inr (r, w, fails-in k r w ea, n, refl)
+    follow-holds (good w) false ea eo n =
+        let c = nothing-changed (e .macro) t st k walks w (ends-in k w .0 ea) eo in
+        inl (w, ends-in k w .0 ea, subst (λ (s : List ℕ). Passes ms closed (e .number ∷ since) s (w .state) (on w)) (sym (c .0)) (subst (λ (s : State). Passes ms closed (e .number ∷ since) t s (on w)) (sym (c .1)) (ons w)))
+    follow-holds (good w) true ea eo n = inl (
       w,
       ends-in k w .0 ea,
       subst (λ (c : List ℕ). Passes ms c [] (newLine w) (w .state) (again w)) (closed-by e closed)
-          (subst (λ (s : List ℕ). Passes ms (closedBy e closed) [] s (w .state) (again w)) (text-of w) (agains w h)),
+          (subst (λ (s : List ℕ). Passes ms (closedBy e closed) [] s (w .state) (again w)) (text-of w) (agains w)),
     )
 
-    after-holds : NotRefused (afterPass (record { which = e; text = t; state = st; events = k }) on again)
-        → Passes ms closed since t st (afterPass (record { which = e; text = t; state = st; events = k }) on again)
-    unfolding afterPass ending
-    after-holds h =
-        let g : Good k = follow-good h in (
-          record { text = refl; state = refl; plain = no-dollar t plain; due = d; newest = newest; passedOver = passed-over (e .macro) t st k (walks g); walks = walks g },
-          follow-holds g (outcome k) (occurred k) refl refl h,
-        )
+    after-holds : Passes ms closed since t st (afterPass (record { which = e; text = t; state = st; events = k }) on again)
+    unfolding afterPass
+    after-holds = (
+      record { text = refl; state = refl; plain = no-dollar t plain; due = d; newest = newest; passedOver = passed-over (e .macro) t st k walks; walks = walks },
+      follow-holds (outcome k) (occurred k) refl refl steps,
+    )
 
 passes-hold : (ms : Table) (budget : ℕ) (closed since : List ℕ) (todo : List Numbered) (st : State) (t : List ℕ) → Todo (Due ms closed since) todo
-    → NotRefused (passes ms budget closed todo st t) → Passes ms closed since t st (passes ms budget closed todo st t)
-unfolding passes ending
-passes-hold ms zero closed since todo st t a h =
-    due-holds ms closed since st t (isControl t) refl todo (λ e es. lineEnded (refused budgetUsedUp)) a h (λ e es c b k. absurd (k budgetUsedUp refl))
-passes-hold ms (suc budget) closed since todo st t a h =
+    → Passes ms closed since t st (passes ms budget closed todo st t)
+unfolding passes
+passes-hold ms zero closed since todo st t a =
+    due-holds ms closed since st t (isControl t) refl todo (λ e es. lineEnded (refused budgetUsedUp)) a (λ e es c b. (refl, no-dollar t c, (e .number, e .macro, b .0)))
+passes-hold ms (suc budget) closed since todo st t a =
     due-holds ms closed since st t (isControl t) refl todo
     (λ e es. afterPass (record { which = e; text = t; state = st; events = pass (e .macro) t st })
     (λ w. passes ms budget closed es st t)
     (λ w. passes ms budget (closedBy e closed) (newestFirst (closedBy e closed) ms) (w .state) (textOf w)))
-    a h
+    a
     (λ e es c b.
     after-holds ms closed since st t e (pass (e .macro) t st) (λ w. passes ms budget closed es st t)
     (λ w. passes ms budget (closedBy e closed) (newestFirst (closedBy e closed) ms) (w .state) (textOf w))
-    c (b .0) (b .1) (pass-walks (e .macro) t st)
+    c (b .0) (b .1) (pass-walks (e .macro) t st) (pass-no (e .macro) t st)
     (λ w. passes-hold ms budget closed (e .number ∷ since) es st t (todo-next ms closed since e es b))
     (λ w. passes-hold ms budget (closedBy e closed) [] (newestFirst (closedBy e closed) ms) (w .state) (textOf w) (todo-all ms (closedBy e closed))))
 
 -- THE LAW
-pub line-holds : (ms : Table) (st : State) (budget : ℕ) (t : List ℕ) → NotRefused (lineOf ms st budget t) → Passes ms [] [] t st (lineOf ms st budget t)
+pub line-holds : (ms : Table) (st : State) (budget : ℕ) (t : List ℕ) → Passes ms [] [] t st (lineOf ms st budget t)
 unfolding lineOf
-line-holds ms st budget t h = passes-hold ms _ [] [] (newestFirst [] ms) st t (todo-all ms []) h
+line-holds ms st budget t = passes-hold ms _ [] [] (newestFirst [] ms) st t (todo-all ms [])
 
 -- WHAT IS LEFT AT THE END
+
+pub either : {A B C : Type 0} → A ⊎ B → (A → C) → (B → C) → C
+either (inl a) f g = f a
+either (inr b) f g = g b
+
+refused-not-done : (l : Line) (r : WorkRefusal) (s : List ℕ) (z : State) → l ≡ lineEnded (refused r) → ending l ≡ done s z → ⊥
+unfolding ending
+refused-not-done l r s z e f = let y : ending l ≡ refused r = ap ending e in let n : _≡_ {A = ℕ} 0 1 = cc in omega arith
 
 -- the open macros that passed since the last occurrence have nothing anywhere
 abbrev Empty : Table → List ℕ → List ℕ → List ℕ → State → Type 0
@@ -167,7 +166,7 @@ empty-next ms closed since t st x h v e g false o i m at f s =
     go (inl y) =
         let a : getElem? ms i ≡ some (x .which .macro) = subst (λ (j : ℕ). getElem? ms j ≡ some (x .which .macro)) (sym (y .0)) (h .due .0) in
         let b : x .which .macro ≡ m = cc in
-        subst (λ (k : Macro). Nowhere st k t) b (h .passedOver .0 o)
+        subst (λ (k : Macro). Nowhere st k t) b (h .passedOver v e .0 o)
     go (inr y) = g i m at f (y .1)
 
 -- THE LAW
@@ -175,7 +174,7 @@ module _ (ms : Table) (s : List ℕ) (z : State) (i : ℕ) (m : Macro) (at : get
   pub left-nothing : (closed since : List ℕ) (t : List ℕ) (st : State) (l : Line) → Passes ms closed since t st l → Empty ms closed since t st
       → ending l ≡ done s z → NotIn i (closedIn closed l) → Nowhere z m s
   unfolding ending
-  left-nothing closed since t st (lineEnded (refused r)) h g e f = absurd h
+  left-nothing closed since t st (lineEnded (refused r)) h g e f = absurd (let n : _≡_ {A = ℕ} 0 1 = cc in omega arith)
   left-nothing closed since t st (lineEnded (control r y)) h g e f = absurd (let n : _≡_ {A = ℕ} 0 1 = cc in omega arith)
   left-nothing closed since t st (lineEnded (done r y)) h g e f =
       let a : t ≡ s = cc in
@@ -186,7 +185,10 @@ module _ (ms : Table) (s : List ℕ) (z : State) (i : ℕ) (m : Macro) (at : get
       go true o = g i m at f o
       go false o = absurd (h .3 i m (at, f, not-in i since .0 o))
   left-nothing closed since t st (passed x l) h g e f =
-      left-nothing (closedAfter x closed) (sinceAfter x since) (newLine (h .1 .0)) (h .1 .0 .state) l (h .1 .2) (empty-next ms closed since t st x (h .0) (h .1 .0) (h .1 .1) g (occurred (x .events)) refl) e f
+      either (h .1)
+      (λ u. left-nothing (closedAfter x closed) (sinceAfter x since) (newLine (u .0)) (u .0 .state) l (u .2)
+      (empty-next ms closed since t st x (h .0) (u .0) (u .1) g (occurred (x .events)) refl) e f)
+      (λ u. absurd (refused-not-done l (u .0) s z (u .4) e))
 
 -- WHAT A LINE COMES TO, joined to the demand's own notions
 

@@ -1,7 +1,7 @@
 -- Demand 3, over every list of lines. It speaks of divisions (Divides, Fewer), never of the chooser. Quoted is the demand, or the part of 01 that is named.
--- In brackets stand the edits of must-fail/ that a clause rules out. budget_off_by_one and line_too_long are ruled out by FeedKeeps and by lineCases and lineBounds.
+-- In brackets stand the edits of must-fail/ that a clause rules out. OneLine states that the clauses leave nothing free: it needs size [size_free], newest [any_macro_next] and usedUp [any_budget].
 use mathlib.Core.Path.{_≡_}
-use Prim.Native.Nat.{ℕ, suc, _≤_, _<_}
+use Prim.Native.Nat.{ℕ, suc, _+_, _≤_, _<_}
 use mathlib.Core.Bool.{Bool, true, false}
 use mathlib.Core.Logic.{_⊎_, _↔_}
 use mathlib.Core.List.{List, [], _∷_, _++_, reverse}
@@ -9,6 +9,12 @@ use mathlib.Core.Option.{Option, none, some}
 use lib.Dec.{eqb}
 use lib.ListN.{length, getElem?}
 use lib.Seq.{slice}
+use Rattle.macros.specs.Bounds.{mostLineBytes, mostBudget}
+use Rattle.macros.specs.Refusals.{WorkRefusal, Refusal}
+use Rattle.macros.specs.Refusals.Refusal.{ofHost, ofLine, ofFile, ofWork}
+use Rattle.macros.specs.Refusals.HostRefusal.{badMemory, badTable, badState, budgetTooLarge}
+use Rattle.macros.specs.Refusals.LineRefusal.{lineTooLong, badByte, badControl}
+use Rattle.macros.specs.Refusals.WorkRefusal.{budgetUsedUp, newLineTooLong}
 use Rattle.macros.specs.Macro.{Symbol, Macro, Table, pick}
 use Rattle.macros.specs.Macro.Symbol.{equal, less}
 use Rattle.macros.specs.Accepted.{Accepted}
@@ -22,9 +28,10 @@ use Rattle.lines.specs.Pass.Walk.{ended, occurs}
 use Rattle.lines.specs.Line.{Pass, Ending, Line, lineOf}
 use Rattle.lines.specs.Line.Ending.{refused, done, control}
 use Rattle.lines.specs.Line.{Line.ended as lineEnded, Line.passed as passed}
-use Rattle.lines.specs.Feeding.{orderOf, Kind, Answer, Fed, feeds}
-use Rattle.lines.specs.Feeding.Order.{orders}
+use Rattle.lines.specs.Feeding.{Kind, Answer, Fed, feeds}
 use Rattle.lines.specs.Feeding.Kind.{refusedWith, out, withheld, controlled}
+use Rattle.lines.specs.Faults.{Why}
+use Rattle.lines.specs.Controls.{Ordered, Misordered}
 
 -- A PASS OF THE MACRO m OVER THE TEXT t
 
@@ -40,22 +47,26 @@ Counts last p d = last ≡ some p → endOf p d ≡ p → ⊥
 abbrev pub NoneAhead : (from to : ℕ) → Option ℕ → State → Macro → List ℕ → Type 0
 NoneAhead from to last st m t = (p : ℕ) → from ≤ p → p < to → (d : Division) → Divides st t (m .pattern) p d → Counts last p d → ⊥
 
--- "Each replacement", under the state of the moment "when its place is tried" (01, contracts)
-pub record Replaces (m : Macro) (t : List ℕ) (from : ℕ) (last : Option ℕ) (o : Occurrence) : Type 0 where
+-- a match, at the place p with the division d, under the state st of the moment "when its place is tried" (01, contracts)
+pub record Stands (m : Macro) (t : List ℕ) (from : ℕ) (last : Option ℕ) (p : ℕ) (d : Division) (st : State) : Type 0 where
   -- "stands at the leftmost place still ahead that has one" [not_leftmost, empty_match_counts]: its place is ahead,
-  pub ahead : from ≤ o .place
+  pub ahead : from ≤ p
   -- is a place of the text,
-  pub inside : o .place ≤ length t
-  -- has the occurrence's division,
-  pub divides : Divides (o .before .state) t (m .pattern) (o .place) (o .division)
+  pub inside : p ≤ length t
+  -- has the division,
+  pub divides : Divides st t (m .pattern) p d
   -- which counts,
-  pub counts : Counts last (o .place) (o .division)
+  pub counts : Counts last p d
   -- and no place ahead and before it has one that counts
-  pub leftmost : NoneAhead from (o .place) last (o .before .state) m t
+  pub leftmost : NoneAhead from p last st m t
   -- "with .. that division against which every other one there has fewer repeats at the first closure where they differ" [fewest_repeats]
-  pub most : (d : Division) → Divides (o .before .state) t (m .pattern) (o .place) d → (d ≡ o .division) ⊎ Fewer d (o .division)
-  -- "with the tags of that division": replacement and commands act with it, and make the moment after [late_tag, inner_brace_ends]
-  pub tags : TagsOf (m .pattern) t (o .place) (o .division)
+  pub most : (x : Division) → Divides st t (m .pattern) p x → (x ≡ d) ⊎ Fewer x d
+  -- "with the tags of that division" [late_tag, inner_brace_ends]
+  pub tags : TagsOf (m .pattern) t p d
+
+-- "Each replacement": replacement and commands act with the division, and make the moment after
+pub record Replaces (m : Macro) (t : List ℕ) (from : ℕ) (last : Option ℕ) (o : Occurrence) : Type 0 where
+  pub stands : Stands m t from last (o .place) (o .division) (o .before .state)
   pub made : occur m t (o .division) (o .before) ≡ good (o .after)
 
 -- where an occurrence ends
@@ -75,10 +86,35 @@ behind (some q) = q
 abbrev pub newLine : Work → List ℕ
 newLine w = reverse (w .out)
 
--- from the moment w to the moment v the bytes s are copied: the new line grows by them, and the state stays
+-- from the moment w to the moment v the bytes s are copied: the new line grows by them and has room for them, and the state stays
 pub record Copied (s : List ℕ) (w v : Work) : Type 0 where
   pub line : newLine v ≡ newLine w ++ s
+  pub size : v .size ≡ w .size + length s
+  pub room : 0 < length s → v .size ≤ mostLineBytes
   pub state : v .state ≡ w .state
+
+-- WHY A PASS IS REFUSED with r, in the moment v: "at the first such step" (01, refusals), so all before it is as in a pass that is not
+
+-- a match stands next, and a step of its replacement or of its commands is refused: 32 to 35, each for its reason (Faults)
+pub record Fails (m : Macro) (t : List ℕ) (from : ℕ) (last : Option ℕ) (w : Work) (r : WorkRefusal) (v : Work) : Type 0 where
+  pub place : ℕ
+  pub division : Division
+  pub before : Work
+  pub copied : Copied (slice (behind last) place t) w before
+  pub stands : Stands m t from last place division (before .state)
+  pub refused : occur m t division before ≡ bad r v
+  pub why : Why m t division r v
+
+-- a byte without a match is to be copied, and the new line is full: "32 the new line's 1,055th byte"
+pub record Full (m : Macro) (t : List ℕ) (from : ℕ) (last : Option ℕ) (w : Work) (r : WorkRefusal) (v : Work) : Type 0 where
+  pub place : ℕ
+  pub reached : behind last ≤ place
+  pub inside : place < length t
+  pub copied : Copied (slice (behind last) place t) w v
+  pub noMatch : NoneAhead from (suc place) last (v .state) m t
+  -- [full_at_1054]
+  pub full : mostLineBytes ≤ v .size
+  pub number : r ≡ newLineTooLong
 
 -- the pass from the moment w on
 abbrev pub Walks : Macro → List ℕ → ℕ → Option ℕ → Work → Walk → Type 0
@@ -87,8 +123,18 @@ Walks m t from last w (occurs o k) =
     Copied (slice (behind last) (o .place) t) w (o .before) × Replaces m t from last o × Walks m t (aheadAfter o) (some (stopOf o)) (o .after) k
 -- "A pass ends only when no place ahead has one", under the state at that end [early_end]
 Walks m t from last w (ended (good v)) = Copied (slice (behind last) (length t) t) w v × NoneAhead from (suc (length t)) last (v .state) m t
--- no pass of a taken line is refused
-Walks m t from last w (ended (bad r v)) = ⊥
+-- it is refused, for one of the two reasons
+Walks m t from last w (ended (bad r v)) = Fails m t from last w r v ⊎ Full m t from last w r v
+
+-- the moment in which the pass ends, after all its occurrences: each acts "on the state that the next occurrence sees" (01, part 4) [first_occurrence_ends]
+abbrev pub EndsIn : Walk → Work → Type 0
+EndsIn (ended d) v = d ≡ good v
+EndsIn (occurs o k) v = EndsIn k v
+
+-- the pass is refused with r, in the moment v
+abbrev pub FailsIn : Walk → WorkRefusal → Work → Type 0
+FailsIn (ended d) r v = d ≡ bad r v
+FailsIn (occurs o k) r v = FailsIn k r v
 
 -- THE PASSES OF A LINE, from its text t and its state st on; closed: the numbers of the macros closed to it; since: of those that passed since its last occurrence
 
@@ -115,8 +161,8 @@ pub record PassHolds (ms : Table) (closed since : List ℕ) (t : List ℕ) (st :
   -- "an open macro", the newest one whose pass is due (01, part 6) [oldest_first, no_restart]
   pub due : Due ms closed since (x .which .number) (x .which .macro)
   pub newest : (i : ℕ) (m : Macro) → Due ms closed since i m → i ≤ x .which .number
-  -- "In its pass an open macro is passed over exactly when no place has one", under the state "when its pass tries place 0" (01, contracts)
-  pub passedOver : (occurred (x .events) ≡ false) ↔ Nowhere st (x .which .macro) t
+  -- "In its pass an open macro is passed over exactly when no place has one", under the state "when its pass tries place 0" (01, contracts); of a pass that is not refused
+  pub passedOver : (v : Work) → EndsIn (x .events) v → (occurred (x .events) ≡ false) ↔ Nowhere st (x .which .macro) t
   -- it tries place 0 first, with nothing of the new line made
   pub walks : Walks (x .which .macro) t 0 none (record { out = []; size = 0; state = st }) (x .events)
 
@@ -133,21 +179,18 @@ closedAfter x closed = closedIf (occurred (x .events)) (x .which .macro .symbol)
 abbrev pub sinceAfter : Pass → List ℕ → List ℕ
 sinceAfter x since = pick (occurred (x .events)) [] (x .which .number ∷ since)
 
--- the moment in which the pass ends, after all its occurrences: each acts "on the state that the next occurrence sees" (01, part 4) [first_occurrence_ends]
-abbrev pub EndsIn : Walk → Work → Type 0
-EndsIn (ended d) v = d ≡ good v
-EndsIn (occurs o k) v = EndsIn k v
-
 abbrev pub Passes : Table → (closed since : List ℕ) → List ℕ → State → Line → Type 0
--- a pass, and then the line from the text and the state that it makes
+-- a pass, and then the line from the text and the state that it makes; or else the pass is refused, with 32 to 35, and the line with it
 Passes ms closed since t st (passed x l) =
-    PassHolds ms closed since t st x × ((v : Work) × EndsIn (x .events) v × Passes ms (closedAfter x closed) (sinceAfter x since) (newLine v) (v .state) l)
+    PassHolds ms closed since t st x
+    × (((v : Work) × EndsIn (x .events) v × Passes ms (closedAfter x closed) (sinceAfter x since) (newLine v) (v .state) l)
+    ⊎ ((r : WorkRefusal) × (v : Work) × FailsIn (x .events) r v × (r ≡ budgetUsedUp → ⊥) × (l ≡ lineEnded (refused r))))
 -- "The line is done when every open macro has passed without one since the line's last occurrence" (01, part 6)
 Passes ms closed since t st (lineEnded (done s x)) = (s ≡ t) × (x ≡ st) × (Dollar t → ⊥) × ((i : ℕ) (m : Macro) → Due ms closed since i m → ⊥)
 -- "a line beginning with `$` is a control line: no more passes" (01, part 6)
 Passes ms closed since t st (lineEnded (control s x)) = (s ≡ t) × (x ≡ st) × Dollar t
--- a taken line's passes are not refused
-Passes ms closed since t st (lineEnded (refused r)) = ⊥
+-- "31 another pass is due" (01, refusals): the line is no control line, and the pass of some macro is due [done_is_31]; that the budget is used up stands in History
+Passes ms closed since t st (lineEnded (refused r)) = (r ≡ budgetUsedUp) × (Dollar t → ⊥) × ((i : ℕ) × (m : Macro) × Due ms closed since i m)
 
 -- ONE LINE t, fed to the table ms and the state st; its history l, and its answer a
 
@@ -175,9 +218,28 @@ NoOccurrence (passed x l) = (occurred (x .events) ≡ false) × NoOccurrence l
 abbrev pub Withholds : State → Line → Type 0
 Withholds st l = (st .nflag ≡ 0 → ⊥) × NoOccurrence l
 
--- a line that is taken: its passes, and "the answer carries the number of passes" [passes_not_counted]
-pub record Taken (ms : Table) (st : State) (t : List ℕ) (l : Line) (a : Answer) : Type 0 where
+-- "holds byte 0 or line feed" (01, refusals) [tab_refused]
+abbrev pub HasBadByte : List ℕ → Type 0
+HasBadByte [] = ⊥
+HasBadByte (b ∷ bs) = (b ≡ 0) ⊎ (b ≡ 10) ⊎ HasBadByte bs
+
+-- nothing refuses the line before its passes: not 4, 21 or 22 (01, refusals) [line_too_long]
+pub record Fits (budget : ℕ) (t : List ℕ) : Type 0 where
+  pub few : budget ≤ mostBudget
+  pub short : length t ≤ mostLineBytes
+  pub clean : HasBadByte t → ⊥
+
+-- the history of a line that nothing refuses before its passes
+pub record History (ms : Table) (st : State) (budget : ℕ) (t : List ℕ) (l : Line) : Type 0 where
+  pub fits : Fits budget t
   pub passes : Passes ms [] [] t st l
+  -- "Each pass costs one of the budget" (01, part 6), and 31 says that it is used up [budget_off_by_one, budget_one_short]
+  pub within : passCount l ≤ budget
+  pub usedUp : endOfLine l ≡ refused budgetUsedUp → passCount l ≡ budget
+
+-- a line that has passes: its history, and "the answer carries the number of passes", also where it is refused [passes_not_counted, refused_passes_0]
+pub record Run (ms : Table) (st : State) (budget : ℕ) (t : List ℕ) (l : Line) (a : Answer) : Type 0 where
+  pub history : History ms st budget t l
   pub number : a .passes ≡ passCount l
 
 -- one that goes out or is withheld, s its final text
@@ -191,23 +253,46 @@ pub record Finished (ms : Table) (l : Line) (a : Answer) (s : List ℕ) : Type 0
   -- "no macro still open to it has a division at any place of its final text" [no_restart, early_end]
   pub nothingLeft : (i : ℕ) (m : Macro) → getElem? ms i ≡ some m → NotIn i (closedIn [] l) → Nowhere (a .state) m s
 
--- a control line: its final text and its last state give the order that makes the new table and state
+-- a control line: its final text s, given in its last state x, makes the new table and state (Controls)
 pub record Controlled (ms : Table) (l : Line) (a : Answer) (s : List ℕ) (x : State) : Type 0 where
   pub final : endOfLine l ≡ control s x
-  pub ordered : orderOf ms x s ≡ orders (a .table) (a .state)
+  pub ordered : Ordered ms x s (a .table) (a .state)
 
-abbrev pub ByKind : Table → State → List ℕ → Line → Answer → Kind → Type 0
--- "a refused line leaves table, state and output as they were" (a refusal has no output) [refused_line_keeps_state]
-ByKind ms st t l a (refusedWith r) = (a .table ≡ ms) × (a .state ≡ st)
+-- a control line that is refused with r: its final text gives that refusal (Controls)
+pub record Miscontrolled (ms : Table) (l : Line) (r : Refusal) (s : List ℕ) (x : State) : Type 0 where
+  pub final : endOfLine l ≡ control s x
+  pub misordered : Misordered ms s r
+
+-- WHY A LINE IS REFUSED (01, refusals), by the refusal
+abbrev pub Reason : Table → State → ℕ → List ℕ → Line → Answer → Refusal → Type 0
+-- 1, 2 and 3 are about memories, and no line meets them here
+Reason ms st budget t l a (ofHost badMemory) = ⊥
+Reason ms st budget t l a (ofHost badTable) = ⊥
+Reason ms st budget t l a (ofHost badState) = ⊥
+-- "4 budget too large", first
+Reason ms st budget t l a (ofHost budgetTooLarge) = (mostBudget < budget) × (a .passes ≡ 0)
+-- "21 too long", next
+Reason ms st budget t l a (ofLine lineTooLong) = (budget ≤ mostBudget) × (mostLineBytes < length t) × (a .passes ≡ 0)
+-- "22 holds byte 0 or line feed"
+Reason ms st budget t l a (ofLine badByte) = (budget ≤ mostBudget) × (length t ≤ mostLineBytes) × HasBadByte t × (a .passes ≡ 0)
+-- 23, and 10 to 19 with their place: "Later, of a control line", behind its passes
+Reason ms st budget t l a (ofLine badControl) = Run ms st budget t l a × ((s : List ℕ) × (x : State) × Miscontrolled ms l (ofLine badControl) s x)
+Reason ms st budget t l a (ofFile r p) = Run ms st budget t l a × ((s : List ℕ) × (x : State) × Miscontrolled ms l (ofFile r p) s x)
+-- 31: its history ends so; by usedUp of History the passes are the budget, and by Passes another one is due. 32 to 35: its last pass is refused so, by Walks
+Reason ms st budget t l a (ofWork r) = Run ms st budget t l a × (endOfLine l ≡ refused r)
+
+abbrev pub ByKind : Table → State → ℕ → List ℕ → Line → Answer → Kind → Type 0
+-- "a refused line leaves table, state and output as they were" (a refusal has no output) [refused_line_keeps_state], and is refused for its reason
+ByKind ms st budget t l a (refusedWith r) = (a .table ≡ ms) × (a .state ≡ st) × Reason ms st budget t l a r
 -- "If it goes out or is withheld"
-ByKind ms st t l a (out s) = Taken ms st t l a × Finished ms l a s
-ByKind ms st t l a withheld = Taken ms st t l a × ((s : List ℕ) × Finished ms l a s)
+ByKind ms st budget t l a (out s) = Run ms st budget t l a × Finished ms l a s
+ByKind ms st budget t l a withheld = Run ms st budget t l a × ((s : List ℕ) × Finished ms l a s)
 -- or is a control line
-ByKind ms st t l a controlled = Taken ms st t l a × ((s : List ℕ) × (x : State) × Controlled ms l a s x)
+ByKind ms st budget t l a controlled = Run ms st budget t l a × ((s : List ℕ) × (x : State) × Controlled ms l a s x)
 
 -- "The passes and replacements meant are those by which 01's rules make the line's answer": of the history lineOf
 abbrev pub LineHolds : Table → State → Fed → Answer → Type 0
-LineHolds ms st x a = ByKind ms st (x .1) (lineOf ms st (x .0) (x .1)) a (a .kind)
+LineHolds ms st x a = ByKind ms st (x .0) (x .1) (lineOf ms st (x .0) (x .1)) a (a .kind)
 
 -- LINES "fed in turn", each to "the table and state that the last returned or left, refused or not" (01, contracts)
 abbrev pub Lines : Table → State → List Fed → List Answer → Type 0

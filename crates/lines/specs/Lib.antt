@@ -9,5 +9,10 @@ pub mod Tags
 pub mod Room
 pub mod FeedKeeps
 pub mod Made
+pub mod Faults
+pub mod Controls
 pub mod Demand
+pub mod Budget
+pub mod OneLine
+pub mod TagsAtWork
 pub mod Cases

@@ -39,16 +39,13 @@ use Rattle.running.proofs.Closing.{due-all, none-due, first-due, closes
 -- one without an occurrence leaves the state as it was
 none-occurred : (m : Macro) (t : List ℕ) (st : State) (k : Walk) → Walks m t 0 none (record { out = []; size = 0; state = st }) k → (v : Work) → outcome k ≡ good v → occurred k ≡ false → v .state ≡ st
 unfolding outcome occurred
-none-occurred m t st (walkEnded (bad r w)) h v e f = absurd h
+none-occurred m t st (walkEnded (bad r w)) h v e f = absurd (let z : _≡_ {A = ℕ} 0 1 = cc in omega arith)
 none-occurred m t st (walkEnded (good x)) h v e f = let z : x ≡ v = cc in subst (λ (y : Work). y .state ≡ st) z (h .0 .state)
 none-occurred m t st (occurs o k) h v e f = absurd (false≢true (sym f))
 
-not-bad : (d : Done) (v : Work) → d ≡ good v → (r : WorkRefusal) (w : Work) → d ≡ bad r w → ⊥
-not-bad d v e r w f = let z : _≡_ {A = ℕ} 0 1 = cc in omega arith
-
 module _ (m : Macro) (t : List ℕ) (st : State) (v : Work) (e : outcome (pass m t st) ≡ good v) where
   pub same-state : occurred (pass m t st) ≡ false → v .state ≡ st
-  same-state f = none-occurred m t st (pass m t st) (pass-walks m t st (not-bad (outcome (pass m t st)) v e)) v e f
+  same-state f = none-occurred m t st (pass m t st) (pass-walks m t st) v e f
 
   pub new-bytes : Formed m → Bytes t → InRange st → Bytes (textOf v)
   unfolding textOf

@@ -1,0 +1,206 @@
+-- The laws OneAnswer and OneList of specs/OneLine: an answer of which the demand's clauses hold, with any history, is the one that feed gives.
+use mathlib.Core.Path.{_≡_, refl, sym, ap, _∙_, subst}
+use mathlib.Core.Bool.{Bool, true, false, false≢true}
+use mathlib.Core.Logic.{_⊎_, inl, inr}
+use mathlib.Core.List.{List, [], _∷_, _++_}
+use Prim.Native.Nat.{ℕ, suc, _≤_, _<_}
+use borrow.Author.Tests.{le-leb, lt-leb, eq-eqb, ne-eqb}
+use lib.ListN.{length, drop}
+use Rattle.macros.specs.Bounds.{mostLineBytes, mostBudget}
+use Rattle.macros.specs.Refusals.{Refusal}
+use Rattle.macros.specs.Refusals.Refusal.{ofHost, ofLine, ofFile, ofWork}
+use Rattle.macros.specs.Refusals.HostRefusal.{badMemory, badTable, badState, budgetTooLarge}
+use Rattle.macros.specs.Refusals.LineRefusal.{lineTooLong, badByte, badControl}
+use Rattle.macros.specs.Macro.{Table, pick}
+use Rattle.macros.specs.Read.{readOnto}
+use Rattle.macros.specs.Read.Read.{refusedAt, table}
+use Rattle.lines.specs.State.{State}
+use Rattle.lines.specs.Matching.{begins}
+use Rattle.lines.specs.Line.{Ending, Line, refused, done, control, passesOf, hadOccurrence, ending, lineOf}
+use Rattle.lines.specs.Feeding.{bytes, same, withTrace, withNflag, flagOrder, macroOrder, Order, wrong, orders, orderOf}
+use Rattle.lines.specs.Feeding.{Kind, refusedWith, out, withheld, controlled, Answer, kindOfDone, refusal, ofOrder, answered, answer, hasBadByte, Fed, feed}
+use Rattle.lines.specs.Controls.{Says}
+use Rattle.lines.specs.Demand.{endOfLine, passCount, Withholds, HasBadByte, Fits, History, Run, Finished, ByKind}
+use Rattle.lines.specs.OneLine.{OneAnswer, Meets, OneList}
+use Rattle.lines.proofs.LineLaws.{pass-count, end-of-line, kind-of-done}
+use Rattle.lines.proofs.OrderLaws.{begins-with, same-true}
+use Rattle.lines.proofs.Demand3.{bad-byte, no-bad-byte, line-history}
+use Rattle.lines.proofs.OneLaws.{one-line}
+
+-- a test by its fact
+by-true : (b : Bool) → (b ≡ false → ⊥) → b ≡ true
+by-true true h = refl
+by-true false h = absurd (h refl)
+
+by-false : (b : Bool) → (b ≡ true → ⊥) → b ≡ false
+by-false true h = absurd (h refl)
+by-false false h = refl
+
+-- A LINE THAT IS FED
+
+module _ (ms : Table) (st : State) (budget : ℕ) (t : List ℕ) where
+  feed-costly : mostBudget < budget → feed ms st budget t ≡ refusal ms st 0 (ofHost budgetTooLarge)
+  unfolding feed
+  feed-costly h = rw (lt-leb budget mostBudget h, feed)
+
+  feed-long : budget ≤ mostBudget → mostLineBytes < length t → feed ms st budget t ≡ refusal ms st 0 (ofLine lineTooLong)
+  unfolding feed
+  feed-long h g = rw (le-leb budget mostBudget h, lt-leb (length t) mostLineBytes g, feed)
+
+  feed-bad : budget ≤ mostBudget → length t ≤ mostLineBytes → HasBadByte t → feed ms st budget t ≡ refusal ms st 0 (ofLine badByte)
+  unfolding feed
+  feed-bad h g f = rw (le-leb budget mostBudget h, le-leb (length t) mostLineBytes g, by-true (hasBadByte t) (λ e. no-bad-byte t e f), feed)
+
+  feed-runs : Fits budget t → feed ms st budget t ≡ answer ms st (lineOf ms st budget t)
+  unfolding feed
+  feed-runs f = rw (le-leb budget mostBudget (f .few), le-leb (length t) mostLineBytes (f .short), by-false (hasBadByte t) (λ e. f .clean (bad-byte t e)), feed)
+
+-- A CONTROL LINE
+
+state-same : (x y : State) → x .stacks ≡ y .stacks → x .counters ≡ y .counters → x .trace ≡ y .trace → x .nflag ≡ y .nflag → x ≡ y
+state-same x y s c t n = λ i. record { stacks = s i; counters = c i; trace = t i; nflag = n i }
+
+module _ (ms : Table) (x : State) where
+  order-macro : (rest : List ℕ) → orderOf ms x (bytes "$MACRO" ++ rest) ≡ macroOrder ms x (readOnto ms rest)
+  unfolding orderOf begins
+  order-macro rest = refl
+
+  order-trace-0 : orderOf ms x (bytes "$TRACE 0") ≡ orders ms (withTrace 0 x)
+  unfolding orderOf begins flagOrder same pick
+  order-trace-0 = refl
+
+  order-trace-1 : orderOf ms x (bytes "$TRACE 1") ≡ orders ms (withTrace 1 x)
+  unfolding orderOf begins flagOrder same pick
+  order-trace-1 = refl
+
+  order-nflag-0 : orderOf ms x (bytes "$NFLAG 0") ≡ orders ms (withNflag 0 x)
+  unfolding orderOf begins flagOrder same pick
+  order-nflag-0 = refl
+
+  order-nflag-1 : orderOf ms x (bytes "$NFLAG 1") ≡ orders ms (withNflag 1 x)
+  unfolding orderOf begins flagOrder same pick
+  order-nflag-1 = refl
+
+  -- what a text says is its order
+  says-order : (s : List ℕ) (o : Order) → Says ms x s o → orderOf ms x s ≡ o
+  unfolding macroOrder pick orderOf flagOrder withTrace withNflag
+  says-order s (orders ks y) (inl h) =
+      ap (orderOf ms x) (h .word) ∙ order-macro (h .rest) ∙ ap (macroOrder ms x) (h .reads) ∙ rw (eq-eqb (length ks) (suc (length ms)) (h .one)) (ap (orders ks) (sym (h .state)))
+  says-order s (orders ks y) (inr (inl h)) =
+      ap (orderOf ms x) (h .exactly) ∙ order-trace-0 ∙ ap (λ (k : Table). orders k (withTrace 0 x)) (sym (h .table)) ∙ ap (orders ks) (sym (state-same y (withTrace 0 x) (h .stacks) (h .counters) (h .traceIs) (h .nflagIs)))
+  says-order s (orders ks y) (inr (inr (inl h))) =
+      ap (orderOf ms x) (h .exactly) ∙ order-trace-1 ∙ ap (λ (k : Table). orders k (withTrace 1 x)) (sym (h .table)) ∙ ap (orders ks) (sym (state-same y (withTrace 1 x) (h .stacks) (h .counters) (h .traceIs) (h .nflagIs)))
+  says-order s (orders ks y) (inr (inr (inr (inl h)))) =
+      ap (orderOf ms x) (h .exactly) ∙ order-nflag-0 ∙ ap (λ (k : Table). orders k (withNflag 0 x)) (sym (h .table)) ∙ ap (orders ks) (sym (state-same y (withNflag 0 x) (h .stacks) (h .counters) (h .traceIs) (h .nflagIs)))
+  says-order s (orders ks y) (inr (inr (inr (inr h)))) =
+      ap (orderOf ms x) (h .exactly) ∙ order-nflag-1 ∙ ap (λ (k : Table). orders k (withNflag 1 x)) (sym (h .table)) ∙ ap (orders ks) (sym (state-same y (withNflag 1 x) (h .stacks) (h .counters) (h .traceIs) (h .nflagIs)))
+  says-order s (wrong (ofHost r)) h = absurd h
+  says-order s (wrong (ofLine lineTooLong)) h = absurd h
+  says-order s (wrong (ofLine badByte)) h = absurd h
+  says-order s (wrong (ofLine badControl)) (inl h) =
+      ap (orderOf ms x) (h .word) ∙ order-macro (h .rest) ∙ ap (macroOrder ms x) (h .reads) ∙ rw (ne-eqb (length (h .read)) (suc (length ms)) (h .notOne))
+  says-order s (wrong (ofLine badControl)) (inr h) =
+      rw (
+        by-false (begins (bytes "$MACRO") s) (λ e. h .noMacro (drop 6 s) (begins-with (bytes "$MACRO") s e)),
+        by-false (same s (bytes "$TRACE 0")) (λ e. h .noTrace0 (same-true s _ e)),
+        by-false (same s (bytes "$TRACE 1")) (λ e. h .noTrace1 (same-true s _ e)),
+        by-false (same s (bytes "$NFLAG 0")) (λ e. h .noNflag0 (same-true s _ e)),
+        by-false (same s (bytes "$NFLAG 1")) (λ e. h .noNflag1 (same-true s _ e)),
+        orderOf,
+      )
+  says-order s (wrong (ofFile r p)) h = ap (orderOf ms x) (h .word) ∙ order-macro (h .rest) ∙ ap (macroOrder ms x) (h .reads)
+  says-order s (wrong (ofWork r)) h = absurd h
+
+-- THE ANSWER
+
+answer-same : (a b : Answer) → a .kind ≡ b .kind → a .passes ≡ b .passes → a .table ≡ b .table → a .state ≡ b .state → a ≡ b
+answer-same a b k p t s = λ i. record { kind = k i; passes = p i; table = t i; state = s i }
+
+module _ (ms : Table) (st : State) (budget : ℕ) (t : List ℕ) where
+  abbrev count : ℕ
+  count = length (passesOf (lineOf ms st budget t))
+
+  -- the history is the one that the definition makes
+  is-line : (l : Line) (a : Answer) → Run ms st budget t l a → l ≡ lineOf ms st budget t
+  is-line l a r = one-line ms st budget t l (lineOf ms st budget t) (r .history) (line-history ms st budget t (r .history .fits))
+
+  passes-are : (l : Line) (a : Answer) → Run ms st budget t l a → a .passes ≡ count
+  passes-are l a r = r .number ∙ ap passCount (is-line l a r) ∙ sym (pass-count (lineOf ms st budget t))
+
+  -- feed's answer, by the history's end
+  feed-ends : (l : Line) (a : Answer) → Run ms st budget t l a → (e : Ending) → endOfLine l ≡ e
+      → feed ms st budget t ≡ answered ms st count (hadOccurrence (lineOf ms st budget t)) e
+  unfolding answer
+  feed-ends l a r e f =
+      feed-runs ms st budget t (r .history .fits)
+      ∙ ap (answered ms st count (hadOccurrence (lineOf ms st budget t))) (end-of-line (lineOf ms st budget t) ∙ ap endOfLine (sym (is-line l a r)) ∙ f)
+
+  finished-is : (l : Line) (a : Answer) (s : List ℕ) → Run ms st budget t l a → Finished ms l a s → a ≡ feed ms st budget t
+  unfolding answered
+  finished-is l a s r f =
+      answer-same a (record { kind = kindOfDone (a .state .nflag) (hadOccurrence whole) s; passes = count; table = ms; state = a .state })
+      (kinds (f .kind) (subst (λ (k : Line). (Withholds (a .state) k × (made ≡ withheld)) ⊎ ((Withholds (a .state) k → ⊥) × (made ≡ out s))) (sym (is-line l a r)) (kind-of-done whole s (a .state) (a .state .nflag) (hadOccurrence whole) refl refl)))
+      (passes-are l a r) (f .table) refl
+      ∙ sym (feed-ends l a r (done s (a .state)) (f .final))
+    where
+      whole : Line
+      whole = lineOf ms st budget t
+
+      made : Kind
+      made = kindOfDone (a .state .nflag) (hadOccurrence (lineOf ms st budget t)) s
+
+      kinds : (Withholds (a .state) l × (a .kind ≡ withheld)) ⊎ ((Withholds (a .state) l → ⊥) × (a .kind ≡ out s))
+          → (Withholds (a .state) l × (made ≡ withheld)) ⊎ ((Withholds (a .state) l → ⊥) × (made ≡ out s)) → a .kind ≡ made
+      kinds (inl h) (inl g) = h .1 ∙ sym (g .1)
+      kinds (inl h) (inr g) = absurd (g .0 (h .0))
+      kinds (inr h) (inl g) = absurd (h .0 (g .0))
+      kinds (inr h) (inr g) = h .1 ∙ sym (g .1)
+
+  refused-is : (l : Line) (a : Answer) (x : Refusal) → Run ms st budget t l a → a .kind ≡ refusedWith x → a .table ≡ ms → a .state ≡ st → feed ms st budget t ≡ refusal ms st count x
+      → a ≡ feed ms st budget t
+  unfolding refusal
+  refused-is l a x r k m s f = answer-same a (refusal ms st count x) k (passes-are l a r) m s ∙ sym f
+
+  -- a refusal before any pass
+  early-is : (a : Answer) (x : Refusal) → a .kind ≡ refusedWith x → a .table ≡ ms → a .state ≡ st → a .passes ≡ 0 → feed ms st budget t ≡ refusal ms st 0 x → a ≡ feed ms st budget t
+  unfolding refusal
+  early-is a x k m s p f = answer-same a (refusal ms st 0 x) k p m s ∙ sym f
+
+  fixed : (l : Line) (a : Answer) (k : Kind) → a .kind ≡ k → ByKind ms st budget t l a k → a ≡ feed ms st budget t
+  unfolding answered ofOrder
+  fixed l a (refusedWith (ofHost badMemory)) e h = absurd (h .2)
+  fixed l a (refusedWith (ofHost badTable)) e h = absurd (h .2)
+  fixed l a (refusedWith (ofHost badState)) e h = absurd (h .2)
+  fixed l a (refusedWith (ofHost budgetTooLarge)) e h = early-is a (ofHost budgetTooLarge) e (h .0) (h .1) (h .2 .1) (feed-costly ms st budget t (h .2 .0))
+  fixed l a (refusedWith (ofLine lineTooLong)) e h = early-is a (ofLine lineTooLong) e (h .0) (h .1) (h .2 .2) (feed-long ms st budget t (h .2 .0) (h .2 .1))
+  fixed l a (refusedWith (ofLine badByte)) e h = early-is a (ofLine badByte) e (h .0) (h .1) (h .2 .3) (feed-bad ms st budget t (h .2 .0) (h .2 .1) (h .2 .2))
+  fixed l a (refusedWith (ofLine badControl)) e h =
+      let c = h .2 .1 in
+      refused-is l a (ofLine badControl) (h .2 .0) e (h .0) (h .1)
+      (feed-ends l a (h .2 .0) (control (c .0) (c .1)) (c .2 .final) ∙ ap (ofOrder ms st count) (says-order ms (c .1) (c .0) (wrong (ofLine badControl)) (c .2 .misordered)))
+  fixed l a (refusedWith (ofFile r p)) e h =
+      let c = h .2 .1 in
+      refused-is l a (ofFile r p) (h .2 .0) e (h .0) (h .1)
+      (feed-ends l a (h .2 .0) (control (c .0) (c .1)) (c .2 .final) ∙ ap (ofOrder ms st count) (says-order ms (c .1) (c .0) (wrong (ofFile r p)) (c .2 .misordered)))
+  fixed l a (refusedWith (ofWork r)) e h = refused-is l a (ofWork r) (h .2 .0) e (h .0) (h .1) (feed-ends l a (h .2 .0) (refused r) (h .2 .1))
+  fixed l a (out s) e h = finished-is l a s (h .0) (h .1)
+  fixed l a withheld e h = finished-is l a (h .1 .0) (h .0) (h .1 .1)
+  fixed l a controlled e h =
+      let c = h .1 in
+      answer-same a (record { kind = controlled; passes = count; table = a .table; state = a .state }) e (passes-are l a (h .0)) refl refl
+      ∙ sym (feed-ends l a (h .0) (control (c .0) (c .1)) (c .2 .final) ∙ ap (ofOrder ms st count) (says-order ms (c .1) (c .0) (orders (a .table) (a .state)) (c .2 .ordered)))
+
+-- THE LAW
+pub one-answer : OneAnswer
+one-answer ms st budget t l k a b h g = fixed ms st budget t l a (a .kind) refl h ∙ sym (fixed ms st budget t k b (b .kind) refl g)
+
+pub one-list : OneList
+one-list ms st [] [] [] h g = refl
+one-list ms st [] [] (b ∷ bs) h g = absurd g
+one-list ms st [] (a ∷ as₁) bs h g = absurd h
+one-list ms st (x ∷ xs) [] bs h g = absurd h
+one-list ms st (x ∷ xs) (a ∷ as₁) [] h g = absurd g
+one-list ms st (x ∷ xs) (a ∷ as₁) (b ∷ bs) h g =
+    let e : a ≡ b = one-answer ms st (x .0) (x .1) (h .0 .0) (g .0 .0) a b (h .0 .1) (g .0 .1) in
+    let i : as₁ ≡ bs = one-list (a .table) (a .state) xs as₁ bs (h .1) (subst (λ (c : Answer). Meets (c .table) (c .state) xs bs) (sym e) (g .1)) in
+    ap (λ (c : Answer). c ∷ as₁) e ∙ ap (λ (l : List Answer). b ∷ l) i
