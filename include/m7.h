@@ -46,7 +46,7 @@ extern "C" {
    unused), byte 1 the number of its tags, bytes 2 to 7 the lengths in bytes of
    its pattern, its replacement and its commands, two bytes each, low byte
    first. Behind them stand these three, in items of two bytes, a code and an
-   operand (crates/tables/specs/Form.antt has the codes). */
+   operand (crates/form_table/specs/Form.antt has the codes). */
 #define M7_TABLE_BYTES 98304
 
 /* A state: the flags TRACE and NFLAG (a byte each, 0 or 1); the pointers of

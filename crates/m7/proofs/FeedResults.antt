@@ -11,25 +11,25 @@ use Rattle.macros.specs.Bounds.{mostLineBytes}
 use Rattle.macros.specs.Refusals.{number, hostNumber}
 use Rattle.macros.specs.Macro.{Table, pick}
 use Rattle.macros.specs.Formed.{Octets}
-use Rattle.tables.specs.Form.{tableBytes}
-use Rattle.tables.specs.Check.{checks}
-use Rattle.tables.proofs.Basics.{clash, and-right}
-use Rattle.tables.proofs.Tables.{checkExact}
+use Rattle.form_table.specs.Form.{tableBytes}
+use Rattle.form_table.specs.Check.{checks}
+use Rattle.form_table.proofs.Basics.{clash, and-right}
+use Rattle.form_table.proofs.Tables.{checkExact}
 use Rattle.lines.specs.Feeding.{Kind, numberOf, placeOf, kindNumber, feed}
 use Rattle.lines.specs.Feeding.{Answer as Answered}
 use Rattle.lines.proofs.FeedKeeps.{feed-keeps}
-use Rattle.states.specs.Form.{stateBytes}
-use Rattle.states.specs.Check.{stateChecks}
-use Rattle.states.proofs.Decode.{state-check-exact}
-use Rattle.states.proofs.Held.{passed-is}
-use Rattle.memories.specs.Memory.{IsTable}
-use Rattle.feeding.specs.Contract.{Lent, Answers}
-use Rattle.replies.specs.Fed.{kindOf, passesOf, sizeOf}
-use Rattle.feeding.specs.Contract.{Feeds as FeedsLine}
-use Rattle.replies.specs.declared.Fed.{Fed}
-use Rattle.replies.specs.declared.Fed.the-variants.{Out, Withheld, Control, Refused}
-use Rattle.replies.specs.declared.Answer.{Answer}
-use Rattle.replies.specs.Replies.{reply, lineReply, told, Small}
+use Rattle.form_state.specs.Form.{stateBytes}
+use Rattle.form_state.specs.Check.{stateChecks}
+use Rattle.form_state.proofs.Decode.{state-check-exact}
+use Rattle.form_state.proofs.Held.{passed-is}
+use Rattle.line_memory.specs.Memory.{IsTable}
+use Rattle.line_feed.specs.Contract.{Lent, Answers}
+use Rattle.line_answer.specs.Fed.{kindOf, passesOf, sizeOf}
+use Rattle.line_feed.specs.Contract.{Feeds as FeedsLine}
+use Rattle.line_answer.specs.declared.Fed.{Fed}
+use Rattle.line_answer.specs.declared.Fed.the-variants.{Out, Withheld, Control, Refused}
+use Rattle.line_answer.specs.declared.Answer.{Answer}
+use Rattle.line_answer.specs.Replies.{reply, lineReply, told, Small}
 use Rattle.m7.specs.Feeding.{Call, answerOf, sizedToFeed, Feeds}
 use Rattle.m7.specs.HostRefusal.{hostRefusal}
 use Rattle.m7.proofs.FeedBounds.{feed-place, feed-passes}

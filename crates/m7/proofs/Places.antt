@@ -17,7 +17,7 @@ use Rattle.macros.specs.Read.Next.{go, refuse}
 use Rattle.macros.specs.Read.Read.{refusedAt, table}
 use Rattle.macros.specs.Write.{Written, written, writeFrom, writeOut}
 use Rattle.macros.specs.Write.Written.{refused, file}
-use Rattle.tables.proofs.Basics.{and-right}
+use Rattle.form_table.proofs.Basics.{and-right}
 use Rattle.lines.proofs.KeepTests.{by-pick}
 
 -- READING

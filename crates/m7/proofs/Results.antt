@@ -19,29 +19,29 @@ use Rattle.macros.specs.Write.{Written, writeOut}
 use Rattle.macros.specs.Write.Written.{refused, file}
 use Rattle.macros.specs.Accepted.{Accepted}
 use Rattle.macros.proofs.Laws.{read-keeps}
-use Rattle.tables.specs.Form.{slotBytes, tableBytes, slots, form}
-use Rattle.tables.specs.Check.{checks}
-use Rattle.tables.proofs.Basics.{clash, and-both}
-use Rattle.tables.proofs.Tables.{checkExact}
+use Rattle.form_table.specs.Form.{slotBytes, tableBytes, slots, form}
+use Rattle.form_table.specs.Check.{checks}
+use Rattle.form_table.proofs.Basics.{clash, and-both}
+use Rattle.form_table.proofs.Tables.{checkExact}
 use Rattle.lines.specs.State.{fresh}
-use Rattle.states.specs.Form.{stateBytes, stateForm}
-use Rattle.states.proofs.Held.{octets-of}
-use Rattle.scanning.specs.Scan.{faultOf}
-use Rattle.reading.specs.File.{Lent, Onto}
-use Rattle.scanning.specs.declared.Fault.{Fault}
-use Rattle.reading.specs.declared.Reading.{Reading}
-use Rattle.reading.specs.declared.Reading.the-variants.{Table as TableOf, Refused as NoTable}
-use Rattle.writing.specs.Contract.{Reply, meaning, laidOut, SomeTable, WritesOut}
-use Rattle.writing.specs.Contract.{reply as replyOf}
-use Rattle.writing.specs.Contract.Reply.{size, refusal}
-use Rattle.writing.specs.Slots.{refusalOf, Holds}
-use Rattle.writing.specs.declared.Fault.{Fault as WritingFault}
-use Rattle.writing.specs.declared.Answer.{Answer as Writing}
-use Rattle.writing.specs.declared.Answer.the-variants.{Written as WrittenOut, Refused as NotWritten}
-use Rattle.memories.specs.Memory.{padded}
-use Rattle.memories.proofs.Copying.{padded-whole}
-use Rattle.replies.specs.declared.Answer.{Answer}
-use Rattle.replies.specs.Replies.{reply}
+use Rattle.form_state.specs.Form.{stateBytes, stateForm}
+use Rattle.form_state.proofs.Held.{octets-of}
+use Rattle.read_scan.specs.Scan.{faultOf}
+use Rattle.read_file.specs.File.{Lent, Onto}
+use Rattle.read_scan.specs.declared.Fault.{Fault}
+use Rattle.read_file.specs.declared.Reading.{Reading}
+use Rattle.read_file.specs.declared.Reading.the-variants.{Table as TableOf, Refused as NoTable}
+use Rattle.write_file.specs.Contract.{Reply, meaning, laidOut, SomeTable, WritesOut}
+use Rattle.write_file.specs.Contract.{reply as replyOf}
+use Rattle.write_file.specs.Contract.Reply.{size, refusal}
+use Rattle.write_file.specs.Slots.{refusalOf, Holds}
+use Rattle.write_file.specs.declared.Fault.{Fault as WritingFault}
+use Rattle.write_file.specs.declared.Answer.{Answer as Writing}
+use Rattle.write_file.specs.declared.Answer.the-variants.{Written as WrittenOut, Refused as NotWritten}
+use Rattle.line_memory.specs.Memory.{padded}
+use Rattle.line_memory.proofs.Copying.{padded-whole}
+use Rattle.line_answer.specs.declared.Answer.{Answer}
+use Rattle.line_answer.specs.Replies.{reply}
 use Rattle.m7.specs.Contract.{Result, Gives, refuses, takes, ofReading, reads, ofWriting, sized, Writes, freshens}
 use Rattle.m7.proofs.Places.{onto-place, extent, out-extent}
 

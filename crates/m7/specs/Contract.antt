@@ -14,12 +14,12 @@ use Rattle.macros.specs.Read.{Read, readFile}
 use Rattle.macros.specs.Read.Read.{refusedAt, table}
 use Rattle.macros.specs.Write.{Written, writeOut}
 use Rattle.macros.specs.Write.Written.{refused, file}
-use Rattle.tables.specs.Form.{tableBytes, form}
+use Rattle.form_table.specs.Form.{tableBytes, form}
 use Rattle.lines.specs.State.{fresh}
-use Rattle.states.specs.Form.{stateBytes, stateForm}
-use Rattle.memories.specs.Memory.{IsTable}
-use Rattle.replies.specs.declared.Answer.{Answer}
-use Rattle.replies.specs.Replies.{reply}
+use Rattle.form_state.specs.Form.{stateBytes, stateForm}
+use Rattle.line_memory.specs.Memory.{IsTable}
+use Rattle.line_answer.specs.declared.Answer.{Answer}
+use Rattle.line_answer.specs.Replies.{reply}
 
 -- what a call answers, and what the memory that it may write holds then
 pub record Result : Type 0 where

@@ -1,6 +1,6 @@
 -- THE CONTRACT OF m7_feed: from the lent bytes at entry, the whole answer and what each memory then holds.
 -- It rules out, among others, the edits state_number (1 for bytes that are no state), feed_budget_lost (each line is fed with budget 0)
--- and fresh_smaller (a state of another size than the docs state is taken); what the answer's numbers rule out stands in crates/replies.
+-- and fresh_smaller (a state of another size than the docs state is taken); what the answer's numbers rule out stands in crates/line_answer.
 use Prim.Native.Nat.{ℕ}
 use mathlib.Core.Path.{_≡_}
 use mathlib.Core.Bool.{Bool, true, false, _&&_}
@@ -12,15 +12,15 @@ use Rattle.macros.specs.Refusals.{HostRefusal, number}
 use Rattle.macros.specs.Refusals.Refusal.{ofHost}
 use Rattle.macros.specs.Refusals.HostRefusal.{badMemory, badTable, badState}
 use Rattle.macros.specs.Macro.{Table}
-use Rattle.tables.specs.Form.{tableBytes}
+use Rattle.form_table.specs.Form.{tableBytes}
 use Rattle.lines.specs.State.{State}
 use Rattle.lines.specs.Feeding.{numberOf, placeOf, kindNumber, outputOf, feed}
 use Rattle.lines.specs.Feeding.{Answer as Answered}
-use Rattle.states.specs.Form.{stateBytes}
-use Rattle.states.specs.Access.{Holds}
-use Rattle.memories.specs.Memory.{IsTable}
-use Rattle.feeding.specs.Contract.{laidOut}
-use Rattle.replies.specs.declared.Answer.{Answer}
+use Rattle.form_state.specs.Form.{stateBytes}
+use Rattle.form_state.specs.Access.{Holds}
+use Rattle.line_memory.specs.Memory.{IsTable}
+use Rattle.line_feed.specs.Contract.{laidOut}
+use Rattle.line_answer.specs.declared.Answer.{Answer}
 
 -- a call: the line and its budget, the memories at entry and at exit, and the answer
 pub record Call : Type 0 where

@@ -6,10 +6,10 @@ use lib.Dec.{eqb}
 use lib.ListN.{length}
 use Rattle.macros.specs.Bounds.{mostLineBytes}
 use Rattle.macros.specs.Macro.{pick}
-use Rattle.tables.specs.Form.{tableBytes}
-use Rattle.tables.specs.Check.{checks}
-use Rattle.states.specs.Form.{stateBytes}
-use Rattle.states.specs.Check.{stateChecks}
+use Rattle.form_table.specs.Form.{tableBytes}
+use Rattle.form_table.specs.Check.{checks}
+use Rattle.form_state.specs.Form.{stateBytes}
+use Rattle.form_state.specs.Check.{stateChecks}
 
 -- "The host, first": 3 a memory of another size, then 1 bytes that are no table, 2 that are no state; 0 if none is due
 unfoldable pub hostRefusal : (table state output : List ℕ) → ℕ

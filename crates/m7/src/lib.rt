@@ -1,20 +1,20 @@
 // The engine for the host: reading a macro file, writing out a table, the fresh state, and feeding a line.
-use memories::lay_out;
-use reading::Reading;
-use reading::file::read_onto;
-use replies::Answer;
-use replies::answer_of;
-use replies::file_number;
-use writing::Answer as Writing;
-use writing::Fault as WritingFault;
+use line_answer::Answer;
+use line_answer::answer_of;
+use line_answer::file_number;
+use line_memory::lay_out;
+use read_file::Reading;
+use read_file::file::read_onto;
+use write_file::Answer as Writing;
+use write_file::Fault as WritingFault;
 ghost use mathlib.Core.Path.{_≡_};
 ghost use Prim.Native.Nat.{_≤_};
 ghost use lib.ListN.{length, replicate};
 ghost use Rattle.macros.specs.Bounds.{mostFileBytes};
 ghost use Rattle.macros.specs.Refusals.{fileNumber};
-ghost use Rattle.tables.specs.Form.{tableBytes};
-ghost use Rattle.writing.specs.Slots.{refusalOf};
-ghost use Rattle.replies.specs.Replies.{reply};
+ghost use Rattle.form_table.specs.Form.{tableBytes};
+ghost use Rattle.write_file.specs.Slots.{refusalOf};
+ghost use Rattle.line_answer.specs.Replies.{reply};
 ghost use Rattle.m7.specs.Contract.{Gives, reads, Writes, freshens};
 ghost use Rattle.m7.specs.Feeding.{Feeds};
 ghost use Rattle.m7.specs.HostRefusal.{hostRefusal};
@@ -51,10 +51,10 @@ pub extern "C" fn m7_write(table: &[u8], file: &mut [u8]) -> Answer
     if file.len() != FILE_BYTES {
         return refusal(3, 0);
     }
-    if !checking::is_table(table) {
+    if !check_table::is_table(table) {
         return refusal(1, 0);
     }
-    let writing = writing::write_table(table, file);
+    let writing = write_file::write_table(table, file);
     match writing {
         Writing::Written(size) => {
             return taken(size);
@@ -73,7 +73,7 @@ pub extern "C" fn m7_fresh(state: &mut [u8]) -> Answer
     if state.len() != STATE_BYTES {
         return refusal(3, 0);
     }
-    fresh::put_fresh(state);
+    form_fresh::put_fresh(state);
     taken(0)
 }
 
@@ -92,7 +92,7 @@ pub extern "C" fn m7_feed(
     if 0 < number {
         return refusal(number, 0);
     }
-    let fed = feeding::feed(table, state, line, budget, output);
+    let fed = line_feed::feed(table, state, line, budget, output);
     answer_of(fed)
 }
 
@@ -126,10 +126,10 @@ fn host_refusal(table: &[u8], state: &[u8], output: &[u8]) -> u32
     if output.len() != LINE_BYTES {
         return 3;
     }
-    if !checking::is_table(table) {
+    if !check_table::is_table(table) {
         return 1;
     }
-    if !state_check::is_state(state) {
+    if !check_state::is_state(state) {
         return 2;
     }
     0

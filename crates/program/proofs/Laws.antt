@@ -6,8 +6,8 @@ use mathlib.Core.List.{List, [], _∷_, _++_, append-assoc}
 use native.Mathlib.Omega.{arith}
 use lib.ListN.{length, take, drop, length-take, take-append-drop}
 use lib.Seq.{take-append-seam}
-use Rattle.output.specs.Writing.{Behind}
-use Rattle.replies.specs.declared.Answer.{Answer}
+use Rattle.program_out.specs.Writing.{Behind}
+use Rattle.line_answer.specs.declared.Answer.{Answer}
 use Rattle.program.specs.Said.{Decimal, RefusalSaid, OutSaid, Said, Numbered}
 
 -- a u64 has at most 20 digits

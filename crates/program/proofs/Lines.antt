@@ -6,11 +6,11 @@ use mathlib.Core.List.{List, []}
 use native.Mathlib.Omega.{arith}
 use borrow.Author.Tests.{eq-eqb}
 use lib.ListN.{length, take, replicate, length-take}
-use Rattle.input.specs.declared.Reading.{Reading}
-use Rattle.input.specs.Reading.{LineRead}
+use Rattle.program_in.specs.declared.Reading.{Reading}
+use Rattle.program_in.specs.Reading.{LineRead}
 use Rattle.lines.specs.State.{fresh}
-use Rattle.states.specs.Form.{stateForm}
-use Rattle.replies.specs.declared.Answer.{Answer}
+use Rattle.form_state.specs.Form.{stateForm}
+use Rattle.line_answer.specs.declared.Answer.{Answer}
 use Rattle.m7.specs.Contract.{Gives, reads, freshens, takes}
 use Rattle.macros.specs.Macro.{pick}
 use Rattle.program.specs.declared.parts.Parts.{Parts}

@@ -5,12 +5,12 @@ use mathlib.Core.Path.{_≡_}
 use mathlib.Core.Bool.{true, false}
 use mathlib.Core.List.{List}
 use lib.ListN.{length, take, replicate}
-use Rattle.input.specs.declared.Reading.{Reading}
-use Rattle.input.specs.Reading.{LineRead}
-use Rattle.output.specs.Writing.{puts, Gives}
+use Rattle.program_in.specs.declared.Reading.{Reading}
+use Rattle.program_in.specs.Reading.{LineRead}
+use Rattle.program_out.specs.Writing.{puts, Gives}
 use Rattle.lines.specs.State.{fresh}
-use Rattle.states.specs.Form.{stateForm}
-use Rattle.replies.specs.declared.Answer.{Answer}
+use Rattle.form_state.specs.Form.{stateForm}
+use Rattle.line_answer.specs.declared.Answer.{Answer}
 use Rattle.m7.specs.Feeding.{Feeds}
 use Rattle.program.specs.Said.{Said}
 

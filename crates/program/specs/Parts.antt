@@ -3,7 +3,7 @@ use Prim.Native.Nat.{ℕ, zero, suc, _≤_}
 use mathlib.Core.Path.{_≡_}
 use mathlib.Core.List.{List}
 use lib.ListN.{length}
-use Rattle.replies.specs.declared.Answer.{Answer}
+use Rattle.line_answer.specs.declared.Answer.{Answer}
 use Rattle.m7.specs.Contract.{Gives, reads}
 use Rattle.program.specs.declared.parts.Parts.{Parts}
 use Rattle.program.specs.declared.parts.Parts.the-variants.{Table, Refused}

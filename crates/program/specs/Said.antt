@@ -5,7 +5,7 @@ use mathlib.Core.Path.{_≡_}
 use mathlib.Core.List.{List, [], _∷_, _++_}
 use lib.ListN.{length, take}
 use Rattle.io.specs.Digits.{digits, Fewest}
-use Rattle.replies.specs.declared.Answer.{Answer}
+use Rattle.line_answer.specs.declared.Answer.{Answer}
 
 -- so many of the bytes held are said
 abbrev pub Within : (r : ℕ) → (said : List ℕ) → Type 0

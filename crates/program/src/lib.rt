@@ -2,13 +2,13 @@
 mod parts;
 mod said;
 
-use input::next_line;
-use input::start;
-use output::flush;
-use output::put_text;
+use line_answer::Answer;
 use parts::Parts;
 use parts::read_parts;
-use replies::Answer;
+use program_in::next_line;
+use program_in::start;
+use program_out::flush;
+use program_out::put_text;
 use said::answer_said;
 use said::refusal_said;
 ghost use mathlib.Core.Path.{_≡_};

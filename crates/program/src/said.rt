@@ -1,6 +1,6 @@
 // What the program says to a line.
-use output::append;
-use replies::Answer;
+use line_answer::Answer;
+use program_out::append;
 ghost use mathlib.Core.Path.{_≡_};
 ghost use Prim.Native.Nat.{_+_, _≤_, min};
 ghost use lib.ListN.{length, take};

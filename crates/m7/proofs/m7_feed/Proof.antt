@@ -1,6 +1,6 @@
 use mathlib.Core.Path.{refl}
 use denote.Ref.{now}
-use Rattle.replies.proofs.Laws.{no-place}
+use Rattle.line_answer.proofs.Laws.{no-place}
 use Rattle.m7.proofs.Results.{octets-given}
 use Rattle.m7.proofs.FeedResults.{refused-first, none-first, lent, is-small, is-fed}
 use Rattle.m7.proofs.m7_feed.Statement.{statement}

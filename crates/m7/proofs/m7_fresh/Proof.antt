@@ -1,6 +1,6 @@
 use borrow.Author.Needs.{needs}
 use denote.Ref.{now}
-use Rattle.replies.proofs.Laws.{no-place}
+use Rattle.line_answer.proofs.Laws.{no-place}
 use Rattle.m7.proofs.Results.{fresh-other, fresh-stored}
 use Rattle.m7.proofs.m7_fresh.Statement.{statement}
 use Rattle.m7.proofs.m7_fresh.Tie as tie

@@ -2,7 +2,7 @@ use Prim.Native.Nat.{ℕ}
 use mathlib.Core.Path.{refl, sym}
 use denote.Ref.{now}
 use lib.ListN.{length-replicate}
-use Rattle.replies.proofs.Laws.{no-place}
+use Rattle.line_answer.proofs.Laws.{no-place}
 use Rattle.m7.proofs.Results.{read-other}
 use Rattle.m7.proofs.m7_read.Statement.{statement}
 use Rattle.m7.proofs.m7_read.Tie as tie

@@ -1,0 +1,37 @@
+-- The form of a state as bytes, 26,236 of them: the flags TRACE and NFLAG; the 26 pointers; the 26 values and the 26 increments of the counters, four bytes each, low byte first;
+-- then the 20 entries of each stack, 50 bytes each, zeros behind an entry's text. Entries hold no byte 0, so they need no length.
+use Prim.Native.Nat.{ℕ, _-_}
+use mathlib.Core.List.{List, [], _∷_, _++_}
+use lib.ListN.{length, replicate}
+use Rattle.macros.specs.Bounds.{mostEntryBytes}
+use Rattle.form_bytes.specs.Fours.{four}
+use Rattle.lines.specs.State.{Stack, Counter, State}
+
+abbrev pub stateBytes : ℕ
+stateBytes = 26236
+
+unfoldable pub pointersForm : List Stack → List ℕ
+pointersForm [] = []
+pointersForm (k ∷ ks) = k .pointer ∷ pointersForm ks
+
+unfoldable pub valuesForm : List Counter → List ℕ
+valuesForm [] = []
+valuesForm (k ∷ ks) = four (k .value) ++ valuesForm ks
+
+unfoldable pub incrementsForm : List Counter → List ℕ
+incrementsForm [] = []
+incrementsForm (k ∷ ks) = four (k .increment) ++ incrementsForm ks
+
+unfoldable pub entryForm : List ℕ → List ℕ
+entryForm e = e ++ replicate (mostEntryBytes - length e) 0
+
+unfoldable pub entriesForm : List (List ℕ) → List ℕ
+entriesForm [] = []
+entriesForm (e ∷ es) = entryForm e ++ entriesForm es
+
+unfoldable pub stacksForm : List Stack → List ℕ
+stacksForm [] = []
+stacksForm (k ∷ ks) = entriesForm (k .entries) ++ stacksForm ks
+
+unfoldable pub stateForm : State → List ℕ
+stateForm st = st .trace ∷ st .nflag ∷ (pointersForm (st .stacks) ++ (valuesForm (st .counters) ++ (incrementsForm (st .counters) ++ stacksForm (st .stacks))))

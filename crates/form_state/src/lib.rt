@@ -1,0 +1,63 @@
+// The state as bytes: what is read of the stacks and counters in one lent memory.
+use form_bytes::number_at;
+use read_bytes::place;
+ghost use Prim.Native.Nat.{_+_, _-_, _*_, _≤_};
+ghost use mathlib.Core.Path.{_≡_};
+ghost use Rattle.macros.specs.Formed.{Letter};
+ghost use Rattle.lines.specs.State.{stackOf, counterOf, currentEntry};
+ghost use Rattle.form_state.specs.Form.{stateBytes};
+ghost use Rattle.form_state.specs.Access.{IsState, OfState, textLength};
+
+pub fn pointer(state: &[u8], i: u8) -> u8
+    requires { ⌜ IsState (now state) × Letter i ⌝ }
+    ensures { λ r. ⌜ OfState (now (state .entry)) (λ st. r ≡ stackOf st i .pointer) ⌝ }
+{
+    state[2 + place(i)]
+}
+
+pub fn value(state: &[u8], i: u8) -> u32
+    requires { ⌜ IsState (now state) × Letter i ⌝ }
+    ensures { λ r. ⌜ OfState (now (state .entry)) (λ st. r ≡ counterOf st i .value) ⌝ }
+{
+    number_at(state, 28 + 4 * place(i))
+}
+
+pub fn increment(state: &[u8], i: u8) -> u32
+    requires { ⌜ IsState (now state) × Letter i ⌝ }
+    ensures { λ r. ⌜ OfState (now (state .entry)) (λ st. r ≡ counterOf st i .increment) ⌝ }
+{
+    number_at(state, 132 + 4 * place(i))
+}
+
+// Where the current entry of the letter i starts.
+pub fn entry_at(state: &[u8], i: u8) -> usize
+    requires { ⌜ IsState (now state) × Letter i ⌝ }
+    ensures { λ r. ⌜ (r + 50 ≤ stateBytes) × OfState (now (state .entry)) (λ st. r ≡ 236 + (1000 * (i - 97) + 50 * (stackOf st i .pointer - 1))) ⌝ }
+{
+    let p = pointer(state, i);
+    236 + (1000 * place(i) + 50 * ((p - 1) as usize))
+}
+
+// How many bytes stand before the first 0: an entry's text holds none.
+fn text_length(entry: &[u8]) -> usize
+    ensures { λ r. ⌜ r ≡ textLength (now (entry .entry)) ⌝ }
+{
+    let mut i = 0;
+    while i < entry.len() {
+        if entry[i] == 0 {
+            return i;
+        }
+        i += 1;
+    }
+    i
+}
+
+// Part 4: the current entry, "handed out as a part .. of the stack memory".
+pub fn entry(state: &[u8], i: u8) -> &[u8]
+    requires { ⌜ IsState (now state) × Letter i ⌝ }
+    ensures { λ r. ⌜ OfState (now (state .entry)) (λ st. now r ≡ currentEntry st i) ⌝ }
+{
+    let at = entry_at(state, i);
+    let n = text_length(&state[at..at + 50]);
+    &state[at..at + n]
+}

@@ -1,0 +1,300 @@
+-- A line's answer, from its history and its control line.
+-- Assumes nothing.
+use Prim.Native.Nat.{ℕ, zero, suc, _+_, _-_, _≤_, _<_}
+use mathlib.Core.Path.{_≡_, refl, ap, sym, _∙_, subst}
+use mathlib.Core.Bool.{Bool, true, false, _||_, false≢true}
+use mathlib.Core.List.{List, [], _∷_, _++_}
+use native.Mathlib.Numerals.{add-one}
+use native.Mathlib.Omega.{arith}
+use borrow.Author.Tests.{le-leb, lt-leb, lt-ltb, eq-eqb, ne-eqb}
+use lib.Dec.{ltb, eqb}
+use lib.ListN.{length, getD, take, drop, replicate, length-replicate, drop-of-length-le}
+use lib.Seq.{drop-cons, take-at, take-suc, take-all, length-take-le}
+use Rattle.macros.specs.Bounds.{mostLineBytes, mostBudget}
+use Rattle.macros.specs.Refusals.Refusal.{ofWork}
+use Rattle.macros.specs.Macro.{Table}
+use Rattle.macros.specs.Formed.{Bytes}
+use Rattle.lines.specs.State.{State}
+use Rattle.lines.specs.Line.{Ending, Line, passesOf, hadOccurrence, ending, lineOf}
+use Rattle.lines.specs.Line.Ending.{done}
+use Rattle.lines.specs.Feeding.{Kind, Answer, orderOf, kindOfDone, refusal, outputOf, ofOrder, answered, answer, hasBadByte}
+use Rattle.lines.specs.Feeding.{feed as fed}
+use Rattle.lines.specs.Feeding.Kind.{out, withheld}
+use Rattle.lines.specs.Feeding.Order.{wrong}
+use Rattle.lines.proofs.KeepBytes.{bytes-append}
+use Rattle.form_state.specs.Access.{Holds, OfState}
+use Rattle.line_memory.specs.Memory.{IsTable, Counted, padded}
+use Rattle.line_memory.proofs.Copying.{padded-whole}
+use Rattle.line_control.specs.Contract.{Orders}
+use Rattle.line_control.specs.Contract.{refusalOf as controlRefusal}
+use Rattle.line_control.specs.declared.Why.{Why as ControlWhy}
+use Rattle.line_control.specs.declared.Why.the-variants.{BadControl, InMacro}
+use Rattle.line_control.specs.declared.Order.{Order as Obeyed}
+use Rattle.line_control.specs.declared.Order.the-variants.{Taken, Wrong}
+use Rattle.line_passes.specs.Contract.{Started, Comes, Left, LineLeft, Runs}
+use Rattle.line_passes.specs.Contract.{refusalOf as workRefusal}
+use Rattle.line_passes.specs.declared.Why.{Why as WorkWhy}
+use Rattle.line_passes.specs.declared.Why.the-variants.{BudgetUsedUp, AtWork}
+use Rattle.line_passes.specs.declared.Ended.{Ended}
+use Rattle.line_passes.specs.declared.Ended.the-variants.{Done, Control as AtControl, Refused as AtRefusal}
+use Rattle.line_passes.proofs.Starting.{state-length}
+use Rattle.line_feed.specs.Contract.{Lent, laidOut, Answers, Feeds}
+use Rattle.line_answer.specs.Fed.{refusalOf}
+use Rattle.line_feed.specs.Answering.{Counts, controlWhy, workWhy, Fits, withheldBy, Finished, GoesOut, keptBy, Ruling, Rules, Replying, Replies, Takes}
+use Rattle.line_answer.specs.declared.Why.{Why}
+use Rattle.line_answer.specs.declared.Why.the-variants.{BudgetTooLarge, LineTooLong, BadByte}
+use Rattle.line_answer.specs.declared.Fed.{Fed}
+use Rattle.line_answer.specs.declared.Fed.the-variants.{Out, Withheld, Control, Refused}
+
+-- 22
+
+module _ (t : List ℕ) (i : ℕ) (h : i < length t) where
+  bad-cons : (x : Bool) → (eqb (getD t i 0) 0 || eqb (getD t i 0) 10) ≡ x → hasBadByte (drop i t) ≡ elim x [ true ↦ true | false ↦ hasBadByte (drop (suc i) t) ]
+  unfolding hasBadByte
+  bad-cons x e = rw (drop-cons t i 0 h, hasBadByte, e) refl
+
+  or-right : (c : Bool) → (c || true) ≡ true
+  or-right true = refl
+  or-right false = refl
+
+  pub bad-zero : getD t i 0 ≡ 0 → hasBadByte (drop i t) ≡ true
+  bad-zero e = bad-cons true (rw (eq-eqb (getD t i 0) 0 e) refl)
+
+  pub bad-feed : getD t i 0 ≡ 10 → hasBadByte (drop i t) ≡ true
+  bad-feed e = bad-cons true (rw (eq-eqb (getD t i 0) 10 e) (or-right (eqb (getD t i 0) 0)))
+
+  pub bad-next : (getD t i 0 ≡ 0 → ⊥) → (getD t i 0 ≡ 10 → ⊥) → hasBadByte (drop i t) ≡ hasBadByte (drop (i + 1) t)
+  bad-next f g = rw (add-one i) (bad-cons false (rw (ne-eqb (getD t i 0) 0 f, ne-eqb (getD t i 0) 10 g) refl))
+
+  pub bytes-next : Bytes (take i t) → getD t i 0 ≤ 255 → (getD t i 0 ≡ 0 → ⊥) → Bytes (take (i + 1) t)
+  bytes-next b l f = rw (add-one i, take-suc t i 0 h) (bytes-append (take i t) (getD t i 0 ∷ []) b (omega arith, tt))
+
+pub bad-none : (t : List ℕ) (i : ℕ) → length t ≤ i → hasBadByte (drop i t) ≡ false
+unfolding hasBadByte
+bad-none t i h = rw (drop-of-length-le t h) refl
+
+pub bytes-all : (t : List ℕ) (i : ℕ) → length t ≤ i → Bytes (take i t) → Bytes t
+bytes-all t i h b = subst Bytes (take-all i t h) b
+
+-- WITHHELD OR NOT
+
+pub held-occurred : (n : ℕ) (o : Bool) → o ≡ true → false ≡ withheldBy n o
+unfolding withheldBy
+held-occurred n true e = refl
+held-occurred n false e = absurd (false≢true e)
+
+pub held-flag : (n : ℕ) (o : Bool) → o ≡ false → ltb 0 n ≡ withheldBy n o
+unfolding withheldBy
+held-flag n true e = absurd (false≢true (sym e))
+held-flag zero false e = refl
+held-flag (suc n) false e = lt-ltb 0 (suc n) (omega arith)
+
+kind-held : (n : ℕ) (o : Bool) (t : List ℕ) → withheldBy n o ≡ true → kindOfDone n o t ≡ withheld
+unfolding withheldBy kindOfDone
+kind-held n true t e = absurd (false≢true e)
+kind-held zero false t e = absurd (false≢true e)
+kind-held (suc n) false t e = refl
+
+kind-out : (n : ℕ) (o : Bool) (t : List ℕ) → withheldBy n o ≡ false → kindOfDone n o t ≡ out t
+unfolding withheldBy kindOfDone
+kind-out zero true t e = refl
+kind-out zero false t e = refl
+kind-out (suc n) true t e = refl
+kind-out (suc n) false t e = absurd (false≢true (sym e))
+
+pub none-fits : (n : ℕ) → 0 ≤ n
+none-fits n = omega arith
+
+no-output : (t o o′ : List ℕ) → length o ≡ mostLineBytes → o′ ≡ padded (take 0 t) (length o) → o′ ≡ replicate mostLineBytes 0
+no-output t o o′ l e = let n : length o - 0 ≡ mostLineBytes = omega arith in e ∙ ap (λ (k : ℕ). replicate k 0) n
+
+module _ {b o z t : List ℕ} (y : Finished b o z t) where
+  pub state-fits : length z ≤ length b
+  state-fits = omega (arith, state-length (y .after), y .state)
+
+  pub short-fits : length t ≤ length o
+  short-fits = omega (arith, y .short, y .output)
+
+module _ {b b′ out₁ z t : List ℕ} (o : Bool) (y : Finished b out₁ z t) (e : b′ ≡ padded z (length b)) {flag : ℕ} (f : OfState z (λ st. flag ≡ st .nflag)) {h : Bool} (w : h ≡ withheldBy flag o) where
+  kept : b′ ≡ z
+  kept = padded-whole z (length b) (state-length (y .after) ∙ sym (y .state)) e
+
+  pub go-withheld : h ≡ true → {o′ : List ℕ} → o′ ≡ padded (take 0 t) (length out₁) → (p : ℕ) → GoesOut b′ out₁ o′ z t o p (Withheld p)
+  unfolding laidOut outputOf
+  go-withheld g {o′} x p =
+      let k : (st : State) → Holds z st → kindOfDone (st .nflag) o t ≡ withheld = λ st s. kind-held (st .nflag) o t (ap (λ (n : ℕ). withheldBy n o) (sym (f st s)) ∙ (sym w ∙ g)) in
+      record { state = kept; passes = refl; kind = k; size = λ st s. ap (λ (j : Kind). length (outputOf j)) (k st s); output = λ st s. no-output t out₁ o′ (y .output) x ∙ sym (ap (λ (j : Kind). laidOut j out₁) (k st s)) }
+
+  pub go-out : h ≡ false → {o′ : List ℕ} → o′ ≡ padded t (length out₁) → (p : ℕ) → GoesOut b′ out₁ o′ z t o p (Out p (length t))
+  unfolding laidOut outputOf
+  go-out g {o′} x p =
+      let k : (st : State) → Holds z st → kindOfDone (st .nflag) o t ≡ out t = λ st s. kind-out (st .nflag) o t (ap (λ (n : ℕ). withheldBy n o) (sym (f st s)) ∙ (sym w ∙ g)) in
+      let q : take (length t) o′ ≡ t = ap (take (length t)) x ∙ take-at t (replicate (length out₁ - length t) 0) (length t) refl in
+      record {
+        state = kept;
+        passes = refl;
+        kind = λ st s. k st s ∙ ap out (sym q);
+        size = λ st s. ap (λ (j : Kind). length (outputOf j)) (k st s);
+        output = λ st s. x ∙ (ap (λ (n : ℕ). t ++ replicate (n - length t) 0) (y .output) ∙ sym (ap (λ (j : Kind). laidOut j out₁) (k st s)));
+      }
+
+-- WHY
+
+why-control : (w : ControlWhy) → refusalOf (controlWhy w) ≡ controlRefusal w
+why-control BadControl = refl
+why-control (InMacro f p) = refl
+
+why-work : (w : WorkWhy) → refusalOf (workWhy w) ≡ ofWork (workRefusal w)
+why-work BudgetUsedUp = refl
+why-work (AtWork f) = refl
+
+-- CONTROL LINES
+
+module _ {tb tb′ : List ℕ} {count : ℕ} {b z z′ t : List ℕ} {r : Obeyed} (x : Orders tb tb′ z z′ count t r) where
+  pub rule-taken : r ≡ Taken → {b′ o o′ : List ℕ} → b′ ≡ keptBy r z′ b → length o ≡ mostLineBytes → o′ ≡ padded (take 0 t) (length o) → (p : ℕ)
+      → Rules tb tb′ count b b′ o o′ z t p (Control p)
+  unfolding ofOrder laidOut outputOf
+  rule-taken e {b′} {o} {o′} d m f p =
+      let x₂ : Orders tb tb′ z z′ count t Taken = rw e at x in
+      record {
+        answers = λ ms h c old st ho hs.
+            let v = x₂ .obeys ms h c st hs in
+            subst (λ (a : Answer). Answers a tb′ b′ o o′ (Control p)) (sym (ap (ofOrder ms old p) (v .2)))
+            (record { kind = refl; passes = refl; size = refl; table = v .3; state = subst (λ (j : List ℕ). Holds j (v .1)) (sym (d ∙ ap (λ (j : Obeyed). keptBy j z′ b) e)) (v .4); output = no-output t o o′ m f });
+      }
+
+  pub rule-wrong : {w : ControlWhy} → r ≡ Wrong w → {v : Why} → v ≡ controlWhy w → {b′ : List ℕ} → b′ ≡ keptBy r z′ b → (o : List ℕ) (p : ℕ) → Rules tb tb′ count b b′ o o z t p (Refused v p)
+  unfolding ofOrder refusal laidOut outputOf
+  rule-wrong {w} e {v} g {b′} d o p =
+      let x₂ : Orders tb tb′ z z′ count t (Wrong w) = rw e at x in
+      let q : controlRefusal w ≡ refusalOf v = sym (why-control w) ∙ ap refusalOf (sym g) in
+      record {
+        answers = λ ms h c old st ho hs.
+            let u = x₂ .obeys ms h c st hs in
+            subst (λ (a : Answer). Answers a tb′ b′ o o (Refused v p)) (sym (ap (ofOrder ms old p) (u .0 ∙ ap wrong q)))
+            (record {
+              kind = refl;
+              passes = refl;
+              size = refl;
+              table = subst (λ (j : List ℕ). IsTable j ms) (sym (u .1)) h;
+              state = subst (λ (j : List ℕ). Holds j old) (sym (d ∙ ap (λ (j : Obeyed). keptBy j z′ b) e)) ho;
+              output = refl;
+            });
+      }
+
+-- A LINE
+
+answer-as : (ms : Table) (st : State) (l : Line) {p : ℕ} {e : Ending} → length (passesOf l) ≡ p → ending l ≡ e → answer ms st l ≡ answered ms st p (hadOccurrence l) e
+unfolding answer
+answer-as ms st l q f = rw (q, f) refl
+
+module _ {tb b z tx : List ℕ} {count : ℕ} {r : Ended} where
+  module _ {o₁ : List ℕ} (y : Replying tb count b o₁ z tx r) where
+    finished : {k : ℕ} → LineLeft z tx k → Finished b o₁ z (take k tx)
+    finished {k} l = record { state = y .state; output = y .output; after = l .state; short = omega (arith, length-take-le k tx (omega (arith, l .size, y .text)), l .size) }
+
+    module _ {k p : ℕ} {o : Bool} (e : r ≡ Done k o p) where
+      done-left : LineLeft z tx k
+      done-left = subst (Left z tx) e (y .left)
+
+      pub done-size : k ≤ length tx
+      done-size = omega (arith, done-left .size, y .text)
+
+      pub done-finished : Finished b o₁ z (take k tx)
+      done-finished = finished done-left
+
+    module _ {k p : ℕ} (e : r ≡ AtControl k p) where
+      control-left : LineLeft z tx k
+      control-left = subst (Left z tx) e (y .left)
+
+      pub control-size : k ≤ length tx
+      control-size = omega (arith, control-left .size, y .text)
+
+      pub control-ruling : Ruling tb count b o₁ z (take k tx)
+      control-ruling = record { table = y .table; ends = finished control-left; bytes = control-left .bytes }
+
+  pub reply-done : {k p : ℕ} {o : Bool} → r ≡ Done k o p → {b′ o₁ o′ : List ℕ} {a : Fed} → GoesOut b′ o₁ o′ z (take k tx) o p a → Replies tb tb count b b′ o₁ o′ z tx r a
+  unfolding answered
+  reply-done {k} {p} {o} e {b′} {o₁} {o′} {a} g =
+      record {
+        answers = λ ms h l old hb whole c₀.
+            let c : Comes whole z tx (Done k o p) = subst (Comes whole z tx) e c₀ in
+            let q : answer ms old whole ≡ answered ms old p o (done (take k tx) (c .state)) =
+            answer-as ms old whole (c .count) (c .ends) ∙ ap (λ (j : Bool). answered ms old p j (done (take k tx) (c .state))) (c .occurs) in
+            subst (λ (j : Answer). Answers j tb b′ o₁ o′ a) (sym q)
+            (record {
+              kind = g .kind (c .state) (c .holds);
+              passes = sym (g .passes);
+              size = g .size (c .state) (c .holds);
+              table = h;
+              state = subst (λ (j : List ℕ). Holds j (c .state)) (sym (g .state)) (c .holds);
+              output = g .output (c .state) (c .holds);
+            });
+      }
+
+  pub reply-ruled : {k p : ℕ} → r ≡ AtControl k p → {tb′ b′ o₁ o′ : List ℕ} {a : Fed} → Rules tb tb′ count b b′ o₁ o′ z (take k tx) p a → Replies tb tb′ count b b′ o₁ o′ z tx r a
+  unfolding answered
+  reply-ruled {k} {p} e {tb′} {b′} {o₁} {o′} {a} g =
+      record {
+        answers = λ ms h l old hb whole c₀.
+            let c : Comes whole z tx (AtControl k p) = subst (Comes whole z tx) e c₀ in
+            let q : answer ms old whole ≡ ofOrder ms old p (orderOf ms (c .state) (take k tx)) = answer-as ms old whole (c .count) (c .ends) in
+            subst (λ (j : Answer). Answers j tb′ b′ o₁ o′ a) (sym q) (g .answers ms h l old (c .state) hb (c .holds));
+      }
+
+  pub reply-refused : {w : WorkWhy} {p : ℕ} → r ≡ AtRefusal w p → {v : Why} → v ≡ workWhy w → (o : List ℕ) → Replies tb tb count b b o o z tx r (Refused v p)
+  unfolding answered refusal laidOut outputOf
+  reply-refused {w} {p} e {v} g o =
+      let i : ofWork (workRefusal w) ≡ refusalOf v = sym (why-work w) ∙ ap refusalOf (sym g) in
+      record {
+        answers = λ ms h l old hb whole c₀.
+            let c : Comes whole z tx (AtRefusal w p) = subst (Comes whole z tx) e c₀ in
+            let q : answer ms old whole ≡ refusal ms old p (ofWork (workRefusal w)) = answer-as ms old whole (c .count) (c .ends) in
+            subst (λ (j : Answer). Answers j tb b o o (Refused v p)) (sym (q ∙ ap (refusal ms old p) i))
+            (record { kind = refl; passes = refl; size = refl; table = h; state = hb; output = refl });
+      }
+
+-- FROM ITS START
+
+module _ {tb b o t : List ℕ} {count : ℕ} (y : Lent tb b o) (f : Fits t) (cs : Counts tb count) where
+  counted : Counted tb count
+  counted = record { macros = y .table .0; isTable = y .table .1; counted = cs .each (y .table .0) (y .table .1) }
+
+  pub started : Started tb count b t (replicate 26236 0) (replicate 1054 0)
+  started =
+      record { table = counted; state = y .state; short = f .short; bytes = f .bytes; after = length-replicate {A = ℕ} 26236 0; text = length-replicate {A = ℕ} 1054 0 }
+
+  module _ {budget : ℕ} {z tx : List ℕ} {r : Ended} (x : Runs tb count b t budget z tx r) where
+    pub replying : length tx ≡ 1054 → Replying tb count b o z tx r
+    replying l = record { table = counted; state = state-length (y .state); output = y .room; text = l; left = x .left }
+
+    pub taken : {tb′ b′ o′ : List ℕ} {a : Fed} → Replies tb tb′ count b b′ o o′ z tx r a → Takes tb tb′ b b′ budget t o o′ a
+    taken g = record { answers = λ ms h st hb. g .answers ms h (cs .each ms h) st hb (lineOf ms st budget t) (x .comes ms h (cs .each ms h) st hb) }
+
+-- FEEDING
+
+module _ (tb b o : List ℕ) (budget : ℕ) (t : List ℕ) where
+  refused-first : (w : Why) → ((ms : Table) (st : State) → fed ms st budget t ≡ refusal ms st 0 (refusalOf w)) → Feeds tb tb b b budget t o o (Refused w 0)
+  unfolding refusal laidOut outputOf
+  refused-first w q ms h st hb =
+      subst (λ (j : Answer). Answers j tb b o o (Refused w 0)) (sym (q ms st)) (record { kind = refl; passes = refl; size = refl; table = h; state = hb; output = refl })
+
+  pub feeds-budget : 1000000 < budget → Feeds tb tb b b budget t o o (Refused BudgetTooLarge 0)
+  unfolding fed
+  feeds-budget h = refused-first BudgetTooLarge (λ ms st. rw (fed, lt-leb budget mostBudget h) refl)
+
+  module _ (h : budget ≤ 1000000) where
+    pub feeds-long : 1054 < length t → Feeds tb tb b b budget t o o (Refused LineTooLong 0)
+    unfolding fed
+    feeds-long l = refused-first LineTooLong (λ ms st. rw (fed, le-leb budget mostBudget h, lt-leb (length t) mostLineBytes l) refl)
+
+    module _ (l : length t ≤ 1054) where
+      pub feeds-byte : hasBadByte t ≡ true → Feeds tb tb b b budget t o o (Refused BadByte 0)
+      unfolding fed
+      feeds-byte x = refused-first BadByte (λ ms st. rw (fed, le-leb budget mostBudget h, le-leb (length t) mostLineBytes l, x) refl)
+
+      pub feeds-taken : hasBadByte t ≡ false → {tb′ b′ o′ : List ℕ} {a : Fed} → Takes tb tb′ b b′ budget t o o′ a → Feeds tb tb′ b b′ budget t o o′ a
+      unfolding fed
+      feeds-taken x {tb′} {b′} {o′} {a} g ms k st hb =
+          let q : fed ms st budget t ≡ answer ms st (lineOf ms st budget t) = rw (fed, le-leb budget mostBudget h, le-leb (length t) mostLineBytes l, x) refl in
+          subst (λ (j : Answer). Answers j tb′ b′ o o′ a) (sym q) (g .answers ms k st hb)

@@ -1,0 +1,43 @@
+// Feeding a line (01, part 6): its passes, its control line, and the answer.
+mod answers;
+mod slots;
+
+use answers::take_line;
+use line_answer::Fed;
+use line_answer::Why;
+ghost use Rattle.line_feed.specs.Contract.{Lent, Feeds};
+ghost use Rattle.line_feed.specs.Answering.{Tested};
+
+// 22: "holds byte 0 or line feed".
+fn has_bad_byte(line: &[u8]) -> bool
+    ensures { λ r. ⌜ Tested (now (line .entry)) r ⌝ }
+{
+    let mut i = 0;
+    while i < line.len() {
+        if line[i] == 0 {
+            return true;
+        }
+        if line[i] == b'\n' {
+            return true;
+        }
+        i += 1;
+    }
+    false
+}
+
+// Feeds a line to a table and a state. A refusal leaves table, state and output as they were.
+pub fn feed(table: &mut [u8], state: &mut [u8], line: &[u8], budget: u32, output: &mut [u8]) -> Fed
+    requires { ⌜ Lent (now table) (now state) (now output) ⌝ }
+    ensures { λ r. ⌜ Feeds (now (table .entry)) (now (table .exit)) (now (state .entry)) (now (state .exit)) budget (now (line .entry)) (now (output .entry)) (now (output .exit)) r ⌝ }
+{
+    if 1000000 < budget {
+        return Fed::Refused(Why::BudgetTooLarge, 0);
+    }
+    if 1054 < line.len() {
+        return Fed::Refused(Why::LineTooLong, 0);
+    }
+    if has_bad_byte(line) {
+        return Fed::Refused(Why::BadByte, 0);
+    }
+    take_line(table, state, line, budget as usize, output)
+}

@@ -1,0 +1,23 @@
+-- What the memories of a line hold: a table, and a text with zeros behind it.
+use Prim.Native.Nat.{ℕ, _-_}
+use mathlib.Core.Path.{_≡_}
+use mathlib.Core.List.{List, _++_}
+use lib.ListN.{length, replicate}
+use Rattle.macros.specs.Macro.{Table}
+use Rattle.macros.specs.Accepted.{Accepted}
+use Rattle.form_table.specs.Form.{form}
+
+-- the bytes are the form of the accepted table ms; no other table has that form, by the law OneForm of crates/form_table
+pub record IsTable (table : List ℕ) (ms : Table) : Type 0 where
+  pub accepted : Accepted ms
+  pub form : form ms ≡ table
+
+-- the form of an accepted table of so many macros
+pub record Counted (table : List ℕ) (count : ℕ) : Type 0 where
+  pub macros : Table
+  pub isTable : IsTable table macros
+  pub counted : length macros ≡ count
+
+-- a text and zeros behind it: n bytes in all, for a text of at most n
+abbrev pub padded : List ℕ → ℕ → List ℕ
+padded t n = t ++ replicate (n - length t) 0

@@ -1,0 +1,71 @@
+use Prim.Native.Nat.{_-_}
+use mathlib.Core.Path.{_≡_, refl, _∙_}
+use lib.ListN.{length}
+use Rattle.macros.specs.Macro.{Table}
+use Rattle.lines.specs.Line.{Line}
+use Rattle.line_memory.specs.Memory.{IsTable}
+use Rattle.line_passes.specs.Passing.{Stands, Ready}
+use Rattle.line_passes.proofs.Stepping.{goes-on, falls, comes-over}
+use Rattle.line_passes.proofs.passes.all_passes.Statement.{statement}
+use Rattle.line_passes.proofs.passes.all_passes.Tie as tie
+
+abbrev Inv-loop : tie.InvT-loop
+Inv-loop table count kinds state₀ text₀ new₀ marks₀ closed₀ budget stand₀ state text new marks closed stand = Ready table kinds state text new marks closed count budget stand × ((length state ≡ length state₀) × (length text ≡ length text₀) × (length new ≡ length new₀) × (length marks ≡ length marks₀) × (length closed ≡ length closed₀)) × ((whole : Line) (ms : Table) → IsTable table ms → length ms ≡ count → Stands whole ms budget state₀ text₀ closed₀ stand₀ → Stands whole ms budget state text closed stand)
+
+abbrev μ-loop : tie.MeasureT-loop
+μ-loop table count kinds state₀ text₀ new₀ marks₀ closed₀ budget stand₀ state text new marks closed stand = budget - stand .begun
+
+loop-holds : tie.Need-loop-holds Inv-loop μ-loop
+loop-holds c = (c .before .before .before .before .before .before .pre, (refl, refl, refl, refl, refl), λ whole ms h l s. s)
+
+step-requires : tie.Need-step-requires Inv-loop μ-loop
+step-requires c κs = c .before .before .before .before .before .loop .inv .0
+
+enum-known-next : tie.Need-enum-known-next Inv-loop μ-loop
+enum-known-next c = c .match .keys1
+
+loop-less : tie.Need-loop-less Inv-loop μ-loop
+loop-less c = falls (c .before .before .before .before .before .before .before .before .before .before .before .before .before .step .ensures) (c .before .next .given .1)
+
+loop-again : tie.Need-loop-again Inv-loop μ-loop
+loop-again c = let g = goes-on (c .before .before .before .before .before .before .before .before .before .before .before .before .before .step .ensures) (c .before .next .given .1) in (g .0, (c .before .before .before .before .before .before .before .before .before .before .before .before .before .step .kept .1 .1 .1 .0 ∙ c .before .before .before .before .before .before .before .before .before .before .before .before .before .before .before .before .before .before .before .loop .inv .1 .0, c .before .before .before .before .before .before .before .before .before .before .before .before .before .step .kept .1 .1 .1 .1 .0 ∙ c .before .before .before .before .before .before .before .before .before .before .before .before .before .before .before .before .before .before .before .loop .inv .1 .1, c .before .before .before .before .before .before .before .before .before .before .before .before .before .step .kept .1 .1 .1 .1 .1 .0 ∙ c .before .before .before .before .before .before .before .before .before .before .before .before .before .before .before .before .before .before .before .loop .inv .1 .2, c .before .before .before .before .before .before .before .before .before .before .before .before .before .step .kept .1 .1 .1 .1 .1 .1 .0 ∙ c .before .before .before .before .before .before .before .before .before .before .before .before .before .before .before .before .before .before .before .loop .inv .1 .3, c .before .before .before .before .before .before .before .before .before .before .before .before .before .step .kept .1 .1 .1 .1 .1 .1 .1 .0 ∙ c .before .before .before .before .before .before .before .before .before .before .before .before .before .before .before .before .before .before .before .loop .inv .1 .4), λ whole ms h l s. g .2 whole ms h l (c .before .before .before .before .before .before .before .before .before .before .before .before .before .before .before .before .before .before .before .loop .inv .2 whole ms h l s))
+
+enum-known-next-2 : tie.Need-enum-known-next-2 Inv-loop μ-loop
+enum-known-next-2 c = c .match .keys2
+
+same-length : tie.Need-same-length Inv-loop μ-loop
+same-length c = c .before .before .before .before .before .before .before .before .before .before .before .before .before .step .kept .1 .1 .1 .0 ∙ c .before .before .before .before .before .before .before .before .before .before .before .before .before .before .before .before .before .before .before .loop .inv .1 .0
+
+same-length-2 : tie.Need-same-length-2 Inv-loop μ-loop
+same-length-2 c = c .before .before .before .before .before .before .before .before .before .before .before .before .before .step .kept .1 .1 .1 .1 .0 ∙ c .before .before .before .before .before .before .before .before .before .before .before .before .before .before .before .before .before .before .before .loop .inv .1 .1
+
+same-length-3 : tie.Need-same-length-3 Inv-loop μ-loop
+same-length-3 c = c .before .before .before .before .before .before .before .before .before .before .before .before .before .step .kept .1 .1 .1 .1 .1 .0 ∙ c .before .before .before .before .before .before .before .before .before .before .before .before .before .before .before .before .before .before .before .loop .inv .1 .2
+
+same-length-4 : tie.Need-same-length-4 Inv-loop μ-loop
+same-length-4 c = c .before .before .before .before .before .before .before .before .before .before .before .before .before .step .kept .1 .1 .1 .1 .1 .1 .0 ∙ c .before .before .before .before .before .before .before .before .before .before .before .before .before .before .before .before .before .before .before .loop .inv .1 .3
+
+same-length-5 : tie.Need-same-length-5 Inv-loop μ-loop
+same-length-5 c = c .before .before .before .before .before .before .before .before .before .before .before .before .before .step .kept .1 .1 .1 .1 .1 .1 .1 .0 ∙ c .before .before .before .before .before .before .before .before .before .before .before .before .before .before .before .before .before .before .before .loop .inv .1 .4
+
+returns : tie.Need-returns Inv-loop μ-loop
+returns c = comes-over (c .before .before .before .before .before .before .before .before .before .before .before .before .before .step .ensures) (c .before .next2 .given .1) (c .before .before .before .before .before .before .before .before .before .before .before .before .before .before .before .before .before .before .before .loop .inv .2)
+
+pub all-passes-spec : {M : Type 1} → statement M
+all-passes-spec =
+    tie.close
+    (tie.spec
+    Inv-loop
+    μ-loop
+    loop-holds
+    step-requires
+    enum-known-next
+    loop-less
+    loop-again
+    enum-known-next-2
+    same-length
+    same-length-2
+    same-length-3
+    same-length-4
+    same-length-5
+    returns)

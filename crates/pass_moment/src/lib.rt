@@ -1,0 +1,126 @@
+// Moments of a pass (01, part 5): from place to place, and what it comes to.
+use refusals::Fault;
+use refusals::Outcome;
+ghost use Prim.Native.Nat.{_≤_};
+ghost use mathlib.Core.Path.{_≡_};
+ghost use lib.ListN.{length};
+ghost use Rattle.macros.specs.Bounds.{mostLineBytes};
+ghost use Rattle.pass_moment.specs.Moments.{startAt, movedTo, refusedAt, afterOf, passedOf, Copies, StepsOver};
+
+// Whether there was an occurrence, and the bytes of the new line; or a refusal, with the bytes that the new line has by then.
+pub enum Passed {
+    Over(bool, usize),
+    Refused(Fault, usize),
+}
+
+// Whether a pass goes well, or its refusal.
+pub enum Fate {
+    Well,
+    Bad(Fault),
+}
+
+// A moment of a pass: the place to be tried next, the end of the match just made, the bytes of the new line, whether there was an occurrence, and a refusal.
+pub struct At {
+    pub place: usize,
+    pub last: usize,
+    pub size: usize,
+    pub hit: bool,
+    pub fate: Fate,
+}
+
+// Place 0. 1,055 lies past every place: there was no match yet.
+pub fn start() -> At
+    ensures { λ r. ⌜ r ≡ startAt ⌝ }
+{
+    At {
+        place: 0,
+        last: 1055,
+        size: 0,
+        hit: false,
+        fate: Fate::Well,
+    }
+}
+
+// After a refusal no place is left: 1,055 lies past every place.
+fn refused(f: Fault, k: usize) -> At
+    ensures { λ r. ⌜ r ≡ refusedAt f k ⌝ }
+{
+    At {
+        place: 1055,
+        last: 1055,
+        size: k,
+        hit: true,
+        fate: Fate::Bad(f),
+    }
+}
+
+// "A match .. goes on at its end".
+pub fn after(made: Outcome, end: usize) -> At
+    ensures { λ r. ⌜ r ≡ afterOf made end ⌝ }
+{
+    match made {
+        Outcome::Refused(f, k) => refused(f, k),
+        Outcome::Made(k) => At {
+            place: end,
+            last: end,
+            size: k,
+            hit: true,
+            fate: Fate::Well,
+        },
+    }
+}
+
+// The next place, with n bytes of the new line.
+fn moved(at: At, n: usize) -> At
+    requires { ⌜ at .place ≤ mostLineBytes ⌝ }
+    ensures { λ r. ⌜ r ≡ movedTo at n ⌝ }
+{
+    let fate = at.fate;
+    At {
+        place: at.place + 1,
+        last: at.last,
+        size: n,
+        hit: at.hit,
+        fate: fate,
+    }
+}
+
+// "the byte is copied"; 32: "the new line's 1,055th byte". At the line's length there is no byte.
+fn copy_byte(line: &[u8], at: At, out: &mut [u8]) -> At
+    requires { ⌜ (at .place ≤ mostLineBytes) × (length (now out) ≡ mostLineBytes) ⌝ }
+    ensures { λ r. ⌜ Copies (now (line .entry)) (now (out .entry)) (now (out .exit)) at r ⌝ }
+{
+    let p = at.place;
+    let n = at.size;
+    if line.len() <= p {
+        return moved(at, n);
+    }
+    if 1054 <= n {
+        return refused(Fault::NewLineTooLong, n);
+    }
+    out[n] = line[p];
+    moved(at, n + 1)
+}
+
+// Behind the tried place p: where the pass still stands there, without a match or with an empty one, the byte is copied and the pass goes on after it. Behind a longer match, or a refusal, nothing is copied.
+pub fn step_over(line: &[u8], p: usize, at: At, out: &mut [u8]) -> At
+    requires { ⌜ (p ≤ mostLineBytes) × (length (now out) ≡ mostLineBytes) ⌝ }
+    ensures { λ r. ⌜ StepsOver (now (line .entry)) (now (out .entry)) (now (out .exit)) p at r ⌝ }
+{
+    let end = at.place;
+    if p < end {
+        return at;
+    }
+    copy_byte(line, at, out)
+}
+
+// What the pass comes to, past the last place.
+pub fn answer(at: At) -> Passed
+    ensures { λ r. ⌜ r ≡ passedOf at ⌝ }
+{
+    let fate = at.fate;
+    match fate {
+        Fate::Well => Passed::Over(at.hit, at.size),
+        Fate::Bad(f) => Passed::Refused(f, at.size),
+    }
+}

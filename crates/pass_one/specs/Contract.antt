@@ -1,0 +1,60 @@
+-- What a pass's function promises (01, part 5).
+use Prim.Native.Nat.{ℕ, _≤_}
+use mathlib.Core.Path.{_≡_}
+use mathlib.Core.Bool.{Bool}
+use mathlib.Core.List.{List}
+use lib.ListN.{length, drop, replicate}
+use Rattle.kinds.specs.Kind.{kindTable}
+use Rattle.macros.specs.Bounds.{mostLineBytes}
+use Rattle.macros.specs.Macro.{Macro}
+use Rattle.macros.specs.Formed.{Bytes}
+use Rattle.lines.specs.State.{State}
+use Rattle.lines.specs.Replacing.{Work, Done}
+use Rattle.lines.specs.Replacing.Done.{bad, good}
+use Rattle.lines.specs.Pass.{pass, occurred, outcome}
+use Rattle.form_state.specs.Access.{Holds, IsState}
+use Rattle.refusals.specs.Faults.{refusalOf}
+use Rattle.pass_replace.specs.Contract.{IsSlot, IsMoment}
+use Rattle.pass_moment.specs.declared.Passed.{Passed}
+use Rattle.pass_moment.specs.declared.Passed.the-variants.{Over, Refused}
+
+-- a bit for each item of a pattern and each place of a line: 508 items, each with a row of 1,056 bits for at most 1,055 places
+abbrev pub marksBytes : ℕ
+marksBytes = 67056
+
+-- what the caller lends: a macro's slot, the kinds, the line, a state, room for the new line, and marks, all zero
+pub record Lent (s kinds t b out marks : List ℕ) : Type 0 where
+  pub macro : (m : Macro) × IsSlot s m
+  pub table : kinds ≡ kindTable
+  pub bytes : Bytes t
+  pub short : length t ≤ mostLineBytes
+  pub state : IsState b
+  pub room : length out ≡ mostLineBytes
+  pub clear : marks ≡ replicate marksBytes 0
+
+-- what an answer says of the moment v that it leaves
+abbrev pub doneOf : Passed → Work → Done
+doneOf (Over o n) v = good v
+doneOf (Refused f n) v = bad (refusalOf f) v
+
+-- the bytes of the new line
+abbrev pub sizeOf : Passed → ℕ
+sizeOf (Over o n) = n
+sizeOf (Refused f n) = n
+
+-- whether a pass that was not refused had an occurrence
+abbrev pub SaysOccurred : Passed → Bool → Type 0
+SaysOccurred (Over o n) b = o ≡ b
+SaysOccurred (Refused f n) b = Unit {0}
+
+-- a pass of the macro m over the line t from the state st: the moment that the memories hold then
+pub record Comes (t b′ out′ : List ℕ) (r : Passed) (m : Macro) (st : State) : Type 0 where
+  pub moment : (v : Work) × (outcome (pass m t st) ≡ doneOf r v) × IsMoment out′ b′ (sizeOf r) v
+  pub says : SaysOccurred r (occurred (pass m t st))
+
+-- the pass of the definition, done or refused; behind the new line nothing changes, and the marks are all zero again
+pub record Passes (s t b b′ out out′ marks marks′ : List ℕ) (r : Passed) : Type 0 where
+  pub comes : (m : Macro) → IsSlot s m → (st : State) → Holds b st → Comes t b′ out′ r m st
+  pub past : drop (sizeOf r) out′ ≡ drop (sizeOf r) out
+  pub within : sizeOf r ≤ mostLineBytes
+  pub cleared : marks′ ≡ marks

@@ -1,0 +1,85 @@
+-- What finding the match at a place promises (01, parts 3 and 5).
+use Prim.Native.Nat.{ℕ, _*_, _≤_}
+use mathlib.Core.Path.{_≡_}
+use mathlib.Core.Bool.{Bool, true, false}
+use mathlib.Core.List.{List, [], _∷_}
+use mathlib.Core.Option.{Option, none, some}
+use lib.Dec.{eqb, leb}
+use lib.ListN.{length, getD, drop}
+use Rattle.kinds.specs.Kind.{kindTable}
+use Rattle.macros.specs.Bounds.{mostLineBytes}
+use Rattle.macros.specs.Macro.{Mark, PatternUnit, Piece}
+use Rattle.macros.specs.Macro.PatternUnit.{literal, kind, class, callOf}
+use Rattle.macros.specs.Macro.Piece.{element, start, end, left, right}
+use Rattle.form_table.specs.Form.{bodyBytes}
+use Rattle.lines.specs.State.{State, contents}
+use Rattle.lines.specs.Matching.{Division, endOf, stops, chosen}
+use Rattle.lines.specs.Pass.{match}
+use Rattle.form_state.specs.Access.{Holds, IsState}
+use Rattle.pass_replace.specs.Contract.{EndsFrom}
+use Rattle.pass_one.specs.Contract.{marksBytes}
+pub use Rattle.pass_one.specs.Pattern.{FormedUnits, IsPattern}
+use Rattle.pass_one.specs.Marks.{Sound}
+use Rattle.pass_one.specs.declared.Found.{Found}
+use Rattle.pass_one.specs.declared.Found.the-variants.{Matched, NoMatch}
+
+-- every call of the pieces stands for the same text in both states
+abbrev pub Agree : State → State → List Piece → Type 0
+Agree st st′ [] = Unit {0}
+Agree st st′ (element (callOf m i) c ∷ es) = (contents st m i ≡ contents st′ m i) × Agree st st′ es
+Agree st st′ (element (literal b) c ∷ es) = Agree st st′ es
+Agree st st′ (element (kind n) c ∷ es) = Agree st st′ es
+Agree st st′ (element (class neg ms) c ∷ es) = Agree st st′ es
+Agree st st′ (start ∷ es) = Agree st st′ es
+Agree st st′ (end ∷ es) = Agree st st′ es
+Agree st st′ (left ∷ es) = Agree st st′ es
+Agree st st′ (right ∷ es) = Agree st st′ es
+
+-- the matcher's memories: `ends` has a place for each byte of the items, `marks` 66 bytes
+pub record Ready (items kinds b t : List ℕ) (p : ℕ) (marks ends : List ℕ) : Type 0 where
+  pub pattern : (es : List Piece) × IsPattern items es
+  pub fits : length items ≤ bodyBytes
+  pub table : kinds ≡ kindTable
+  pub state : IsState b
+  pub short : length t ≤ mostLineBytes
+  pub place : p ≤ length t
+  pub size : length marks ≡ marksBytes
+  pub count : length ends ≡ bodyBytes
+  pub inside : (i : ℕ) → getD ends i 0 ≤ length t
+  pub sound : Sound items b t marks
+
+-- where the last match ended: past every place if there was none
+abbrev pub pickLast : Bool → ℕ → Option ℕ
+pickLast true n = some n
+pickLast false n = none
+
+unfoldable pub lastOf : ℕ → Option ℕ
+lastOf n = pickLast (leb n mostLineBytes) n
+
+-- the answer says what the definition finds, and the ends are those of its division
+abbrev pub FoundAt : Option Division → ℕ → List Piece → List ℕ → Found → Type 0
+FoundAt none p es ends NoMatch = Unit {0}
+FoundAt none p es ends (Matched q) = ⊥
+FoundAt (some d) p es ends NoMatch = ⊥
+FoundAt (some d) p es ends (Matched q) = (endOf p d ≡ q) × EndsFrom ends 0 es (stops d)
+
+pub record Finds (items b t : List ℕ) (last p : ℕ) (marks marks′ ends′ : List ℕ) (r : Found) : Type 0 where
+  pub found : (es : List Piece) → IsPattern items es → (st : State) → Holds b st → FoundAt (match st es (lastOf last) p (drop p t)) p es ends′ r
+  pub sound : Sound items b t marks′
+  -- only the marks of the items change
+  pub outside : drop (66 * length items) marks′ ≡ drop (66 * length items) marks
+  pub inside : (i : ℕ) → getD ends′ i 0 ≤ length t
+
+-- "An empty match at the end of the match just made in the same pass does not count."
+abbrev pub countedIf : Bool → Bool → ℕ → Found
+countedIf true true q = NoMatch
+countedIf true false q = Matched q
+countedIf false b q = Matched q
+
+abbrev pub countedOf : Found → ℕ → ℕ → Found
+countedOf NoMatch last p = NoMatch
+countedOf (Matched q) last p = countedIf (eqb q p) (eqb last p) q
+
+-- if the answer is true, no division begins at p
+pub record Differs (items t : List ℕ) (p : ℕ) (r : Bool) : Type 0 where
+  pub none-here : r ≡ true → (es : List Piece) → IsPattern items es → (st : State) → chosen st es p (drop p t) ≡ none

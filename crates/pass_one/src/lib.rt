@@ -1,0 +1,62 @@
+// A pass (01, parts 3 and 5): one macro over one line.
+mod keeping;
+mod matcher;
+mod unit;
+mod walking;
+
+use form_items::two_at;
+use keeping::copy_state;
+use keeping::has_calls;
+use pass_moment::Passed;
+use walking::walk;
+ghost use Prim.Native.Nat.{_+_, _<_};
+ghost use mathlib.Core.Path.{_≡_};
+ghost use lib.ListN.{length};
+ghost use Rattle.form_table.specs.Check.{twoAt};
+ghost use Rattle.pass_one.specs.Contract.{Lent, Passes};
+ghost use Rattle.pass_one.specs.Places.{SomeSlot, ItemsOf};
+
+// Where a match ends.
+pub(crate) enum Found {
+    Matched(usize),
+    NoMatch,
+}
+
+// A pass; only a pattern with calls needs the state under which its marks were made.
+pub fn pass(
+    slot: &[u8],
+    kinds: &[u8; 256],
+    line: &[u8],
+    state: &mut [u8],
+    out: &mut [u8],
+    marks: &mut [u8],
+) -> Passed
+    requires { ⌜ Lent (now slot) (now kinds) (now line) (now state) (now out) (now marks) ⌝ }
+    ensures { λ r. ⌜ Passes (now (slot .entry)) (now (line .entry)) (now (state .entry)) (now (state .exit)) (now (out .entry)) (now (out .exit)) (now (marks .entry)) (now (marks .exit)) r ⌝ }
+{
+    let items = items_of(slot);
+    if has_calls(items) {
+        let mut seen = [0u8; 26236];
+        copy_state(state, &mut seen);
+        return walk(slot, items, kinds, line, state, out, marks, &mut seen);
+    }
+    let mut none = [0u8; 0];
+    walk(slot, items, kinds, line, state, out, marks, &mut none)
+}
+
+// The items of a slot's pattern.
+fn items_of(slot: &[u8]) -> &[u8]
+    requires { ⌜ SomeSlot (now slot) ⌝ }
+    ensures { λ r. ⌜ ItemsOf (now (slot .entry)) (now r) ⌝ }
+{
+    let end = pattern_end(slot);
+    &slot[8..end]
+}
+
+// Where they end.
+fn pattern_end(slot: &[u8]) -> usize
+    requires { ⌜ 3 < length (now slot) ⌝ }
+    ensures { λ r. ⌜ r ≡ 8 + twoAt (now (slot .entry)) 2 ⌝ }
+{
+    8 + two_at(slot, 2)
+}

@@ -1,0 +1,176 @@
+-- Steps from one moment to the next, and how they compose.
+use Prim.Native.Nat.{ℕ, _+_, _-_, _≤_, _<_}
+use mathlib.Core.Path.{_≡_, refl, sym, ap, _∙_, subst}
+use mathlib.Core.List.{List, [], _∷_, _++_, append-assoc, append-nil}
+use native.Mathlib.Omega.{arith}
+use borrow.Author.Tests.{le-leb, lt-leb}
+use lib.ListN.{length, take}
+use lib.Seq.{paste, take-paste, take-length}
+use Rattle.macros.specs.Bounds.{mostLineBytes}
+use Rattle.lines.specs.Replacing.{Work, Done, _>>=_, unless, onto, puts}
+use Rattle.lines.specs.Replacing.Done.{bad, good}
+use Rattle.lines.specs.Line.{textOf}
+use Rattle.form_state.specs.Access.{Holds, IsState, OfWork}
+use Rattle.refusals.specs.Faults.{refusalOf}
+use Rattle.pass_replace.specs.Contract.{sizeOf}
+use Rattle.pass_replace.specs.Moments.{Does, Room, Inserts, Kept, Changes, Onward}
+use Rattle.refusals.specs.declared.Fault.{Fault}
+use Rattle.refusals.specs.declared.Fault.the-variants.{NewLineTooLong}
+use Rattle.refusals.specs.declared.Outcome.{Outcome}
+use Rattle.refusals.specs.declared.Outcome.the-variants.{Made, Refused}
+
+-- ONE AFTER THE OTHER
+
+pub does-then : {f g : Work → Done} {n k j : ℕ} {text b text₁ b₁ text₂ b₂ : List ℕ} {r s : Outcome} → Does f n text b k text₁ b₁ r → r ≡ Made j → Does g n text₁ b₁ j text₂ b₂ s
+    → Does (λ w. f w >>= g) n text b k text₂ b₂ s
+does-then {f} {g} {n} {k} {j} {text} {b} {text₁} {b₁} p e q =
+    let p′ : Does f n text b k text₁ b₁ (Made j) = subst (λ (o : Outcome). Does f n text b k text₁ b₁ o) e p in
+    record {
+      comes = λ head l w m.
+          let x = p′ .comes head l w m in
+          let y = q .comes head l (x .0) (x .2) in
+          (y .0, ap (λ (a : Done). a >>= g) (x .1) ∙ y .1, y .2);
+      state = q .state;
+      fits = q .fits;
+    }
+
+pub does-stop : (g : Work → Done) {f : Work → Done} {n k j : ℕ} {text b text₁ b₁ : List ℕ} {r : Outcome} {fault : Fault} → Does f n text b k text₁ b₁ r → r ≡ Refused fault j → Does (λ w. f w >>= g) n text b k text₁ b₁ r
+does-stop g {f} {n} {k} {j} {text} {b} {text₁} {b₁} {r} {fault} p e =
+    let p′ : Does f n text b k text₁ b₁ (Refused fault j) = subst (λ (o : Outcome). Does f n text b k text₁ b₁ o) e p in
+    subst (λ (o : Outcome). Does (λ w. f w >>= g) n text b k text₁ b₁ o) (sym e)
+    (record {
+      comes = λ head l w m. let x = p′ .comes head l w m in (x .0, ap (λ (a : Done). a >>= g) (x .1), x .2);
+      state = p′ .state;
+      fits = p′ .fits;
+    })
+
+-- the same step by another name
+pub does-by : {f g : Work → Done} {n k : ℕ} {text b text₁ b₁ : List ℕ} {r : Outcome} → ((w : Work) → g w ≡ f w) → Does f n text b k text₁ b₁ r → Does g n text b k text₁ b₁ r
+does-by h p = record { comes = λ head l w m. let x = p .comes head l w m in (x .0, h w ∙ x .1, x .2); state = p .state; fits = p .fits }
+
+pub does-room : {f : Work → Done} {n k j : ℕ} {text b text₁ b₁ : List ℕ} {r : Outcome} → Does f n text b k text₁ b₁ r → r ≡ Made j → n + j ≤ mostLineBytes
+does-room {n = n} p e = subst (λ (o : Outcome). n + sizeOf o ≤ mostLineBytes) e (p .fits)
+
+-- nothing is done
+pub does-none : {n k : ℕ} {text b : List ℕ} → IsState b → n + k ≤ mostLineBytes → Does good n text b k text b (Made k)
+does-none s h = record { comes = λ head l w m. (w, refl, m); state = s; fits = h }
+
+-- CHANGES OF THE STATE
+
+pub changes-by : {f g : Work → Done} {b b₁ : List ℕ} {k : ℕ} {r : Outcome} → ((w : Work) → g w ≡ f w) → Changes f b k b₁ r → Changes g b k b₁ r
+changes-by h p = record { comes = λ w g. let x = p .comes w g in (x .0, h w ∙ x .1, x .2, x .3); state = p .state; size = p .size }
+
+pub changes-does : {f : Work → Done} {b b₁ : List ℕ} {k : ℕ} {r : Outcome} (n : ℕ) (text : List ℕ) → Changes f b k b₁ r → n + k ≤ mostLineBytes → Does f n text b k text b₁ r
+unfolding textOf
+changes-does {k = k} {r = r} n text p h =
+    let z : sizeOf r ≡ k = p .size in
+    record {
+      comes = λ head l w m.
+          let x = p .comes w (m .state) in (
+            x .0,
+            x .1,
+            record {
+              line = ap (λ (o : List ℕ). onto o []) (x .2 .out) ∙ m .line ∙ ap (λ (j : ℕ). head ++ take j text) (sym z);
+              size = x .2 .size ∙ m .size ∙ ap (λ (j : ℕ). length head + j) (sym z);
+              state = x .3;
+            },
+          );
+      state = p .state;
+      fits = omega arith;
+    }
+
+-- a change behind what was done, or nothing behind a refusal
+abbrev IsMade : Outcome → Type 0
+IsMade (Made k) = Unit {0}
+IsMade (Refused f k) = ⊥
+
+apart : {k j : ℕ} {fault : Fault} → Made k ≡ Refused fault j → ⊥
+apart e = subst IsMade e tt
+
+pub onward-made : {f : Work → Done} {b b₁ : List ℕ} {s r : Outcome} {k : ℕ} → s ≡ Made k → Changes f b k b₁ r → Onward f b s b₁ r
+onward-made {f} {b} {b₁} {s} {r} e p =
+    record {
+      made = λ j g. subst (λ (x : ℕ). Changes f b x b₁ r) (ap sizeOf (sym e ∙ g)) p;
+      refused = λ fault j g. absurd (apart (sym e ∙ g));
+    }
+
+pub onward-stop : {f : Work → Done} {b : List ℕ} {s : Outcome} {fault : Fault} {j : ℕ} → s ≡ Refused fault j → Onward f b s b s
+onward-stop e = record { made = λ k g. absurd (apart (sym g ∙ e)); refused = λ fault j g. (refl, refl) }
+
+pub does-onward : {f g : Work → Done} {n k : ℕ} {text b text₁ b₁ b₂ : List ℕ} (s : Outcome) {r : Outcome} → Does f n text b k text₁ b₁ s → Onward g b₁ s b₂ r → Does (λ w. f w >>= g) n text b k text₁ b₂ r
+does-onward {text₁ = text₁} (Made j) p q = does-then p refl (changes-does _ text₁ (q .made j refl) (p .fits))
+does-onward {f} {g} {n} {k} {text} {b} {text₁} {b₁} {b₂} (Refused fault j) p q =
+    let z = q .refused fault j refl in
+    subst (λ (o : Outcome). Does (λ w. f w >>= g) n text b k text₁ b₂ o) (sym (z .1)) (subst (λ (x : List ℕ). Does (λ w. f w >>= g) n text b k text₁ x (Refused fault j)) (sym (z .0)) (does-stop g p refl))
+
+pub changes-none : {b : List ℕ} {k : ℕ} → IsState b → Changes good b k b (Made k)
+changes-none s = record { comes = λ w h. (w, refl, record { out = refl; size = refl }, h); state = s; size = refl }
+
+-- a refusal leaves the moment that it finds
+pub changes-refused : {f : Work → Done} {b : List ℕ} {k : ℕ} (fault : Fault) → IsState b → ((w : Work) → Holds b (w .state) → f w ≡ bad (refusalOf fault) w) → Changes f b k b (Refused fault k)
+changes-refused fault s e = record { comes = λ w h. (w, e w h, record { out = refl; size = refl }, h); state = s; size = refl }
+
+-- a store makes the moment g
+pub changes-made : {f : Work → Done} {b b₁ : List ℕ} {k : ℕ} (g : Work → Work) → IsState b → ((w : Work) → Holds b (w .state) → f w ≡ good (g w)) → ((w : Work) → Kept w (g w))
+    → OfWork b (λ w. Holds b₁ (g w .state)) → Changes f b k b₁ (Made k)
+changes-made g s e kept held =
+    record {
+      comes = λ w h. (g w, e w h, kept w, held w h);
+      state = (g (record { out = []; size = 0; state = s .0 }) .state, held (record { out = []; size = 0; state = s .0 }) (s .1));
+      size = refl;
+    }
+
+-- THE NEW LINE
+
+ontos : (l o r : List ℕ) → onto (onto l o) r ≡ onto o (l ++ r)
+unfolding onto
+ontos [] o r = refl
+ontos (b ∷ l) o r = ontos l (b ∷ o) r
+
+onto-end : (o r : List ℕ) → onto o r ≡ onto o [] ++ r
+unfolding onto
+onto-end [] r = refl
+onto-end (b ∷ o) r = onto-end o (b ∷ r) ∙ sym (append-assoc (onto o []) (b ∷ []) r) ∙ ap (λ (x : List ℕ). x ++ r) (sym (onto-end o (b ∷ [])))
+
+joined : (l o : List ℕ) → onto (onto l o) [] ≡ onto o [] ++ l
+joined l o = ontos l o [] ∙ ap (onto o) (append-nil l) ∙ onto-end o l
+
+pub inserts-by : {bytes bytes₁ text text₁ : List ℕ} {n k : ℕ} {r : Outcome} → bytes ≡ bytes₁ → Inserts bytes n text k text₁ r → Inserts bytes₁ n text k text₁ r
+inserts-by {text = text} {text₁ = text₁} {n = n} {k = k} {r = r} e p = subst (λ (x : List ℕ). Inserts x n text k text₁ r) e p
+
+pub put-refused : {bytes text : List ℕ} {n k : ℕ} → Room text n k → 1054 - (n + k) < length bytes → Inserts bytes n text k text (Refused NewLineTooLong k)
+unfolding puts unless
+put-refused {bytes} {text} {n} {k} r h =
+    record {
+      does = λ b s.
+          record {
+            comes = λ head l w m. (w, rw (lt-leb (w .size + length bytes) mostLineBytes (let z = m .size in let y = r .fits in omega arith)), m);
+            state = s;
+            fits = r .fits;
+          };
+    }
+
+pub put-made : {bytes text text₁ : List ℕ} {n k : ℕ} → Room text n k → length bytes ≤ 1054 - (n + k) → text₁ ≡ paste text k bytes (length bytes) → Inserts bytes n text k text₁ (Made (k + length bytes))
+unfolding puts unless textOf
+put-made {bytes} {text} {text₁} {n} {k} r h e =
+    let f = r .fits in
+    let g = r .room in
+    let taken : take (k + length bytes) text₁ ≡ take k text ++ bytes =
+    ap (take (k + length bytes)) e ∙ take-paste text k bytes (length bytes) (omega arith) (omega arith) ∙ ap (λ (x : List ℕ). take k text ++ x) (take-length bytes) in
+    record {
+      does = λ b s.
+          record {
+            comes = λ head l w m.
+                let z = m .size in (
+                  record { out = onto bytes (w .out); size = w .size + length bytes; state = w .state },
+                  rw (le-leb (w .size + length bytes) mostLineBytes (omega arith)),
+                  record {
+                    line = joined bytes (w .out) ∙ ap (λ (x : List ℕ). x ++ bytes) (m .line) ∙ append-assoc head (take k text) bytes ∙ ap (λ (x : List ℕ). head ++ x) (sym taken);
+                    size = omega arith;
+                    state = m .state;
+                  },
+                );
+            state = s;
+            fits = omega arith;
+          };
+    }

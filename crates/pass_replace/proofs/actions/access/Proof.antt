@@ -1,0 +1,98 @@
+use mathlib.Core.Path.{sym, _∙_, subst}
+use native.Mathlib.Omega.{arith}
+use Rattle.macros.specs.Formed.{Bytes}
+use Rattle.form_table.specs.Actions.{numberIn}
+use Rattle.form_table.proofs.Actions.{some-size, size-set}
+use Rattle.pass_replace.proofs.Braces.{cut-is, cut-bytes}
+use Rattle.pass_replace.proofs.Moving.{stored-tag, stored-text}
+use Rattle.pass_replace.proofs.Inserting.{letter-of, access-insert, access-store, access-set}
+use borrow.Author.Needs.{needs}
+use Rattle.pass_replace.proofs.actions.access.Statement.{statement}
+use Rattle.pass_replace.proofs.actions.access.Tie as tie
+
+shared-slice-read-code : tie.Need-shared-slice-read-code
+shared-slice-read-code c = omega (arith, some-size (c .before .before .before .before .before .args .t .now), c .before .before .before .before .before .pre .1 .held)
+
+shared-slice-read-i : tie.Need-shared-slice-read-i
+shared-slice-read-i c = omega (arith, some-size (c .before .before .before .before .before .before .args .t .now), c .before .before .before .before .before .before .pre .1 .held)
+
+insert-requires : tie.Need-insert-requires
+insert-requires c κs = search needs
+
+same-length : tie.Need-same-length
+same-length c = search needs
+
+same-length-2 : tie.Need-same-length-2
+same-length-2 c = search needs
+
+returns : tie.Need-returns
+returns c = access-insert _ (c .before .before .before .before .before .before .before .before .before .before .before .before .args .t .now) (c .before .before .before .before .before .if1 .taken) (c .before .before .insert .ensures)
+
+sub-store : tie.Need-sub-store
+sub-store c = omega (arith, c .before .before .before .before .before .before .before .before .before .pre .0 .ordered)
+
+part-store-start : tie.Need-part-store-start
+part-store-start c = omega (arith, c .before .before .before .before .before .before .before .before .before .pre .0 .ordered)
+
+part-store-end : tie.Need-part-store-end
+part-store-end c = omega (arith, c .before .before .before .before .before .before .before .before .before .pre .0 .inside)
+
+store-requires : tie.Need-store-requires
+store-requires c κs = (c .before .before .before .before .before .before .before .before .before .before .pre .2, letter-of (c .before .before .before .before .before .before .before .before .before .before .args .t .now) (c .before .before .before .before .before .before .before .before .before .before .pre .1) (omega (arith, c .before .before .before .if1 .left)), cut-bytes (c .before .before .before .before .before .before .before .before .before .before .pre .0))
+
+same-length-3 : tie.Need-same-length-3
+same-length-3 c = search needs
+
+returns-2 : tie.Need-returns-2
+returns-2 c = access-store _ (c .before .before .before .before .before .before .before .before .before .before .before .before .before .args .t .now) _ (c .before .before .before .before .before .before .if1 .left) (omega (arith, c .before .before .before .before .before .if2 .taken)) (c .before .before .before .before .before .before .before .before .before .before .before .before .before .pre .3 .fits) (cut-is (c .before .before .before .before .before .before .before .before .before .before .before .before .before .pre .0) ∙ stored-tag _ (c .before .before .before .before .before .before .before .before .before .before .before .before .before .args .t .now) (c .before .before .before .before .before .if2 .taken)) (c .before .before .store .ensures)
+
+text-in-requires : tie.Need-text-in-requires
+text-in-requires c κs = search needs
+
+store-requires-2 : tie.Need-store-requires-2
+store-requires-2 c κs = (c .before .before .before .before .before .before .before .before .before .before .before .pre .2, letter-of (c .before .before .before .before .before .before .before .before .before .before .before .args .t .now) (c .before .before .before .before .before .before .before .before .before .before .before .pre .1) (omega (arith, c .before .before .before .before .if1 .left)), subst Bytes (sym (c .text-in .ensures)) (c .before .before .before .before .before .before .before .before .before .before .before .pre .1 .text (c .before .before .before .if2 .left) (c .before .before .if3 .taken)))
+
+same-length-4 : tie.Need-same-length-4
+same-length-4 c = search needs
+
+returns-3 : tie.Need-returns-3
+returns-3 c = access-store _ (c .before .before .before .before .before .before .before .before .before .before .before .before .before .before .args .t .now) _ (c .before .before .before .before .before .before .before .if1 .left) (c .before .before .before .before .before .if3 .taken) (c .before .before .before .before .before .before .before .before .before .before .before .before .before .before .pre .3 .fits) (c .before .before .before .text-in .ensures ∙ stored-text _ (c .before .before .before .before .before .before .before .before .before .before .before .before .before .before .args .t .now) (c .before .before .before .before .before .before .if2 .left)) (c .before .before .store2 .ensures)
+
+number-at-requires : tie.Need-number-at-requires
+number-at-requires c κs = omega (arith, size-set (c .before .before .before .before .before .before .before .before .before .before .args .t .now) (c .before .if3 .left), c .before .before .before .before .before .before .before .before .before .before .pre .1 .held)
+
+set-requires : tie.Need-set-requires
+unfolding numberIn
+set-requires c κs = (c .before .before .before .before .before .before .before .before .before .before .before .pre .2, letter-of (c .before .before .before .before .before .before .before .before .before .before .before .args .t .now) (c .before .before .before .before .before .before .before .before .before .before .before .pre .1) (omega (arith, c .before .before .before .before .if1 .left)), λ h. rw (c .number-at .ensures) (c .before .before .before .before .before .before .before .before .before .before .before .pre .1 .pointer (c .before .before .if3 .left) h), λ h. rw (c .number-at .ensures) (c .before .before .before .before .before .before .before .before .before .before .before .pre .1 .number h))
+
+same-length-5 : tie.Need-same-length-5
+same-length-5 c = search needs
+
+returns-4 : tie.Need-returns-4
+unfolding numberIn
+returns-4 c = access-set _ (c .before .before .before .before .before .before .before .before .before .before .before .before .before .before .args .t .now) (c .before .before .before .before .before .if3 .left) (c .before .before .before .before .before .before .before .before .before .before .before .before .before .before .pre .3 .fits) (c .before .before .before .number-at .ensures) (c .before .before .set .ensures)
+
+pub access-spec : {M : Type 1} → statement M
+access-spec =
+    tie.close
+    (tie.spec
+    shared-slice-read-code
+    shared-slice-read-i
+    insert-requires
+    same-length
+    same-length-2
+    returns
+    sub-store
+    part-store-start
+    part-store-end
+    store-requires
+    same-length-3
+    returns-2
+    text-in-requires
+    store-requires-2
+    same-length-4
+    returns-3
+    number-at-requires
+    set-requires
+    same-length-5
+    returns-4)

@@ -1,0 +1,112 @@
+// Replacement and commands (01, part 4), from their items.
+use crate::calls::set;
+use crate::calls::shift;
+use crate::calls::store;
+use crate::calls::text_in;
+use crate::tags::Span;
+use crate::tags::tag_of;
+use crate::texts::insert;
+use crate::texts::is_within;
+use form_bytes::number_at;
+use form_items::action_size;
+use refusals::Outcome;
+ghost use lib.Seq.{slice};
+ghost use Rattle.form_state.specs.Access.{IsState};
+ghost use Rattle.pass_replace.specs.Tags.{Ended, Spans, Cut, Divided};
+ghost use Rattle.pass_replace.specs.Acting.{Fit, Fits, taggedIn, accessIn, actionIn, actsIn, actIn};
+ghost use Rattle.pass_replace.specs.Moments.{Room, Does};
+
+// An action without its moves: it inserts, stores or sets. Where it stores, the state is written, so that only the line's part is lent meanwhile.
+fn access(
+    line: &[u8],
+    span: Span,
+    t: &[u8],
+    state: &mut [u8],
+    base: usize,
+    text: &mut [u8],
+    k: usize,
+) -> Outcome
+    requires { ⌜ Cut (now line) (span .from) (span .to) × Fit (now t) × IsState (now state) × Room (now text) base k ⌝ }
+    ensures { λ r. ⌜ Does (accessIn (slice (span .from) (span .to) (now (line .entry))) (now (t .entry))) base (now (text .entry)) (now (state .entry)) k (now (text .exit)) (now (state .exit)) r ⌝ }
+{
+    let code = t[0];
+    let i = t[1];
+    if code < 64 {
+        return insert(line, span, t, state, base, text, k);
+    }
+    if code < 72 {
+        let from = span.from;
+        let to = span.to;
+        return store(state, i, &line[from..to], k);
+    }
+    if code < 80 {
+        return store(state, i, text_in(t), k);
+    }
+    set(state, code, i, number_at(t, 2), k)
+}
+
+// "the pointer moves before or after the access"; the counter likewise.
+fn action(
+    line: &[u8],
+    span: Span,
+    t: &[u8],
+    state: &mut [u8],
+    base: usize,
+    text: &mut [u8],
+    k: usize,
+) -> Outcome
+    requires { ⌜ Cut (now line) (span .from) (span .to) × Fit (now t) × IsState (now state) × Room (now text) base k ⌝ }
+    ensures { λ r. ⌜ Does (actionIn (slice (span .from) (span .to) (now (line .entry))) (now (t .entry))) base (now (text .entry)) (now (state .entry)) k (now (text .exit)) (now (state .exit)) r ⌝ }
+{
+    let code = t[0];
+    let i = t[1];
+    let ready = shift(state, code, i, 1, Outcome::Made(k));
+    let Outcome::Made(m) = ready else {
+        return ready;
+    };
+    let done = access(line, span, t, state, base, text, m);
+    shift(state, code, i, 3, done)
+}
+
+// The span of the tag that the action takes: `{n}` or `&(n,i)`; any other takes none.
+fn span_of(pat: &[u8], ends: &[u16], t: &[u8]) -> Span
+    requires { ⌜ Ended (now pat) (now ends) × Fit (now t) ⌝ }
+    ensures { λ r. ⌜ Spans (λ l. taggedIn l (now (pat .entry)) (now (ends .entry)) (now (t .entry))) (now (ends .entry)) (r .from) (r .to) ⌝ }
+{
+    let code = t[0];
+    if code == 41 {
+        return tag_of(pat, ends, t[1]);
+    }
+    if is_within(64, 71, code) {
+        return tag_of(pat, ends, t[3]);
+    }
+    Span { from: 0, to: 0 }
+}
+
+// The actions, left to right. What they insert is put together in `text`; base bytes of the new line stand before it.
+pub(crate) fn act(
+    pat: &[u8],
+    ends: &[u16],
+    line: &[u8],
+    items: &[u8],
+    state: &mut [u8],
+    base: usize,
+    text: &mut [u8],
+) -> Outcome
+    requires { ⌜ Divided (now pat) (now ends) (now line) × Fits (now items) × IsState (now state) × Room (now text) base 0 ⌝ }
+    ensures { λ r. ⌜ Does (actIn (actsIn (now (line .entry)) (now (pat .entry)) (now (ends .entry))) 0 (now (items .entry))) base (now (text .entry)) (now (state .entry)) 0 (now (text .exit)) (now (state .exit)) r ⌝ }
+{
+    let mut k = 0;
+    let mut at = 0;
+    while at < items.len() {
+        let t = &items[at..];
+        let span = span_of(pat, ends, t);
+        let done = action(line, span, t, state, base, text, k);
+        let Outcome::Made(m) = done else {
+            return done;
+        };
+        k = m;
+        at += action_size(t);
+    }
+    Outcome::Made(k)
+}

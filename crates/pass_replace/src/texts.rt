@@ -1,0 +1,118 @@
+// What an action inserts (01, part 4).
+use crate::tags::Span;
+use form_state::entry;
+use form_state::value;
+use refusals::Fault;
+use refusals::Outcome;
+ghost use mathlib.Core.Path.{_≡_};
+ghost use Prim.Native.Nat.{_+_, _≤_, _<_};
+ghost use lib.Dec.{eqb};
+ghost use lib.ListN.{length};
+ghost use lib.Seq.{paste, slice};
+ghost use Rattle.macros.specs.Bounds.{mostCounter};
+ghost use Rattle.macros.specs.Macro.{pick, within};
+ghost use Rattle.macros.specs.Formed.{Letter};
+ghost use Rattle.macros.specs.Write.{digits};
+ghost use Rattle.lines.specs.State.{currentEntry};
+ghost use Rattle.form_state.specs.Access.{IsState, OfState};
+ghost use Rattle.pass_replace.specs.Tags.{Cut};
+ghost use Rattle.pass_replace.specs.Acting.{Fit, insertsIn};
+ghost use Rattle.pass_replace.specs.Moments.{Room, Inserts, Does, Digits};
+
+// The bytes of a text from a place on.
+pub(crate) fn copy(out: &mut [u8], at: usize, bytes: &[u8])
+    requires { ⌜ at + length (now bytes) ≤ length (now out) ⌝ }
+    ensures { λ _. ⌜ now (out .exit) ≡ paste (now (out .entry)) at (now (bytes .entry)) (length (now (bytes .entry))) ⌝ }
+{
+    let mut i = 0;
+    while i < bytes.len() {
+        out[at + i] = bytes[i];
+        i += 1;
+    }
+}
+
+// A text is inserted. 32 "as if each byte went straight to the new line", where base bytes stand before the text's.
+fn put(text: &mut [u8], base: usize, k: usize, bytes: &[u8]) -> Outcome
+    requires { ⌜ Room (now text) base k ⌝ }
+    ensures { λ r. ⌜ Inserts (now (bytes .entry)) base (now (text .entry)) k (now (text .exit)) r ⌝ }
+{
+    if 1054 - (base + k) < bytes.len() {
+        return Outcome::Refused(Fault::NewLineTooLong, k);
+    }
+    copy(text, k, bytes);
+    Outcome::Made(k + bytes.len())
+}
+
+fn figure(v: u32) -> u8
+    requires { ⌜ v < 10 ⌝ }
+    ensures { λ r. ⌜ r ≡ 48 + v ⌝ }
+{
+    48 + v as u8
+}
+
+// The digits of a value, without leading zeros: those before the last first, a call for each.
+fn put_digits(out: &mut [u8], v: u32) -> usize
+    requires { ⌜ (length (digits v) ≤ length (now out)) × (length (now out) ≤ 9) ⌝ }
+    ensures { λ r. ⌜ Digits v (now (out .exit)) r ⌝ }
+{
+    if v < 10 {
+        out[0] = figure(v);
+        return 1;
+    }
+    let n = put_digits(out, v / 10);
+    out[n] = figure(v % 10);
+    n + 1
+}
+
+pub(crate) fn is_within(a: u8, z: u8, b: u8) -> bool
+    ensures { λ r. ⌜ r ≡ within a z b ⌝ }
+{
+    (a <= b) & (b <= z)
+}
+
+// `#(i)`.
+fn put_value(v: u32, base: usize, text: &mut [u8], k: usize) -> Outcome
+    requires { ⌜ (v ≤ mostCounter) × Room (now text) base k ⌝ }
+    ensures { λ r. ⌜ Inserts (digits v) base (now (text .entry)) k (now (text .exit)) r ⌝ }
+{
+    let mut figures = [0u8; 9];
+    let n = put_digits(&mut figures, v);
+    put(text, base, k, &figures[..n])
+}
+
+// "The text of a tag or stack call is handed out as a part of the line or of the stack memory."
+fn part<'a>(line: &'a [u8], span: Span, state: &'a [u8], code: u8, i: u8) -> &'a [u8]
+    requires { ⌜ Cut (now line) (span .from) (span .to) × IsState (now state) × ((code ≡ 41 → ⊥) → Letter i) ⌝ }
+    ensures { λ r. ⌜ OfState (now (state .entry)) (λ st. now r ≡ pick (eqb code 41) (slice (span .from) (span .to) (now (line .entry))) (currentEntry st i)) ⌝ }
+{
+    if code == 41 {
+        let from = span.from;
+        let to = span.to;
+        return &line[from..to];
+    }
+    entry(state, i)
+}
+
+// A byte, `{n}`, `&(i)` or `#(i)`: what it stands for is inserted.
+pub(crate) fn insert<'a>(
+    line: &'a [u8],
+    span: Span,
+    t: &[u8],
+    state: &'a [u8],
+    base: usize,
+    text: &mut [u8],
+    k: usize,
+) -> Outcome
+    requires { ⌜ Cut (now line) (span .from) (span .to) × Fit (now t) × IsState (now state) × Room (now text) base k ⌝ }
+    ensures { λ r. ⌜ Does (insertsIn (slice (span .from) (span .to) (now (line .entry))) (now (t .entry))) base (now (text .entry)) (now (state .entry)) k (now (text .exit)) (now (state .entry)) r ⌝ }
+{
+    let code = t[0];
+    let i = t[1];
+    if code == 40 {
+        return put(text, base, k, &t[1..2]);
+    }
+    if is_within(56, 63, code) {
+        return put_value(value(state, i), base, text, k);
+    }
+    put(text, base, k, part(line, span, state, code, i))
+}

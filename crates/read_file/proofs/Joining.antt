@@ -1,0 +1,199 @@
+-- A macro from its first quote to its `;`.
+-- Assumes nothing.
+use mathlib.Core.Path.{_≡_, refl, ap, sym, _∙_}
+use mathlib.Core.Bool.{false}
+use mathlib.Core.List.{List, [], _∷_, _++_, reverse, append-assoc, append-nil}
+use mathlib.Core.Option.{none}
+use Prim.Native.Nat.{ℕ, suc, _+_, _-_, _≤_, _<_}
+use native.Mathlib.Omega.{arith}
+use native.Mathlib.Numerals.{add-one}
+use lib.ListN.{length, getD, drop, length-append}
+use borrow.Author.Tests.{lt-ltb, le-ltb}
+use Rattle.macros.specs.Refusals.FileRefusal.{macroTooLong}
+use Rattle.macros.specs.Macro.{Macro, Action, Call, pick, tags}
+use Rattle.macros.specs.Read.{Front, Reader, readFrom, step, skips, partByte, taken, count, commandsByte, commandsFresh}
+use Rattle.macros.specs.Read.Part.{pattern, awaitSymbol, awaitQuote, replacement, commands}
+use Rattle.macros.specs.Read.Step.{done}
+use Rattle.macros.specs.Read.Reader.{between, inside}
+use Rattle.macros.specs.Read.Next.{go, refuse}
+use Rattle.macros.specs.Read.Read.{refusedAt}
+use Rattle.form_table.specs.Form.{patternItems, replacementItems, callsItems, symbolCode, header, body}
+use Rattle.form_table.proofs.Order.{tags-reverse}
+use Rattle.read_scan.specs.Scan.{run, Here}
+use Rattle.form_items.specs.Items.{Wrote}
+use Rattle.read_pattern.specs.Pattern.{Begins, Patterned}
+use Rattle.read_file.specs.Action.{SymbolAt, QuoteAt, FrontAt, ReplacedFrom, Replaced, CommandsFrom, symbolOf}
+use Rattle.read_file.specs.File.{MacroFrom, PartsFrom, Parted, wholeOf, noPattern, noNext, noEnd}
+use Rattle.read_scan.specs.declared.Fault.{Fault}
+use Rattle.read_scan.specs.declared.Fault.the-variants.{MacroTooLong}
+use Rattle.read_scan.specs.declared.Next.{Next}
+use Rattle.read_scan.specs.declared.Next.the-variants.{Byte, Refused as NoByte}
+use Rattle.read_pattern.specs.declared.Whole.{Whole}
+use Rattle.read_pattern.specs.declared.Whole.the-variants.{Pattern, Refused as NoWhole}
+use Rattle.read_file.specs.declared.Ended.{Ended}
+use Rattle.read_file.specs.declared.Ended.the-variants.{Upto, Refused as NoEnd}
+use Rattle.read_file.specs.declared.Built.{Built}
+use Rattle.read_file.specs.declared.Built.the-variants.{Made, Refused as NoMacro}
+use Rattle.read_scan.proofs.Laws.{read-go, read-refuse, run-here, reached-behind}
+use Rattle.form_items.proofs.Writing.{wrote-behind}
+use Rattle.read_pattern.proofs.Insides.{macro-begins}
+
+-- AT THE `;`
+
+done-byte : (f : Front) (l : List Action) (cs : List Call) → partByte (commands none f l cs) 59 ≡ done (wholeOf f l cs)
+unfolding partByte commandsByte commandsFresh pick
+done-byte f l cs = refl
+
+done-step : (n : ℕ) (f : Front) (l : List Action) (cs : List Call) (ms : List Macro) → step (inside false n (commands none f l cs) ms) 59 ≡ count n (between false (wholeOf f l cs ∷ ms))
+unfolding step pick skips taken
+done-step n f l cs ms = rw (done-byte f l cs) refl
+
+count-go : (n : ℕ) (r : Reader) → n < 512 → count n r ≡ go r
+unfolding count pick
+count-go n r h = simp (lt-ltb _ _ h)
+
+count-late : (n : ℕ) (r : Reader) → 512 ≤ n → count n r ≡ refuse macroTooLong
+unfolding count pick
+count-late n r h = simp (le-ltb _ _ h)
+
+module _ {s : List ℕ} {a q : ℕ} (x : Here s a q 59) (f : Front) (l : List Action) (cs : List Call) (ms : List Macro) where
+  first : run s a ms false q (commands none f l cs) ≡ readFrom q (inside false (q - a) (commands none f l cs) ms) (59 ∷ drop (suc q) s)
+  first = let t = x .stands in run-here s a ms false q (commands none f l cs) (t .there) (omega (arith, t .counted)) ∙ rw (t .byte) refl
+
+  -- the macro is done
+  pub done-go : q - a < 512 → run s a ms false q (commands none f l cs) ≡ readFrom (suc q) (between false (wholeOf f l cs ∷ ms)) (drop (suc q) s)
+  done-go h = first ∙ read-go q _ (between false (wholeOf f l cs ∷ ms)) 59 _ (done-step (q - a) f l cs ms ∙ count-go (q - a) _ h)
+
+  -- the `;` is its 513th byte
+  pub done-late : 512 ≤ q - a → run s a ms false q (commands none f l cs) ≡ refusedAt macroTooLong q
+  done-late h = first ∙ read-refuse q macroTooLong _ 59 _ (done-step (q - a) f l cs ms ∙ count-late (q - a) _ h)
+
+-- THE SYMBOL AND THE QUOTE
+
+module _ (s : List ℕ) (a p : ℕ) {n : Next} (y : SymbolAt s a p n) where
+  pub front-none : {f : Fault} {q : ℕ} → n ≡ NoByte f q → FrontAt s a p n
+  front-none {f} {q} i = let z : SymbolAt s a p (NoByte f q) = rw i at y in rw i z
+
+  module _ {b u : ℕ} (k : n ≡ Byte b u) where
+    pub its-symbol : SymbolAt s a p (Byte b u)
+    its-symbol = rw k at y
+
+    module _ {n₂ : Next} (z : QuoteAt s a (u + 1) n₂) where
+      pub front-open : {f : Fault} {q : ℕ} → n₂ ≡ NoByte f q → FrontAt s a p n₂
+      front-open {f} {q} i =
+          let g : QuoteAt s a (u + 1) (NoByte f q) = rw i at z in
+          rw i (g .0, λ ps ms. its-symbol .2 ps ms ∙ g .1 (record { pieces = ps; symbol = symbolOf b }) ms)
+
+      pub front-made : {c v : ℕ} → n₂ ≡ Byte c v → FrontAt s a p (Byte b v)
+      front-made {c} {v} i =
+          let g : QuoteAt s a (u + 1) (Byte c v) = rw i at z in
+          (omega (arith, g .0, its-symbol .0), reached-behind (g .1 .stands), λ ps ms. its-symbol .2 ps ms ∙ g .2 (record { pieces = ps; symbol = symbolOf b }) ms)
+
+-- REPLACEMENT AND COMMANDS
+
+module _ (s : List ℕ) (a p : ℕ) (o₁ : List ℕ) (b i t : ℕ) (o₂ : List ℕ) {m : Ended} (w : ReplacedFrom s a p o₁ o₂ i t m) where
+  pub parts-replacement-fault : {f : Fault} {q : ℕ} {d : Built} → m ≡ NoEnd f q → d ≡ noEnd m → PartsFrom s a p o₁ o₂ b i t d
+  parts-replacement-fault {f} {q} i₁ j =
+      let g : ReplacedFrom s a p o₁ o₂ i t (NoEnd f q) = rw i₁ at w in
+      rw (j ∙ ap noEnd i₁) g
+
+  module _ {g j : ℕ} (k₄ : m ≡ Upto g j) where
+    pub its-replacement : Replaced s a p o₁ o₂ i t g j
+    its-replacement = rw k₄ at w
+
+    module _ (o₃ : List ℕ) {m₂ : Ended} (d : CommandsFrom s a g o₂ o₃ j t m₂) where
+      pub parts-commands-fault : {f : Fault} {q : ℕ} {b₁ : Built} → m₂ ≡ NoEnd f q → b₁ ≡ noEnd m₂ → PartsFrom s a p o₁ o₃ b i t b₁
+      parts-commands-fault {f} {q} i₁ j₁ =
+          let y₁ : CommandsFrom s a g o₂ o₃ j t (NoEnd f q) = rw i₁ at d in
+          rw (j₁ ∙ ap noEnd i₁) (y₁ .0, λ h u ms. its-replacement .answer h u ms ∙ y₁ .1 h (its-replacement .actions) [] u ms)
+
+      module _ {q k₆ : ℕ} (k₅ : m₂ ≡ Upto q k₆) where
+        its-commands : CommandsFrom s a g o₂ o₃ j t (Upto q k₆)
+        its-commands = rw k₅ at d
+
+        abbrev its-calls : List Call
+        its-calls = its-commands .2 .calls
+
+        to-end : (f : Front) → tags (f .pieces) ≡ t → (ms : List Macro) → run s a ms false p (replacement none f []) ≡ run s a ms false q (commands none f (its-replacement .actions) its-calls)
+        to-end f u ms = its-replacement .answer f u ms ∙ rw append-nil at (its-commands .2 .answer f (its-replacement .actions) [] u ms)
+
+        pub parts-late : 512 ≤ q - a → PartsFrom s a p o₁ o₃ b i t (NoMacro MacroTooLong q)
+        parts-late l₁ =
+            let t₁ = its-commands .1 .stands in
+            (omega (arith, t₁ .there), λ f u ms. to-end f u ms ∙ done-late (its-commands .1) f (its-replacement .actions) its-calls ms l₁)
+
+        pub parts-order : (i ≤ j) × (j ≤ k₆) × (a ≤ q) × (q < length s)
+        parts-order =
+            let t₁ = its-commands .1 .stands in
+            (omega (arith, its-replacement .used), omega (arith, its-commands .2 .used), t₁ .behind, t₁ .there)
+
+        its-wrote : Wrote o₁ o₃ i (replacementItems (reverse (its-replacement .actions)) ++ callsItems (reverse its-calls))
+        its-wrote = wrote-behind (its-replacement .wrote) (its-replacement .used) (its-commands .2 .wrote)
+
+        pub parts-made : {y₁ : ℕ} → y₁ ≡ symbolCode (symbolOf b) → q - a < 512
+            → PartsFrom s a p o₁ o₃ b i t (Made (q + 1) (record { symbol = y₁; tags = t; pattern = i; replacement = j - i; commands = k₆ - j }))
+        parts-made e₁ l₁ =
+            let t₁ = its-commands .1 .stands in
+            record {
+              actions = its-replacement .actions;
+              calls = its-calls;
+              symbol = e₁;
+              tagged = refl;
+              first = refl;
+              second = omega (arith, its-replacement .used);
+              third = omega (arith, its-commands .2 .used);
+              wrote = its-wrote;
+              room = omega (arith, its-replacement .room, its-replacement .further, its-commands .2 .room, its-commands .0, its-replacement .used, its-commands .2 .used);
+              further = omega (arith, its-replacement .further, its-commands .0);
+              reached = omega (arith, t₁ .there);
+              counted = omega (arith, t₁ .behind);
+              answer = λ f u ms. rw add-one (to-end f u ms ∙ done-go (its-commands .1) f (its-replacement .actions) its-calls ms l₁);
+            }
+
+-- THE WHOLE MACRO
+
+module _ (s : List ℕ) (a : ℕ) (h : a < length s) (e : getD s a 0 ≡ 39) (old o₁ : List ℕ) {r : Whole} (x : Begins s a old o₁ r) where
+  pub macro-pattern-fault : {f : Fault} {q : ℕ} {w : Built} → r ≡ NoWhole f q → w ≡ noPattern r → MacroFrom s a old o₁ w
+  macro-pattern-fault {f} {q} i j =
+      let z : Begins s a old o₁ (NoWhole f q) = rw i at x in
+      rw (j ∙ ap noPattern i) (z .0, λ ms l. macro-begins s a ms h e l ∙ z .1 ms)
+
+  module _ {p t i : ℕ} (k : r ≡ Pattern p t i) where
+    pub its-pattern : Patterned s a p t old o₁ i
+    its-pattern = rw k at x
+
+    to-symbol : (ms : List Macro) → length ms < 96 → readFrom a (between false ms) (drop a s) ≡ run s a ms false p (awaitSymbol (its-pattern .pieces))
+    to-symbol ms l = macro-begins s a ms h e l ∙ its-pattern .answer ms
+
+    module _ {n : Next} (y : FrontAt s a p n) where
+      pub macro-front-fault : {f : Fault} {q : ℕ} {w : Built} → n ≡ NoByte f q → w ≡ noNext n → MacroFrom s a old o₁ w
+      macro-front-fault {f} {q} i j =
+          let z : FrontAt s a p (NoByte f q) = rw i at y in
+          rw (j ∙ ap noNext i) (z .0, λ ms l. to-symbol ms l ∙ z .1 (its-pattern .pieces) ms)
+
+      module _ {b v : ℕ} (k₂ : n ≡ Byte b v) where
+        pub its-front : FrontAt s a p (Byte b v)
+        its-front = rw k₂ at y
+
+        abbrev front : Front
+        front = record { pieces = its-pattern .pieces; symbol = symbolOf b }
+
+        to-replacement : (ms : List Macro) → length ms < 96 → readFrom a (between false ms) (drop a s) ≡ run s a ms false (v + 1) (replacement none front [])
+        to-replacement ms l = to-symbol ms l ∙ its-front .2 (its-pattern .pieces) ms
+
+        pub macro-whole : (o₂ : List ℕ) (w : Built) → PartsFrom s a (v + 1) o₁ o₂ b i t w → MacroFrom s a old o₂ w
+        unfolding header body
+        macro-whole o₂ (Made q g) z =
+            let first : length (patternItems (reverse (its-pattern .pieces))) ≡ g .pattern = sym (its-pattern .used) ∙ sym (z .first) in
+            record {
+              itself = wholeOf front (z .actions) (z .calls);
+              head = rw (first, ← z .second, ← z .third, tags-reverse (its-pattern .pieces), its-pattern .tagged, ← z .tagged, ← z .symbol) refl;
+              size = rw (length-append, length-append, first, ← z .second, ← z .third) (omega arith);
+              few = omega (arith, its-pattern .few, z .tagged);
+              fits = omega (arith, its-pattern .room, z .room, z .further, z .first, z .counted, its-front .0, its-pattern .reached .0);
+              wrote = wrote-behind (its-pattern .wrote) (omega (arith, its-pattern .used)) (z .wrote);
+              further = omega (arith, z .further, its-front .0, its-pattern .reached .0);
+              reached = z .reached;
+              answer = λ ms l. to-replacement ms l ∙ z .answer front (its-pattern .tagged) ms;
+            }
+        macro-whole o₂ (NoMacro f q) z = (z .0, λ ms l. to-replacement ms l ∙ z .1 front (its-pattern .tagged) ms)

@@ -1,0 +1,70 @@
+use mathlib.Core.Path.{ap, sym, _∙_}
+use mathlib.Core.List.{[], _∷_}
+use Prim.Native.Nat.{_+_}
+use Rattle.macros.specs.Macro.Mark.{counter}
+use Rattle.macros.specs.Macro.Call.{setTo, setIncrement}
+use Rattle.macros.specs.Read.Phase.{equals, increment}
+use Rattle.read_file.proofs.Marks.{counter-comma, counter-uncomma, counter-equal, counter-unequal, counter-command, counter-close, counter-strange, sets-counter, sets-increment, insert-counter}
+use native.Mathlib.Omega.{arith}
+use borrow.Author.Needs.{needs}
+use Rattle.read_file.proofs.calls.counter_tail.Statement.{statement}
+use Rattle.read_file.proofs.calls.counter_tail.Tie as tie
+
+returns : tie.Need-returns
+returns c =
+    let if1 = c .before .if1 in
+    let if2 = c .if2 in
+    λ i v e l. counter-uncomma _ i _ _ v (if1 .taken) e (if2 .taken)
+
+returns-2 : tie.Need-returns-2
+returns-2 c =
+    let if1 = c .before .if1 in
+    let if2 = c .if2 in
+    (omega arith, λ i v e. (increment i, setIncrement i, sets-increment i, counter-comma _ i _ _ v (if1 .taken) e (if2 .left)))
+
+returns-3 : tie.Need-returns-3
+returns-3 c =
+    let if3 = c .before .if3 in
+    let if4 = c .if4 in
+    λ i v e l. counter-unequal _ i _ _ v (if3 .taken) e (if4 .taken)
+
+returns-4 : tie.Need-returns-4
+returns-4 c =
+    let if3 = c .before .if3 in
+    let if4 = c .if4 in
+    (omega arith, λ i v e. (equals counter i, setTo counter i, sets-counter i, counter-equal _ i _ _ v (if3 .taken) e (if4 .left)))
+
+returns-5 : tie.Need-returns-5
+returns-5 c =
+    let if1 = c .before .before .if1 in
+    let if3 = c .before .if3 in
+    let if5 = c .if5 in
+    λ i v e l. counter-strange _ i _ v (if1 .left) (if3 .left) (if5 .taken) l
+
+returns-6 : tie.Need-returns-6
+returns-6 c =
+    let if5 = c .before .if5 in
+    let if6 = c .if6 in
+    λ i v e l. counter-command _ i _ v (if5 .left) (if6 .taken)
+
+add-t7 : tie.Need-add-t7
+add-t7 c = search needs
+
+returns-7 : tie.Need-returns-7
+returns-7 c =
+    let if5 = c .before .if5 in
+    let if6 = c .if6 in
+    λ i v e. (counter-close _ i _ v (if5 .left) (if6 .left), insert-counter i v ∙ ap (λ x. (56 + x) ∷ i ∷ []) (sym e))
+
+pub counter-tail-spec : {M : Type 1} → statement M
+counter-tail-spec =
+    tie.close
+    (tie.spec
+    returns
+    returns-2
+    returns-3
+    returns-4
+    returns-5
+    returns-6
+    add-t7
+    returns-7)

@@ -1,0 +1,170 @@
+-- A macro from its first quote to its `;`, and a file of them: what reading them says of the machine.
+use Prim.Native.Nat.{ℕ, _+_, _-_, _*_, _≤_, _<_}
+use mathlib.Core.Path.{_≡_}
+use mathlib.Core.Bool.{Bool, false, not, _&&_}
+use mathlib.Core.List.{List, [], _∷_, _++_, reverse}
+use mathlib.Core.Option.{none, some}
+use lib.Dec.{eqb}
+use lib.ListN.{length, getD, take, drop, replicate}
+use Rattle.macros.specs.Bounds.{mostMacros, mostTags}
+use Rattle.macros.specs.Refusals.FileRefusal.{incomplete}
+use Rattle.macros.specs.Macro.{Macro, Table, Action, Call, pick, tags}
+use Rattle.macros.specs.Read.{Read, Front, readFrom, firstZero, readOnto}
+use Rattle.macros.specs.Read.Part.{replacement as parting}
+use Rattle.macros.specs.Read.Reader.{between}
+use Rattle.macros.specs.Read.Read.{refusedAt, table}
+use Rattle.macros.specs.Accepted.{Accepted}
+use Rattle.form_table.specs.Form.{slotBytes, bodyBytes, two, symbolCode, replacementItems, callsItems, header, body, slots, form}
+use Rattle.read_scan.specs.Scan.{faultOf, run}
+use Rattle.form_items.specs.Items.{Wrote}
+use Rattle.read_file.specs.Action.{symbolOf}
+use Rattle.read_scan.specs.declared.Fault.the-variants.{Incomplete}
+use Rattle.read_scan.specs.declared.Next.{Next}
+use Rattle.read_scan.specs.declared.Next.the-variants.{Byte, Refused as NoByte}
+use Rattle.read_pattern.specs.declared.Whole.{Whole}
+use Rattle.read_pattern.specs.declared.Whole.the-variants.{Pattern, Refused as NoWhole}
+use Rattle.read_file.specs.declared.Ended.{Ended}
+use Rattle.read_file.specs.declared.Ended.the-variants.{Upto, Refused as NoEnd}
+use Rattle.read_file.specs.declared.Head.{Head}
+use Rattle.read_file.specs.declared.Built.{Built}
+use Rattle.read_file.specs.declared.Built.the-variants.{Made, Refused as NoMacro}
+use Rattle.read_file.specs.declared.Seek.{Seek}
+use Rattle.read_file.specs.declared.Seek.the-variants.{Quote, Done, Skipping}
+use Rattle.read_file.specs.declared.Added.{Added}
+use Rattle.read_file.specs.declared.Added.the-variants.{All, Refused as NotAll}
+use Rattle.read_file.specs.declared.Reading.{Reading}
+use Rattle.read_file.specs.declared.Reading.the-variants.{Table as TableOf, Refused as NoTable}
+
+-- A MACRO
+
+-- the first eight bytes of a slot
+abbrev pub headBytes : Head → List ℕ
+headBytes h = h .symbol ∷ h .tags ∷ (two (h .pattern) ++ (two (h .replacement) ++ two (h .commands)))
+
+-- the bytes behind them that are in use
+abbrev pub usedBytes : Head → ℕ
+usedBytes h = h .pattern + h .replacement + h .commands
+
+-- the macro whose first quote stands at a, read up to q, behind its `;`; its items are written from 0 on
+pub record Macroed (s : List ℕ) (a q : ℕ) (old out : List ℕ) (h : Head) : Type 0 where
+  pub itself : Macro
+  pub head : header itself ≡ headBytes h
+  pub size : length (body itself) ≡ usedBytes h
+  pub few : h .tags ≤ mostTags
+  pub fits : usedBytes h ≤ bodyBytes
+  pub wrote : Wrote old out 0 (body itself)
+  pub further : a < q
+  pub reached : q ≤ length s
+  pub answer : (ms : List Macro) → length ms < mostMacros → readFrom a (between false ms) (drop a s) ≡ readFrom q (between false (itself ∷ ms)) (drop q s)
+
+-- what reading a macro says
+abbrev pub MacroFrom : List ℕ → ℕ → List ℕ → List ℕ → Built → Type 0
+MacroFrom s a old out (Made q h) = Macroed s a q old out h
+MacroFrom s a old out (NoMacro f q) = (q ≤ length s) × ((ms : List Macro) → length ms < mostMacros → readFrom a (between false ms) (drop a s) ≡ refusedAt (faultOf f) q)
+
+-- what was read
+abbrev pub wholeOf : Front → List Action → List Call → Macro
+wholeOf f l cs = record { pattern = reverse (f .pieces); symbol = f .symbol; replacement = reverse l; commands = reverse cs }
+
+-- behind a pattern of k tags, whose items end at i, and the symbol b: the replacement and the commands read from p up to q, behind the `;`; their items are written from i on
+pub record Parted (s : List ℕ) (a p : ℕ) (old out : List ℕ) (b i k q : ℕ) (h : Head) : Type 0 where
+  -- newest first
+  pub actions : List Action
+  pub calls : List Call
+  pub symbol : h .symbol ≡ symbolCode (symbolOf b)
+  pub tagged : h .tags ≡ k
+  pub first : h .pattern ≡ i
+  pub second : h .replacement ≡ length (replacementItems (reverse actions))
+  pub third : h .commands ≡ length (callsItems (reverse calls))
+  pub wrote : Wrote old out i (replacementItems (reverse actions) ++ callsItems (reverse calls))
+  pub room : h .replacement + h .commands + 2 ≤ 2 * (q - p)
+  pub further : p < q
+  pub reached : q ≤ length s
+  pub counted : q ≤ a + 512
+  pub answer : (f : Front) → tags (f .pieces) ≡ k → (ms : List Macro) → run s a ms false p (parting none f []) ≡ readFrom q (between false (wholeOf f actions calls ∷ ms)) (drop q s)
+
+-- what reading them says
+abbrev pub PartsFrom : List ℕ → ℕ → ℕ → List ℕ → List ℕ → ℕ → ℕ → ℕ → Built → Type 0
+PartsFrom s a p old out b i k (Made q h) = Parted s a p old out b i k q h
+PartsFrom s a p old out b i k (NoMacro f q) = (q ≤ length s) × ((g : Front) → tags (g .pieces) ≡ k → (ms : List Macro) → run s a ms false p (parting none g []) ≡ refusedAt (faultOf f) q)
+
+-- the slot of a head and the bytes that the items are in
+abbrev pub slotOf : Head → List ℕ → List ℕ
+slotOf h b = headBytes h ++ (take (usedBytes h) b ++ replicate (bodyBytes - usedBytes h) 0)
+
+-- BETWEEN MACROS
+
+-- whether a byte begins a macro, in a skip or not
+abbrev pub opens : ℕ → Bool → Bool
+opens b k = eqb b 39 && not k
+
+-- whether a skip is open behind a byte
+abbrev pub turned : ℕ → Bool → Bool
+turned b k = pick (eqb b 47) (not k) k
+
+-- what looking for the next macro from p on says
+abbrev pub Seeks : List ℕ → ℕ → Seek → Type 0
+Seeks s p (Quote q) = (p ≤ q) × (q < length s) × (getD s q 0 ≡ 39) × ((ms : List Macro) → readFrom p (between false ms) (drop p s) ≡ readFrom q (between false ms) (drop q s))
+Seeks s p Done = (ms : List Macro) → readFrom p (between false ms) (drop p s) ≡ table (reverse ms)
+Seeks s p Skipping = (ms : List Macro) → readFrom p (between false ms) (drop p s) ≡ refusedAt incomplete (length s)
+
+-- A FILE
+
+-- the place of the first byte 0, or the size
+pub record ZeroAt (s : List ℕ) (z : ℕ) : Type 0 where
+  pub within : z ≤ length s
+  pub found : z < length s → firstZero 0 s ≡ some z
+  pub missing : length s ≤ z → firstZero 0 s ≡ none
+
+-- macros read behind any count, these newest first, and stored behind the slots of a table, so that it has n; what the machine then does
+pub record Adds (s : List ℕ) (count : ℕ) (old out : List ℕ) (n : ℕ) (then : List Macro → Read) : Type 0 where
+  pub added : List Macro
+  pub counted : n ≡ count + length added
+  pub few : n ≤ mostMacros
+  pub size : length (slots (reverse added)) ≡ slotBytes * length added
+  pub wrote : Wrote old out (slotBytes * count) (slots (reverse added))
+  pub answer : (ms : List Macro) → length ms ≡ count → readFrom 0 (between false ms) s ≡ then (added ++ ms)
+
+-- what reading all macros of a file says
+abbrev pub AddsFrom : List ℕ → ℕ → List ℕ → List ℕ → Added → Type 0
+AddsFrom s c old out (All n) = Adds s c old out n (λ ms. table (reverse ms))
+AddsFrom s c old out (NotAll f q n) = Adds s c old out n (λ ms. refusedAt (faultOf f) q)
+
+-- that the lent bytes are those of an accepted table of so many macros
+pub record Lent (old : List ℕ) (c : ℕ) : Type 0 where
+  pub itself : Table
+  pub accepted : Accepted itself
+  pub bytes : form itself ≡ old
+  pub counted : length itself ≡ c
+
+-- what reading a file onto a table says of every accepted table that has these bytes and so many macros
+abbrev pub Onto : List ℕ → ℕ → List ℕ → List ℕ → Reading → Type 0
+Onto s c old out (TableOf n) = (ms : Table) → Accepted ms → form ms ≡ old → length ms ≡ c → (ks : Table) × (readOnto ms s ≡ table ks) × (n ≡ length ks) × (form ks ≡ out)
+Onto s c old out (NoTable f q) = (ms : Table) → Accepted ms → form ms ≡ old → length ms ≡ c → (readOnto ms s ≡ refusedAt (faultOf f) q) × (out ≡ old)
+
+-- REFUSALS HANDED ON
+
+abbrev pub noPattern : Whole → Built
+noPattern (Pattern q t j) = NoMacro Incomplete q
+noPattern (NoWhole f q) = NoMacro f q
+
+abbrev pub noNext : Next → Built
+noNext (Byte b q) = NoMacro Incomplete q
+noNext (NoByte f q) = NoMacro f q
+
+abbrev pub noEnd : Ended → Built
+noEnd (Upto q e) = NoMacro Incomplete q
+noEnd (NoEnd f q) = NoMacro f q
+
+abbrev pub noQuote : Seek → ℕ → ℕ → Added
+noQuote (Quote q) n k = NotAll Incomplete q n
+noQuote Done n k = All n
+noQuote Skipping n k = NotAll Incomplete k n
+
+abbrev pub noMacro : Built → ℕ → Added
+noMacro (Made q h) n = NotAll Incomplete q n
+noMacro (NoMacro f q) n = NotAll f q n
+
+abbrev pub tableOf : Added → Reading
+tableOf (All n) = TableOf n
+tableOf (NotAll f q n) = NoTable f q

@@ -1,0 +1,73 @@
+// Reads macro files. What each answer says of the machine of the definitions stands in specs/.
+mod actions;
+mod calls;
+pub mod file;
+mod slots;
+
+use read_scan::Fault;
+
+// The bytes of a macro file.
+pub(crate) const MOST_FILE_BYTES: usize = 32768;
+
+// The macros of a table, and the bytes of a slot.
+pub(crate) const MOST_MACROS: usize = 96;
+
+pub(crate) const SLOT_BYTES: usize = 1024;
+
+// CALLS, REPLACEMENT AND COMMANDS
+
+// A letter, its move's code, and the byte behind them with its place; or a refusal with its place.
+pub(crate) enum Name {
+    Got(u8, u8, u8, usize),
+    Refused(Fault, usize),
+}
+
+// What the byte behind a call's letter asks for: a text; a number of at most so much, for the item of this code; the item of this code; nothing.
+pub(crate) enum Tail {
+    Text,
+    Set(u8, u64),
+    Insert(u8),
+    Wrong,
+}
+
+// The place behind what was read, and the end of the items written; or a refusal with its place.
+pub(crate) enum Ended {
+    Upto(usize, usize),
+    Refused(Fault, usize),
+}
+
+// A MACRO AND A FILE
+
+// What a slot's first bytes say: the symbol's code, the tags, and the bytes of the three parts.
+pub(crate) struct Head {
+    pub(crate) symbol: u8,
+    pub(crate) tags: usize,
+    pub(crate) pattern: usize,
+    pub(crate) replacement: usize,
+    pub(crate) commands: usize,
+}
+
+// The place behind a macro's `;`, and its head; or a refusal with its place.
+pub(crate) enum Built {
+    Made(usize, Head),
+    Refused(Fault, usize),
+}
+
+// Between macros: the next first quote; or the file's end, outside of a skip or in one.
+pub(crate) enum Seek {
+    Quote(usize),
+    Done,
+    Skipping,
+}
+
+// The macros that the table has with all of a file's; or a refusal with its place, and the macros by then.
+pub(crate) enum Added {
+    All(usize),
+    Refused(Fault, usize, usize),
+}
+
+// The macros that the table has with a file's; or the refusal with its place.
+pub enum Reading {
+    Table(usize),
+    Refused(Fault, usize),
+}

@@ -1,0 +1,466 @@
+-- Elements: the closure behind a unit, each kind of unit, and its items.
+-- Assumes nothing.
+use mathlib.Core.Path.{_≡_, refl, ap, sym, _∙_}
+use mathlib.Core.Bool.{Bool, true, false, _&&_, _||_, true≢false}
+use mathlib.Core.List.{List, [], _∷_, _++_}
+use Prim.Native.Nat.{ℕ, _+_, _-_, _*_, _≤_}
+use native.Mathlib.Omega.{arith}
+use native.Mathlib.Nat.{add-zero}
+use lib.ListN.{length}
+use lib.Dec.{eqb}
+use borrow.Author.Tests.{ne-eqb, leb-true}
+use Rattle.macros.specs.Macro.{Member, Mark, Piece, Macro, pick, among, within, lower, markByte}
+use Rattle.macros.specs.Macro.PatternUnit.{callOf}
+use Rattle.macros.specs.Macro.Piece.{start, end}
+use Rattle.macros.specs.Read.{Part, skips, breaks, escaped, signs, kindDigit}
+use Rattle.macros.specs.Read.Held.{unit, starred}
+use Rattle.macros.specs.Read.Part.{pattern, patternEscape, opened, patternCalled}
+use Rattle.form_table.specs.Form.{unitCode, unitOperand, unitRest, membersItems, pieceItems}
+use Rattle.read_scan.specs.Scan.{faultOf, run, Here, Passes, Stays, Calls, wrongCall}
+use Rattle.form_items.specs.Items.{Wrote}
+use Rattle.read_pattern.specs.Class.{Classed, Classing}
+use Rattle.read_pattern.specs.Pattern.{unitOf, pieceOf, headItems, markAt, Joins, Made, Makes, MakesOne, atQuery, atMark, atCall, atClass, atFresh, negOf, IsClass, Inner, Pieces, itemFault, classFault, elementFault}
+use Rattle.read_scan.specs.declared.Fault.{Fault}
+use Rattle.read_scan.specs.declared.Fault.the-variants.{Incomplete, NoUnit}
+use Rattle.read_scan.specs.declared.Next.{Next}
+use Rattle.read_scan.specs.declared.Next.the-variants.{Byte, Refused as NoByte}
+use Rattle.read_pattern.specs.declared.Unit.{Unit as CodeUnit}
+use Rattle.read_pattern.specs.declared.Unit.the-variants.{Literal, Kind, Class, ClassNot, StackCall, CounterCall}
+use Rattle.read_pattern.specs.declared.Closure.the-variants.{Once, OneOrMore, ZeroOrMore}
+use Rattle.read_pattern.specs.declared.Element.{Element}
+use Rattle.read_pattern.specs.declared.Item.{Item}
+use Rattle.read_pattern.specs.declared.Item.the-variants.{Got, Refused as NoItem}
+use Rattle.read_pattern.specs.declared.Put.{Put}
+use Rattle.read_pattern.specs.declared.Put.the-variants.{At as PutAt, Refused as NoPut}
+use Rattle.read_scan.proofs.Laws.{reached-at, reached-behind}
+use Rattle.form_items.proofs.Writing.{wrote-none, wrote-before}
+use Rattle.read_pattern.proofs.Signs.{at-start, at-end, at-star, at-break, at-escape, at-bracket, at-query, at-stack, at-counter, at-literal, query-digit, query-literal, mark-call, mark-literal, call-letter, call-wrong, called-end, called-wrong, unit-star, unit-once, star-dash, star-more, escape-on, opened-not, opened-plain, space-letter, space-called}
+
+-- THE CLOSURE BEHIND A UNIT
+
+module _ (u : CodeUnit) (n : ℕ) {s : List ℕ} {a p : ℕ} {r : Next} (x : Passes s a p r) where
+  pub joins-fault : {f : Fault} {q : ℕ} {o : Item} → r ≡ NoByte f q → o ≡ itemFault r → Joins s a p u n o
+  unfolding skips
+  joins-fault {f} {q} e g =
+      let y : Passes s a p (NoByte f q) = rw e at x in
+      rw (g ∙ ap itemFault e) (record { is = (y .found, λ xs ps ms. y .answer _ ms refl) })
+
+  module _ {b q : ℕ} (e : r ≡ Byte b q) where
+    pub behind-unit : Passes s a p (Byte b q)
+    behind-unit = rw e at x
+
+    here : Here s a q b
+    here = behind-unit .found .1
+
+    pub joins-once : (b ≡ 42 → ⊥) → Joins s a p u n (Got (record { unit = u; closure = Once }) q n)
+    unfolding skips
+    joins-once f =
+        record {
+          is = (
+            refl,
+            record {
+              further = behind-unit .found .0;
+              reached = reached-at (here .stands);
+              same = refl;
+              answer = λ xs ps ms. behind-unit .answer _ ms refl ∙ unit-once here ms ps (unitOf u xs) f;
+            },
+          );
+        }
+
+    module _ (f : b ≡ 42) {t : Next} (z : Passes s a (q + 1) t) where
+      star : (xs : List Member) (ps : List Piece) (ms : List Macro)
+          → run s a ms false p (pattern (unit (unitOf u xs)) ps) ≡ run s a ms false (q + 1) (pattern (starred (unitOf u xs)) ps)
+      unfolding skips
+      star xs ps ms = behind-unit .answer _ ms refl ∙ unit-star here ms ps (unitOf u xs) f
+
+      pub joins-star-fault : {g : Fault} {v : ℕ} {o : Item} → t ≡ NoByte g v → o ≡ itemFault t → Joins s a p u n o
+      unfolding skips
+      joins-star-fault {g} {v} h i =
+          let w : Passes s a (q + 1) (NoByte g v) = rw h at z in
+          rw (i ∙ ap itemFault h) (record { is = (w .found, λ xs ps ms. star xs ps ms ∙ w .answer _ ms refl) })
+
+      module _ {d v : ℕ} (h : t ≡ Byte d v) where
+        pub behind-star : Passes s a (q + 1) (Byte d v)
+        behind-star = rw h at z
+
+        pub joins-zero : d ≡ 45 → Joins s a p u n (Got (record { unit = u; closure = ZeroOrMore }) (v + 1) n)
+        unfolding skips
+        joins-zero k =
+            record {
+              is = (
+                refl,
+                record {
+                  further = omega (arith, behind-unit .found .0, behind-star .found .0);
+                  reached = reached-behind (behind-star .found .1 .stands);
+                  same = refl;
+                  answer = λ xs ps ms. star xs ps ms ∙ (behind-star .answer _ ms refl ∙ star-dash (behind-star .found .1) ms ps (unitOf u xs) k);
+                },
+              );
+            }
+
+        pub joins-one : (d ≡ 45 → ⊥) → Joins s a p u n (Got (record { unit = u; closure = OneOrMore }) v n)
+        unfolding skips
+        joins-one k =
+            record {
+              is = (
+                refl,
+                record {
+                  further = omega (arith, behind-unit .found .0, behind-star .found .0);
+                  reached = reached-at (behind-star .found .1 .stands);
+                  same = refl;
+                  answer = λ xs ps ms. star xs ps ms ∙ (behind-star .answer _ ms refl ∙ star-more (behind-star .found .1) ms ps (unitOf u xs) k);
+                },
+              );
+            }
+
+-- FROM A UNIT TO ITS ELEMENT
+
+-- the unit u is read from v up to w, with its rest written, and then its closure
+pub made : {s : List ℕ} {a p v w : ℕ} {F : List Piece → Part} {old out : List ℕ} {i n : ℕ} {o : Item} (u : CodeUnit) (xs : List Member)
+    → Joins s a w u n o → v ≤ w → n ≤ i + 2 * (w - v) → Wrote old out i (unitRest (unitOf u xs)) → n ≡ i + length (unitRest (unitOf u xs))
+    → ((ps : List Piece) (ms : List Macro) → run s a ms false p (F ps) ≡ run s a ms false w (pattern (unit (unitOf u xs)) ps)) → Makes s a p v F old out i o
+made {o = Got e q m} u xs j h k w c f =
+    record {
+      is = record {
+        xs = xs;
+        further = omega (arith, j .is .1 .further);
+        reached = j .is .1 .reached;
+        room = omega (arith, j .is .0, j .is .1 .further);
+        answer = λ ps ms. f ps ms ∙ j .is .1 .answer xs ps ms;
+        wrote = rw (j .is .1 .same) w;
+        used = rw (j .is .1 .same) (omega (arith, j .is .0));
+      };
+    }
+made {o = NoItem g q} u xs j h k w c f = record { is = (j .is .0, λ ps ms. f ps ms ∙ j .is .1 xs ps ms) }
+
+-- a unit with nothing behind its head
+made-one : {s : List ℕ} {a p v w : ℕ} {F : List Piece → Part} {n : ℕ} {o : Item} (u : CodeUnit) → unitRest (unitOf u []) ≡ []
+    → Joins s a w u n o → v ≤ w → ((ps : List Piece) (ms : List Macro) → run s a ms false p (F ps) ≡ run s a ms false w (pattern (unit (unitOf u [])) ps))
+    → (out : List ℕ) → Makes s a p v F out out n o
+made-one {n = n} u e j h f out = made u [] j h (omega arith) (rw e (wrote-none out n)) (rw e (sym (add-zero n))) f
+
+-- the same, begun earlier in another state
+pub made-from : {s : List ℕ} {a p v w k : ℕ} {F G : List Piece → Part} {old out : List ℕ} {n : ℕ} {o : Item}
+    → Makes s a w k G old out n o → v ≤ k → ((ps : List Piece) (ms : List Macro) → run s a ms false p (F ps) ≡ run s a ms false w (G ps)) → Makes s a p v F old out n o
+made-from {o = Got e q m} j h f =
+    record {
+      is = record {
+        xs = j .is .xs;
+        further = omega (arith, j .is .further);
+        reached = j .is .reached;
+        room = omega (arith, j .is .room, j .is .further);
+        answer = λ ps ms. f ps ms ∙ j .is .answer ps ms;
+        wrote = j .is .wrote;
+        used = j .is .used;
+      };
+    }
+made-from {o = NoItem g q} j h f = record { is = (j .is .0, λ ps ms. f ps ms ∙ j .is .1 ps ms) }
+
+literal-rest : (b : ℕ) → unitRest (unitOf (Literal b) []) ≡ []
+unfolding unitRest
+literal-rest b = refl
+
+kind-rest : (k : ℕ) → unitRest (unitOf (Kind k) []) ≡ []
+unfolding unitRest
+kind-rest k = refl
+
+call-rest : (u : CodeUnit) (m : Mark) (i : ℕ) → unitOf u [] ≡ callOf m i → unitRest (unitOf u []) ≡ []
+unfolding unitRest
+call-rest u m i e = rw e refl
+
+class-rest : (u : CodeUnit) (xs : List Member) → IsClass u → unitRest (unitOf u xs) ≡ membersItems xs
+unfolding unitRest
+class-rest u xs e = rw (e xs) refl
+
+-- BEHIND `\`
+
+module _ (n : ℕ) {s : List ℕ} {a p : ℕ} {r : Next} (x : Stays s a p r) where
+  pub escape-fault : {f : Fault} {q : ℕ} {o : Item} → r ≡ NoByte f q → o ≡ itemFault r → MakesOne s a p patternEscape n o
+  escape-fault {f} {q} e g out =
+      let y : Stays s a p (NoByte f q) = rw e at x in
+      rw (g ∙ ap itemFault e) (record { is = (y .found, λ ps ms. y .answer _ ms) })
+
+  module _ {b q : ℕ} (e : r ≡ Byte b q) where
+    pub escape-stays : Stays s a p (Byte b q)
+    escape-stays = rw e at x
+
+    pub escape-made : {l : ℕ} {o : Item} → l ≡ escaped b → Joins s a (q + 1) (Literal l) n o → MakesOne s a p patternEscape n o
+    escape-made {l} {o} g j =
+        let y = escape-stays .found in
+        let i : Joins s a (p + 1) (Literal l) n o = rw (y .0) at j in
+        made-one (Literal l) (literal-rest l) i (omega arith) (λ ps ms. escape-on (y .1) ms ps ∙ rw g refl)
+
+-- BEHIND `?`
+
+module _ (n : ℕ) {s : List ℕ} {a p : ℕ} {r : Next} (x : Passes s a p r) where
+  pub query-fault : {f : Fault} {q : ℕ} {o : Item} → r ≡ NoByte f q → o ≡ itemFault r → MakesOne s a p atQuery n o
+  unfolding skips
+  query-fault {f} {q} e g out =
+      let y : Passes s a p (NoByte f q) = rw e at x in
+      rw (g ∙ ap itemFault e) (record { is = (y .found, λ ps ms. y .answer _ ms refl) })
+
+  -- BEHIND `&` OR `#`
+  pub mark-fault : (m : ℕ) {f : Fault} {q : ℕ} {o : Item} → r ≡ NoByte f q → o ≡ itemFault r → MakesOne s a p (atMark m) n o
+  unfolding skips
+  mark-fault m {f} {q} e g out =
+      let y : Passes s a p (NoByte f q) = rw e at x in
+      rw (g ∙ ap itemFault e) (record { is = (y .found, λ ps ms. y .answer _ ms refl) })
+
+  module _ {b q : ℕ} (e : r ≡ Byte b q) where
+    pub behind-sign : Passes s a p (Byte b q)
+    behind-sign = rw e at x
+
+    pub query-kind : {o : Item} → kindDigit b ≡ true → Joins s a (q + 1) (Kind (b - 48)) n o → MakesOne s a p atQuery n o
+    unfolding skips
+    query-kind f j =
+        made-one (Kind (b - 48)) (kind-rest _) j (omega (arith, behind-sign .found .0))
+        (λ ps ms. behind-sign .answer _ ms refl ∙ query-digit (behind-sign .found .1) ms ps f)
+
+    pub query-itself : {o : Item} → kindDigit b ≡ false → Joins s a q (Literal 63) n o → MakesOne s a p atQuery n o
+    unfolding skips
+    query-itself f j =
+        made-one (Literal 63) (literal-rest 63) j (behind-sign .found .0)
+        (λ ps ms. behind-sign .answer _ ms refl ∙ query-literal (behind-sign .found .1) ms ps f)
+
+    pub mark-called : (m : ℕ) {o : Item} → b ≡ 40 → MakesOne s a (q + 1) (atCall m) n o → MakesOne s a p (atMark m) n o
+    unfolding skips
+    mark-called m f j out =
+        made-from (j out) (omega (arith, behind-sign .found .0))
+        (λ ps ms. behind-sign .answer _ ms refl ∙ mark-call (behind-sign .found .1) ms ps (markAt m) f)
+
+    pub mark-itself : (m : ℕ) {o : Item} → markByte (markAt m) ≡ m → (b ≡ 40 → ⊥) → Joins s a q (Literal m) n o → MakesOne s a p (atMark m) n o
+    unfolding skips
+    mark-itself m g f j =
+        made-one (Literal m) (literal-rest m) j (behind-sign .found .0)
+        (λ ps ms. behind-sign .answer _ ms refl ∙ (mark-literal (behind-sign .found .1) ms ps (markAt m) f ∙ rw g refl))
+
+and-left : (x y : Bool) → (x && y) ≡ true → x ≡ true
+and-left true y e = refl
+and-left false y e = e
+
+pub kind-least : {d : ℕ} → kindDigit d ≡ true → 49 ≤ d
+unfolding kindDigit within
+kind-least e = leb-true _ _ (and-left _ _ e)
+
+-- BEHIND `&(` OR `#(`
+
+module _ (m n : ℕ) {s : List ℕ} {a p : ℕ} {r : Next} (x : Calls s a p r) where
+  pub letter-fault : {f : Fault} {q : ℕ} {o : Item} → r ≡ NoByte f q → o ≡ itemFault r → MakesOne s a p (atCall m) n o
+  unfolding skips
+  letter-fault {f} {q} e g out =
+      let y : Calls s a p (NoByte f q) = rw e at x in
+      rw (g ∙ ap itemFault e) (record { is = (y .found, λ ps ms. y .answer _ ms refl (space-letter (markAt m) ps)) })
+
+  module _ {i q : ℕ} (e : r ≡ Byte i q) where
+    pub the-letter : Calls s a p (Byte i q)
+    the-letter = rw e at x
+
+    to-letter : (ps : List Piece) (ms : List Macro) → run s a ms false p (atCall m ps) ≡ run s a ms false q (atCall m ps)
+    unfolding skips
+    to-letter ps ms = the-letter .answer _ ms refl (space-letter (markAt m) ps)
+
+    pub letter-wrong : {k : Fault} → lower i ≡ false → faultOf k ≡ wrongCall i → MakesOne s a p (atCall m) n (NoItem k q)
+    letter-wrong f g out =
+        let y = the-letter .found in
+        record { is = (omega (arith, y .1 .stands .there), λ ps ms. to-letter ps ms ∙ rw g (call-wrong (y .1) ms ps (markAt m) f (y .2))) }
+
+    module _ (f : lower i ≡ true) {t : Next} (z : Calls s a (q + 1) t) where
+      behind-letter : (ps : List Piece) (ms : List Macro) → run s a ms false p (atCall m ps) ≡ run s a ms false (q + 1) (patternCalled (markAt m) ps i)
+      behind-letter ps ms = to-letter ps ms ∙ call-letter (the-letter .found .1) ms ps (markAt m) f
+
+      pub called-fault : {g : Fault} {v : ℕ} {o : Item} → t ≡ NoByte g v → o ≡ itemFault t → MakesOne s a p (atCall m) n o
+      unfolding skips
+      called-fault {g} {v} h k out =
+          let w : Calls s a (q + 1) (NoByte g v) = rw h at z in
+          rw (k ∙ ap itemFault h) (record { is = (w .found, λ ps ms. behind-letter ps ms ∙ w .answer _ ms refl (space-called (markAt m) ps i)) })
+
+      module _ {b v : ℕ} (h : t ≡ Byte b v) where
+        pub the-end : Calls s a (q + 1) (Byte b v)
+        the-end = rw h at z
+
+        to-end : (ps : List Piece) (ms : List Macro) → run s a ms false p (atCall m ps) ≡ run s a ms false v (patternCalled (markAt m) ps i)
+        unfolding skips
+        to-end ps ms = behind-letter ps ms ∙ the-end .answer _ ms refl (space-called (markAt m) ps i)
+
+        pub end-wrong : {k : Fault} → (b ≡ 41 → ⊥) → faultOf k ≡ wrongCall b → MakesOne s a p (atCall m) n (NoItem k v)
+        end-wrong g k out =
+            let y = the-end .found in
+            record { is = (omega (arith, y .1 .stands .there), λ ps ms. to-end ps ms ∙ rw k (called-wrong (y .1) ms ps (markAt m) i g (y .2))) }
+
+        pub called-made : (u : CodeUnit) {o : Item} → b ≡ 41 → unitOf u [] ≡ callOf (markAt m) i → Joins s a (v + 1) u n o → MakesOne s a p (atCall m) n o
+        called-made u g k j =
+            let y = the-end .found in
+            made-one u (call-rest u (markAt m) i k) j (omega (arith, y .0, the-letter .found .0))
+            (λ ps ms. to-end ps ms ∙ (called-end (y .1) ms ps (markAt m) i g ∙ rw k refl))
+
+-- BEHIND `[`
+
+module _ (u : CodeUnit) {s : List ℕ} {a p : ℕ} {old out : List ℕ} {n : ℕ} {r : Put} (x : Classing s a p old out n r) where
+  pub class-fault : {f : Fault} {q : ℕ} {o : Item} → r ≡ NoPut f q → o ≡ classFault r → Makes s a p p (atClass (negOf u)) old out n o
+  class-fault {f} {q} e g =
+      let y : Classing s a p old out n (NoPut f q) = rw e at x in
+      rw (g ∙ ap classFault e) (record { is = (y .is .0, λ ps ms. y .is .1 ps (negOf u) ms) })
+
+  module _ {q j : ℕ} (e : r ≡ PutAt q j) where
+    pub classed : Classed s a p q old out n j
+    classed = let y : Classing s a p old out n (PutAt q j) = rw e at x in y .is
+
+    pub class-made : {o : Item} → IsClass u → Joins s a q u j o → Makes s a p p (atClass (negOf u)) old out n o
+    class-made f k =
+        let y = classed in
+        made u (y .xs) k (y .further) (y .room) (rw (class-rest u (y .xs) f) (y .wrote)) (rw (class-rest u (y .xs) f) (y .used))
+        (λ ps ms. y .answer ps (negOf u) ms ∙ rw (f (y .xs)) refl)
+
+module _ {s : List ℕ} {a p : ℕ} {r : Next} (x : Stays s a p r) where
+  pub opened-fault : (n : ℕ) (old out : List ℕ) {f : Fault} {q : ℕ} {o : Item} → r ≡ NoByte f q → o ≡ itemFault r → Makes s a p p opened old out n o
+  opened-fault n old out {f} {q} e g =
+      let y : Stays s a p (NoByte f q) = rw e at x in
+      rw (g ∙ ap itemFault e) (record { is = (y .found, λ ps ms. y .answer _ ms) })
+
+  module _ {b q : ℕ} (e : r ≡ Byte b q) where
+    pub behind-bracket : Stays s a p (Byte b q)
+    behind-bracket = rw e at x
+
+    pub opened-complement : {n : ℕ} {old out : List ℕ} {o : Item} → b ≡ 126 → Makes s a (q + 1) (q + 1) (atClass true) old out n o → Makes s a p p opened old out n o
+    opened-complement f j =
+        let y = behind-bracket .found in
+        made-from j (omega (arith, y .0)) (λ ps ms. opened-not (y .1) ms ps f ∙ rw (y .0) refl)
+
+    pub opened-members : {n : ℕ} {old out : List ℕ} {o : Item} → (b ≡ 126 → ⊥) → Makes s a q q (atClass false) old out n o → Makes s a p p opened old out n o
+    opened-members f j =
+        let y = behind-bracket .found in
+        made-from j (omega (arith, y .0)) (λ ps ms. opened-plain (y .1) ms ps f ∙ rw (y .0) refl)
+
+-- AN ELEMENT BY ITS FIRST BYTE
+
+pub mark-known : {b : ℕ} → b ≡ 38 → markByte (markAt b) ≡ b
+unfolding markByte pick
+mark-known e = simp e
+
+pub counter-known : {b : ℕ} → b ≡ 35 → markByte (markAt b) ≡ b
+unfolding markByte pick
+counter-known e = simp e
+
+module _ {s : List ℕ} {a p b : ℕ} (x : Here s a p b) (n : ℕ) (old out : List ℕ) where
+  pub element-star : b ≡ 42 → Makes s a p (p + 1) atFresh old out n (NoItem NoUnit p)
+  element-star e = record { is = (omega (arith, x .stands .there), λ ps ms. at-star x ms ps e) }
+
+  pub element-break : breaks b ≡ true → (b ≡ 39 → ⊥) → Makes s a p (p + 1) atFresh old out n (NoItem Incomplete p)
+  element-break e f = record { is = (omega (arith, x .stands .there), λ ps ms. at-break x ms ps e f) }
+
+  pub element-escape : {o : Item} → b ≡ 92 → Makes s a (p + 1) (p + 1) patternEscape old out n o → Makes s a p (p + 1) atFresh old out n o
+  element-escape e j = made-from j (omega arith) (λ ps ms. at-escape x ms ps e)
+
+  pub element-class : {o : Item} → b ≡ 91 → Makes s a (p + 1) (p + 1) opened old out n o → Makes s a p (p + 1) atFresh old out n o
+  element-class e j = made-from j (omega arith) (λ ps ms. at-bracket x ms ps e)
+
+  pub element-query : {o : Item} → b ≡ 63 → Makes s a (p + 1) (p + 1) atQuery old out n o → Makes s a p (p + 1) atFresh old out n o
+  element-query e j = made-from j (omega arith) (λ ps ms. at-query x ms ps e)
+
+  pub element-stack : {o : Item} → b ≡ 38 → Makes s a (p + 1) (p + 1) (atMark b) old out n o → Makes s a p (p + 1) atFresh old out n o
+  element-stack e j = made-from j (omega arith) (λ ps ms. at-stack x ms ps e)
+
+  pub element-counter : {o : Item} → b ≡ 35 → Makes s a (p + 1) (p + 1) (atMark b) old out n o → Makes s a p (p + 1) atFresh old out n o
+  element-counter e j = made-from j (omega arith) (λ ps ms. at-counter x ms ps e)
+
+or-false-l : (x y : Bool) → (x || y) ≡ false → x ≡ false
+or-false-l true y e = e
+or-false-l false y e = refl
+
+or-false-r : (x y : Bool) → (x || y) ≡ false → y ≡ false
+or-false-r true y e = absurd (true≢false e)
+or-false-r false y e = e
+
+-- a byte that is no sign, nor `?`, `&` or `#`
+pub element-literal : {s : List ℕ} {a p b : ℕ} (x : Here s a p b) (n : ℕ) (out : List ℕ) {o : Item} → Inner b → (b ≡ 94 → ⊥) → (b ≡ 36 → ⊥) → (b ≡ 42 → ⊥)
+    → breaks b ≡ false → (b ≡ 92 → ⊥) → (b ≡ 91 → ⊥) → (b ≡ 63 → ⊥) → (b ≡ 38 → ⊥) → (b ≡ 35 → ⊥) → Joins s a (p + 1) (Literal b) n o → Makes s a p (p + 1) atFresh out out n o
+unfolding among signs breaks
+element-literal {b = b} x n out i c d e f g h k l m j =
+    let f2 = or-false-r (eqb b 39) _ f in
+    let f3 = or-false-l (eqb b 59) _ f2 in
+    let f4 = or-false-l (eqb b 10) _ (or-false-r (eqb b 59) _ f2) in
+    made-one (Literal b) (literal-rest b) j (omega arith)
+    (λ ps ms. at-literal x ms ps (simp (ne-eqb _ _ (i .0), f3, f4, ne-eqb _ _ e, ne-eqb _ _ g, ne-eqb _ _ h, ne-eqb _ _ c, ne-eqb _ _ d, ne-eqb _ _ (i .1), ne-eqb _ _ (i .2))) k l m) out
+
+-- ITS ITEMS
+
+code-same : (u : CodeUnit) (xs : List Member) → unitCode (unitOf u []) ≡ unitCode (unitOf u xs)
+unfolding unitCode
+code-same (Literal b) xs = refl
+code-same (Kind k) xs = refl
+code-same Class xs = refl
+code-same ClassNot xs = refl
+code-same (StackCall i) xs = refl
+code-same (CounterCall i) xs = refl
+
+operand-same : (u : CodeUnit) (xs : List Member) → unitOperand (unitOf u []) ≡ unitOperand (unitOf u xs)
+unfolding unitOperand
+operand-same (Literal b) xs = refl
+operand-same (Kind k) xs = refl
+operand-same Class xs = refl
+operand-same ClassNot xs = refl
+operand-same (StackCall i) xs = refl
+operand-same (CounterCall i) xs = refl
+
+head-same : (e : Element) (xs : List Member) → headItems e ++ unitRest (unitOf (e .unit) xs) ≡ pieceItems (pieceOf e xs)
+unfolding pieceItems
+head-same e xs = rw (code-same (e .unit) xs, operand-same (e .unit) xs) refl
+
+module _ {s : List ℕ} {a p b : ℕ} (x : Here s a p b) (n : ℕ) {old : List ℕ} where
+  pub piece-start : {out : List ℕ} → b ≡ 94 → Wrote old out n (3 ∷ 0 ∷ []) → Pieces s a p old out n (PutAt (p + 1) (n + 2))
+  unfolding pieceItems
+  piece-start e w =
+      record {
+        is = record {
+          piece = start;
+          counts = tt;
+          further = omega arith;
+          reached = reached-behind (x .stands);
+          room = omega arith;
+          answer = λ ps ms. at-start x ms ps e;
+          wrote = w;
+          used = refl;
+        };
+      }
+
+  pub piece-end : {out : List ℕ} → b ≡ 36 → Wrote old out n (4 ∷ 0 ∷ []) → Pieces s a p old out n (PutAt (p + 1) (n + 2))
+  unfolding pieceItems
+  piece-end e w =
+      record {
+        is = record {
+          piece = end;
+          counts = tt;
+          further = omega arith;
+          reached = reached-behind (x .stands);
+          room = omega arith;
+          answer = λ ps ms. at-end x ms ps e;
+          wrote = w;
+          used = refl;
+        };
+      }
+
+  module _ {mid : List ℕ} {r : Item} (y : Makes s a p (p + 1) atFresh old mid (n + 2) r) where
+    pub piece-fault : (out : List ℕ) {f : Fault} {q : ℕ} {o : Put} → r ≡ NoItem f q → o ≡ elementFault r → Pieces s a p old out n o
+    piece-fault out {f} {q} e g =
+        let w : Makes s a p (p + 1) atFresh old mid (n + 2) (NoItem f q) = rw e at y in
+        rw (g ∙ ap elementFault e) (record { is = (w .is .0, λ ps ms. w .is .1 ps ms) })
+
+    module _ {e : Element} {q m : ℕ} (f : r ≡ Got e q m) where
+      pub its-element : Made s a p (p + 1) atFresh old mid (n + 2) e q m
+      its-element = let w : Makes s a p (p + 1) atFresh old mid (n + 2) (Got e q m) = rw f at y in w .is
+
+      pub piece-element : {out : List ℕ} → n + 2 ≤ length old → n + 2 ≤ length mid → Wrote mid out n (headItems e) → Pieces s a p old out n (PutAt q m)
+      piece-element h k w =
+          let z = its-element in
+          record {
+            is = record {
+              piece = pieceOf e (z .xs);
+              counts = tt;
+              further = omega (arith, z .further);
+              reached = z .reached;
+              room = omega (arith, z .room, z .further);
+              answer = z .answer;
+              wrote = rw (sym (head-same e (z .xs))) (wrote-before h k (z .wrote) w);
+              used = rw (sym (head-same e (z .xs))) (omega (arith, z .used));
+            };
+          }

@@ -1,0 +1,51 @@
+-- Assumes nothing.
+use Rattle.macros.specs.Write.{patternMarks}
+use Rattle.write_file.proofs.Putting.{by-mark}
+use Rattle.write_file.specs.Items.{unitText}
+use Rattle.write_file.specs.Puts.{shortText}
+use Rattle.macros.specs.Macro.{pick}
+use borrow.Author.Tests.{lt-ltb, le-ltb}
+use borrow.Author.Needs.{needs}
+use Rattle.write_file.proofs.pattern.unit.Statement.{statement}
+use Rattle.write_file.proofs.pattern.unit.Tie as tie
+
+slice-aggregate-in-list : tie.Need-slice-aggregate-in-list
+slice-aggregate-in-list c = search needs
+
+in-list-requires : tie.Need-in-list-requires
+in-list-requires c κs = tt
+
+marked-requires : tie.Need-marked-requires
+marked-requires c κs = tt
+
+returns : tie.Need-returns
+unfolding unitText patternMarks pick
+returns c = simp (lt-ltb _ _ (c .before .before .before .if1 .taken)) (by-mark _ _ (c .marked .ensures) (c .before .in-list .ensures))
+
+add-t9 : tie.Need-add-t9
+add-t9 c = search needs
+
+returns-2 : tie.Need-returns-2
+unfolding shortText unitText pick
+returns-2 c = simp (le-ltb _ _ (c .before .if1 .left), lt-ltb _ _ (c .if2 .taken))
+
+returns-3 : tie.Need-returns-3
+unfolding shortText unitText pick
+returns-3 c = simp (le-ltb _ _ (c .before .before .if1 .left), le-ltb _ _ (c .before .if2 .left), lt-ltb _ _ (c .if3 .taken))
+
+returns-4 : tie.Need-returns-4
+unfolding shortText unitText pick
+returns-4 c = simp (le-ltb _ _ (c .before .before .if1 .left), le-ltb _ _ (c .before .if2 .left), le-ltb _ _ (c .if3 .left))
+
+pub unit-spec : {M : Type 1} → statement M
+unit-spec =
+    tie.close
+    (tie.spec
+    slice-aggregate-in-list
+    in-list-requires
+    marked-requires
+    returns
+    add-t9
+    returns-2
+    returns-3
+    returns-4)

@@ -1,0 +1,136 @@
+// A pattern, from its items.
+use crate::put::Short;
+use crate::put::in_list;
+use crate::put::marked;
+use crate::put::put;
+ghost use mathlib.Core.Path.{_≡_};
+ghost use mathlib.Core.List.{_∷_};
+ghost use Prim.Native.Nat.{_%_, _≤_, _<_};
+ghost use lib.Dec.{ltb};
+ghost use lib.ListN.{length};
+ghost use Rattle.macros.specs.Macro.{pick};
+ghost use Rattle.write_file.specs.Puts.{shortText, Puts};
+ghost use Rattle.write_file.specs.Items.{closureText, unitText, braceByte, memberText, headText, tailText, patternText};
+
+// `*` or `*-`, by an element's code.
+fn closure(code: u8) -> Short
+    ensures { λ r. ⌜ shortText r ≡ closureText code ⌝ }
+{
+    if code % 4 == 1 {
+        return Short::One(b'*');
+    }
+    if code % 4 == 2 {
+        return Short::Two(b'*', b'-');
+    }
+    Short::Nothing
+}
+
+// A literal, `?n` or a call; a kind has one digit.
+fn unit(code: u8, b: u8) -> Short
+    ensures { λ r. ⌜ shortText r ≡ unitText code b ⌝ }
+{
+    if code < 12 {
+        return marked(in_list(b"$^*[?&#{}/\\';-\n\t", b), b);
+    }
+    if code < 16 {
+        return Short::Two(b'?', 48 + b % 10);
+    }
+    if code < 20 {
+        return Short::Four(b'&', b'(', b, b')');
+    }
+    Short::Four(b'#', b'(', b, b')')
+}
+
+// A member, one end of a range, or the class's end.
+fn member(code: u8, b: u8) -> Short
+    ensures { λ r. ⌜ shortText r ≡ memberText code b ⌝ }
+{
+    if code == 32 {
+        return marked(in_list(b"]-~\\';\n\t", b), b);
+    }
+    if code == 33 {
+        return Short::Two(b, b'-');
+    }
+    if code == 34 {
+        return Short::One(b);
+    }
+    Short::One(b']')
+}
+
+fn brace(code: u8) -> u8
+    ensures { λ r. ⌜ r ≡ braceByte code ⌝ }
+{
+    if code == 1 {
+        return b'{';
+    }
+    if code == 2 {
+        return b'}';
+    }
+    if code == 3 {
+        return b'^';
+    }
+    b'$'
+}
+
+// An item without its closure.
+fn head(code: u8, b: u8) -> Short
+    ensures { λ r. ⌜ shortText r ≡ headText code b ⌝ }
+{
+    if code < 8 {
+        return Short::One(brace(code));
+    }
+    if code < 24 {
+        return unit(code, b);
+    }
+    if code < 28 {
+        return Short::One(b'[');
+    }
+    if code < 32 {
+        return Short::Two(b'[', b'~');
+    }
+    member(code, b)
+}
+
+// The closure of an item: a class has it at its end, and `held` is the class's code.
+fn tail(held: u8, code: u8) -> Short
+    ensures { λ r. ⌜ shortText r ≡ tailText held code ⌝ }
+{
+    if code < 8 {
+        return Short::Nothing;
+    }
+    if code < 24 {
+        return closure(code);
+    }
+    if code < 35 {
+        return Short::Nothing;
+    }
+    closure(held)
+}
+
+// A quote and the items of a pattern.
+pub(crate) fn put_pattern(file: &mut [u8], start: usize, items: &[u8]) -> usize
+    requires { ⌜ (length (now file) ≤ 32768) × (length (now items) % 2 ≡ 0) × (length (now items) ≤ 1024) ⌝ }
+    ensures { λ r. ⌜ Puts start (39 ∷ patternText 0 (now (items .entry))) (now (file .entry)) (now (file .exit)) r ⌝ }
+{
+    let mut n = put(file, start, Short::One(b'\''));
+    let mut held: u8 = 0;
+    let mut at = 0;
+    while at < items.len() {
+        let code = items[at];
+        let m = put(file, n, head(code, items[at + 1]));
+        n = put(file, m, tail(held, code));
+        held = element_code(held, code);
+        at += 2;
+    }
+    n
+}
+
+// The code of the last element: members are behind their class.
+fn element_code(held: u8, code: u8) -> u8
+    ensures { λ r. ⌜ r ≡ pick (ltb code 32) code held ⌝ }
+{
+    if code < 32 {
+        return code;
+    }
+    held
+}

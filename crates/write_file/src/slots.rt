@@ -1,0 +1,124 @@
+// The macros of a table, from their slots.
+use crate::Answer;
+use crate::Fault;
+use crate::actions::put_actions;
+use crate::pattern::put_pattern;
+use crate::put::Short;
+use crate::put::put;
+use form_items::two_at;
+ghost use mathlib.Core.Path.{_≡_};
+ghost use Prim.Native.Nat.{_≤_};
+ghost use lib.ListN.{length};
+ghost use Rattle.write_file.specs.Puts.{Puts};
+ghost use Rattle.write_file.specs.Slots.{symbolByte, leftText, rightText, slotText, limitOf, faultOf, answerOf, Parts, Adds, Lists};
+ghost use Rattle.write_file.specs.Contract.{SomeTable};
+
+fn symbol(code: u8) -> u8
+    ensures { λ r. ⌜ r ≡ symbolByte code ⌝ }
+{
+    if code == 1 {
+        return b'<';
+    }
+    b'='
+}
+
+// The pattern in quotes, and the symbol.
+fn put_left(file: &mut [u8], n: usize, slot: &[u8]) -> usize
+    requires { ⌜ (length (now file) ≤ 32768) × Parts (now slot) ⌝ }
+    ensures { λ r. ⌜ Puts n (leftText (now (slot .entry))) (now (file .entry)) (now (file .exit)) r ⌝ }
+{
+    let e = 8 + two_at(slot, 2);
+    let sign = symbol(slot[0]);
+    let m = put_pattern(file, n, &slot[8..e]);
+    put(file, m, Short::Two(b'\'', sign))
+}
+
+// The replacement in quotes, the commands and `;`.
+fn put_right(file: &mut [u8], n: usize, slot: &[u8]) -> usize
+    requires { ⌜ (length (now file) ≤ 32768) × Parts (now slot) ⌝ }
+    ensures { λ r. ⌜ Puts n (rightText (now (slot .entry))) (now (file .entry)) (now (file .exit)) r ⌝ }
+{
+    let p = 8 + two_at(slot, 2);
+    let r = p + two_at(slot, 4);
+    let e = r + two_at(slot, 6);
+    let a = put_actions(file, n, &slot[p..r]);
+    let b = put_actions(file, a, &slot[r..e]);
+    put(file, b, Short::One(b';'))
+}
+
+// The macro of a slot, from its first quote to its `;`.
+fn put_macro(file: &mut [u8], n: usize, slot: &[u8]) -> usize
+    requires { ⌜ (length (now file) ≤ 32768) × Parts (now slot) ⌝ }
+    ensures { λ r. ⌜ Puts n (slotText (now (slot .entry))) (now (file .entry)) (now (file .exit)) r ⌝ }
+{
+    let m = put_left(file, n, slot);
+    put_right(file, m, slot)
+}
+
+// The limit of a macro that begins at `start`: its 513th byte or the file's 32,769th.
+fn limit_of(start: usize) -> usize
+    requires { ⌜ start ≤ 32768 ⌝ }
+    ensures { λ r. ⌜ r ≡ limitOf start ⌝ }
+{
+    if start <= 32256 {
+        return start + 512;
+    }
+    32768
+}
+
+// Which of the two it is: 18 if both.
+fn fault_of(start: usize) -> Fault
+    ensures { λ r. ⌜ r ≡ faultOf start ⌝ }
+{
+    if start <= 32256 {
+        return Fault::MacroTooLong;
+    }
+    Fault::FileTooLong
+}
+
+// The answer for a macro that ends at n, with its line feed at `end`.
+fn answer_of(start: usize, limit: usize, n: usize, end: usize) -> Answer
+    ensures { λ r. ⌜ r ≡ answerOf start limit n end ⌝ }
+{
+    if limit < n {
+        return Answer::Refused(fault_of(start), limit);
+    }
+    if 32768 < end {
+        return Answer::Refused(Fault::FileTooLong, 32768);
+    }
+    Answer::Written(end)
+}
+
+// One macro with its line feed; a macro that does not fit is refused, wherever its line feed goes.
+fn write_macro(file: &mut [u8], start: usize, slot: &[u8]) -> Answer
+    requires { ⌜ (start ≤ 32768) × (length (now file) ≡ 32768) × Parts (now slot) ⌝ }
+    ensures { λ r. ⌜ Adds (now (file .entry)) start (slotText (now (slot .entry))) (now (file .exit)) r ⌝ }
+{
+    let limit = limit_of(start);
+    let n = put_macro(&mut file[..limit], start, slot);
+    let end = put(file, n, Short::One(b'\n'));
+    answer_of(start, limit, n, end)
+}
+
+// The macros up to the first unused slot, oldest first.
+pub(crate) fn write_slots(file: &mut [u8], table: &[u8]) -> Answer
+    requires { ⌜ (length (now file) ≡ 32768) × SomeTable (now table) ⌝ }
+    ensures { λ r. ⌜ Lists (now (table .entry)) (now (file .exit)) r ⌝ }
+{
+    let mut n = 0;
+    let mut k = 0;
+    while k < 96 {
+        let a = 1024 * k;
+        if table[a] == 0 {
+            return Answer::Written(n);
+        }
+        let e = a + 1024;
+        let answer = write_macro(file, n, &table[a..e]);
+        let Answer::Written(next) = answer else {
+            return answer;
+        };
+        n = next;
+        k += 1;
+    }
+    Answer::Written(n)
+}
