@@ -33,18 +33,18 @@ static const struct number numbers[] = {
      "A line may have 1,000,000 passes at most. m7 run takes no larger number.\n",
      NULL, NULL, NULL, "m7_feed with the budget 1,000,001"},
     {M7_FILE_TOO_LONG, writer,
-     "A macro file has at most 32,768 bytes, comments counted. Written out, a table can\n"
-     "be longer than the file that it was read from. Divide it into two tables.\n",
+     "A macro file has at most 32,768 bytes, comments counted. Written out, a table\n"
+     "can be longer than the file that it was read from. Divide it into two tables.\n",
      NULL, NULL, NULL, "a file of 32,769 bytes, whatever they are"},
     {M7_ZERO_BYTE, writer,
      "A macro file is plain text. One that was saved as UTF-16 has a byte 0 beside\n"
      "each letter: save it as UTF-8 or ISO 8859-1.\n",
      NULL, NULL, NULL, "a file that was saved as UTF-16"},
     {M7_INCOMPLETE, writer,
-     "A macro is 'pattern', then = or <, then 'replacement', then commands, then a ; at\n"
-     "its end. One of these is missing, or a quoted text, class, call or skip (from one\n"
-     "/ to the next) is not ended. Inside quotes write \\' for a quote, \\; for ; and \\n\n"
-     "for a line feed.\n",
+     "A macro is 'pattern', then = or <, then 'replacement', then commands, then ; at\n"
+     "its end. One of these is missing, or a quoted text, class, call or skip (from a\n"
+     "/ to the next) is not ended. Inside quotes write \\' for a quote, \\; for ; and\n"
+     "\\n for a line feed.\n",
      "'a'='b'", NULL, NULL, NULL},
     {M7_BAD_CLASS, writer,
      "A class [..] has a member. The ends of a range are two lower case letters, two\n"
@@ -91,9 +91,10 @@ static const struct number numbers[] = {
      "also be a line that the macros made to begin with $.\n",
      "'a'='b';", "$TRACE 2", NULL, NULL},
     {M7_BUDGET_USED_UP, work,
-     "As long as a macro with = occurs, the line is looked at again. Here that did not\n"
-     "end within the budget: mostly a replacement that its own pattern, or that of\n"
-     "another macro, finds again. Write < where once is enough, or take a larger budget.\n",
+     "After each change the line is looked at again from the newest macro on. Here\n"
+     "that did not end within the budget: mostly a replacement that its own pattern,\n"
+     "or that of another macro, finds again. Write < where once is enough, or take a\n"
+     "larger budget.\n",
      "'int'='integer';", "print", "262", NULL},
     {M7_NEW_LINE_TOO_LONG, work,
      "A pass makes a line of at most 1,054 bytes. Mostly a replacement holds what its\n"
@@ -101,8 +102,8 @@ static const struct number numbers[] = {
      "enough.\n",
      "'int'='integer';", "print", NULL, NULL},
     {M7_TAG_TOO_LONG, work,
-     "&(n,i) stores tag n in an entry of a stack, which has 50 bytes. Let the tag match\n"
-     "less.\n",
+     "&(n,i) stores tag n in an entry of a stack, which has 50 bytes. Let the tag\n"
+     "match less.\n",
      "'{a*}'<'b'&(1,t);", "aaaaaaaaaaaaaaaaaaaaaaaaaaaaaaaaaaaaaaaaaaaaaaaaaaa", NULL, NULL},
     {M7_POINTER_TOO_HIGH, work,
      "A stack has 20 entries, and a + moves its pointer up by one. Move it down with -\n"

@@ -76,7 +76,7 @@ int can_save(const char *name)
     strcpy(folder, real);
     if (access(dirname(folder), W_OK | X_OK) == 0)
         return 1;
-    return complain("%s cannot be written in its folder: %s", name, strerror(errno)), 0;
+    return complain("%s: %s; name a file in a folder that can be written", name, strerror(errno)), 0;
 }
 
 /* Writes all bytes to disk, with the rights that the file had or a new one gets. */

@@ -56,25 +56,27 @@ static int load_state(const char *name)
     return complain("%s: %d: %s; %s", name, M7_BAD_STATE, m7_meaning(M7_BAD_STATE), advice);
 }
 
-/* Of a $MACRO line as it was sent: the place of the fault in it, else 0. */
-static size_t fault_in_line(const struct line *line, const m7_answer *answer)
+/* Whether it is a fault of a macro, of a $MACRO line then. */
+static int of_reading(const m7_answer *answer)
 {
-    size_t word = strlen(control_macro);
-    if (answer->number < M7_FILE_TOO_LONG || answer->number > M7_TOO_MANY_MACROS)
-        return 0;
-    if (answer->passes > 0 || line->size < word)
-        return 0;
-    return word + answer->place;
+    return answer->number >= M7_FILE_TOO_LONG && answer->number <= M7_TOO_MANY_MACROS;
+}
+
+/* Of a $MACRO line as it was sent: the place of the fault in it, else 0. */
+static size_t fault_in_line(const m7_answer *answer)
+{
+    return of_reading(answer) && answer->passes == 0 ? strlen(control_macro) + answer->place : 0;
 }
 
 static void show_refusal(const struct line *line, const m7_answer *answer)
 {
-    size_t at = fault_in_line(line, answer);
+    size_t at = fault_in_line(answer);
     fflush(stdout);
     fprintf(stderr, "%s:%zu:", line->name, line->number);
     if (at > 0)
         fprintf(stderr, "%zu:", at + 1);
-    fprintf(stderr, " %u: %s\n", (unsigned)answer->number, m7_meaning(answer->number));
+    fprintf(stderr, " %u: %s%s\n", (unsigned)answer->number, m7_meaning(answer->number),
+            answer->passes > 0 && of_reading(answer) ? ", in the $MACRO line that the macros made" : "");
     if (at > 0)
         show_line(stderr, line->bytes, line->size, at);
 }
@@ -182,7 +184,7 @@ static int run(int count, char **words)
     if (count == 0)
         return usage(&run_command, "name a macro file");
     if (!one_input(count, words))
-        return usage(&run_command, "the table and the lines cannot both come from standard input");
+        return usage(&run_command, "standard input can be read once only, as the table or as lines");
     if (options[1].given != NULL && !take_number(options[1].given, M7_MOST_BUDGET, &job.budget))
         return usage(&run_command, "--budget %s: a budget is a number from 0 to %d",
                      options[1].given, M7_MOST_BUDGET);

@@ -1,9 +1,10 @@
 //! A host in Rust: reads a macro file, feeds the lines of standard input, and
-//! prints what becomes of each. It needs rustc alone:
+//! prints what becomes of each. It needs rustc and the library alone:
 //!
-//!     rustc -O examples/host.rs -L target/staticlib -l static=m7
+//!     rustc -O examples/host.rs -L DIR/lib -l static=m7
 //!     host TABLE < LINES
 
+use std::ffi::{c_char, CStr};
 use std::io::{self, BufRead, Read, Write};
 use std::process::ExitCode;
 
@@ -37,6 +38,7 @@ extern "C" {
         output: *mut u8,
         output_size: usize,
     ) -> Answer;
+    fn m7_meaning(number: u32) -> *const c_char;
 }
 
 /// The memories that are lent. Each is a Vec of its own, so they never overlap.
@@ -78,31 +80,8 @@ impl Engine {
 
 /// What a number means, in a few words.
 fn meaning(number: u32) -> &'static str {
-    match number {
-        1 => "not a table",
-        2 => "not a state",
-        3 => "a memory of another size",
-        4 => "the budget is too large",
-        10 => "the file is too long",
-        11 => "byte 0",
-        12 => "a part is not complete",
-        13 => "an empty class or a bad range",
-        14 => "a closure with no unit",
-        15 => "a brace without its other, or the 100th tag",
-        16 => "a call or tag number that cannot be",
-        17 => "a pattern without an element",
-        18 => "a macro of more than 512 bytes",
-        19 => "the 97th macro",
-        21 => "the line is too long",
-        22 => "byte 0 or a line feed in a line",
-        23 => "a control line that is none",
-        31 => "the budget is used up",
-        32 => "the new line is too long",
-        33 => "a stored tag is too long",
-        34 => "a pointer past 20",
-        35 => "a counter past its end",
-        _ => "taken",
-    }
+    // the library's text is constant, ends in a byte 0 and is ASCII
+    unsafe { CStr::from_ptr(m7_meaning(number)) }.to_str().unwrap_or("")
 }
 
 /// Reads a file whole, or one byte more than the engine takes of it.
