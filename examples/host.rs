@@ -8,11 +8,7 @@ use std::ffi::{c_char, CStr};
 use std::io::{self, BufRead, Read, Write};
 use std::process::ExitCode;
 
-// The sizes and the answer of include/m7.h.
-const TABLE_BYTES: usize = 98304;
-const STATE_BYTES: usize = 26236;
-const OUTPUT_BYTES: usize = 1054;
-const FILE_BYTES: usize = 32768;
+// The kind and the answer of include/m7.h.
 const OUT: u32 = 1;
 
 #[repr(C)]
@@ -39,6 +35,10 @@ extern "C" {
         output_size: usize,
     ) -> Answer;
     fn m7_meaning(number: u32) -> *const c_char;
+    fn m7_table_bytes() -> usize;
+    fn m7_state_bytes() -> usize;
+    fn m7_output_bytes() -> usize;
+    fn m7_file_bytes() -> usize;
 }
 
 /// The memories that are lent. Each is a Vec of its own, so they never overlap.
@@ -51,13 +51,15 @@ struct Engine {
 impl Engine {
     /// The table of a macro file with a fresh state, or the refusal.
     fn new(file: &[u8]) -> Result<Engine, Answer> {
-        let (mut table, mut state) = (vec![0; TABLE_BYTES], vec![0; STATE_BYTES]);
+        let mut table = vec![0; unsafe { m7_table_bytes() }];
+        let mut state = vec![0; unsafe { m7_state_bytes() }];
+        let output = vec![0; unsafe { m7_output_bytes() }];
         let read = unsafe { m7_read(file.as_ptr(), file.len(), table.as_mut_ptr(), table.len()) };
         if read.number != 0 {
             return Err(read);
         }
         unsafe { m7_fresh(state.as_mut_ptr(), state.len()) };
-        Ok(Engine { table, state, output: vec![0; OUTPUT_BYTES] })
+        Ok(Engine { table, state, output })
     }
 
     fn feed(&mut self, line: &[u8], budget: u32) -> Answer {
@@ -87,7 +89,8 @@ fn meaning(number: u32) -> &'static str {
 /// Reads a file whole, or one byte more than the engine takes of it.
 fn load(name: &str) -> io::Result<Vec<u8>> {
     let mut bytes = Vec::new();
-    std::fs::File::open(name)?.take(FILE_BYTES as u64 + 1).read_to_end(&mut bytes)?;
+    let most = unsafe { m7_file_bytes() } as u64 + 1;
+    std::fs::File::open(name)?.take(most).read_to_end(&mut bytes)?;
     Ok(bytes)
 }
 

@@ -13,7 +13,7 @@
                 print(out.decode())
 
 Lines and macro files are bytes; what they mean is said in m7.h and in
-docs/LANGUAGE.md. This file needs Python 3.6 or newer and the shared object of
+LANGUAGE.md. This file needs Python 3.6 or newer and the shared object of
 the library: the one that was installed with it, or the one that the environment
 names in M7_LIBRARY. A Song belongs to one thread at a time; different songs may
 run on different threads at once.
