@@ -84,7 +84,7 @@ int quote_like(uint32_t point);
 
 /* scan.c: the parts of a macro file */
 
-enum part_kind { IGNORED, SKIP, MACRO, PATTERN, REPLACEMENT, CLASS, BRACE, CALL, CALL_TEXT };
+enum part_kind { IGNORED, SKIP, MACRO, PATTERN, REPLACEMENT, CLASS, BRACE, TAG_NUMBER, CALL, CALL_TEXT };
 
 struct part {
     enum part_kind kind;

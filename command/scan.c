@@ -124,6 +124,20 @@ static void close_brace(struct scan *s)
     }
 }
 
+/* {n} in a replacement. */
+static void tag_number(struct scan *s)
+{
+    struct part *part = begin(s, TAG_NUMBER);
+    step(s);
+    for (skips(s); more(s); skips(s)) {
+        step(s);
+        if (s->file[s->at - 1] == '}') {
+            ended(s, part);
+            return;
+        }
+    }
+}
+
 /* What stands at one byte of a quoted text. */
 static void quoted_piece(struct scan *s, enum part_kind kind)
 {
@@ -136,6 +150,8 @@ static void quoted_piece(struct scan *s, enum part_kind kind)
         class(s);
     } else if (kind == PATTERN && here(s) == '}') {
         close_brace(s);
+    } else if (kind == REPLACEMENT && here(s) == '{') {
+        tag_number(s);
     } else {
         if (kind == PATTERN && here(s) == '{')
             begin(s, BRACE);

@@ -133,7 +133,8 @@ static const char *end_of(const struct part *part)
     switch (part->kind) {
     case SKIP: return "/";
     case CLASS: return "]";
-    case BRACE: return "}";
+    case BRACE:
+    case TAG_NUMBER: return "}";
     case CALL: return ")";
     case CALL_TEXT: return ":";
     case MACRO: return rest[scan.lacks];
