@@ -147,6 +147,18 @@ static void show_call(FILE *out, const struct table *table)
     show_place(out, table, open->from, note);
 }
 
+/* Of a 13: what a class has to be. */
+static void show_class(FILE *out, const struct table *table)
+{
+    const struct part *class = last_open(0);
+    const uint8_t *at = table->file + table->answer.place;
+    if (class != NULL)
+        show_place(out, table, class->from,
+                   at[0] == ']' && at[-1] != '\\'
+                       ? "note: this class has no member"
+                       : "note: a range in a class goes up within a-z, A-Z or 0-9");
+}
+
 /* What the first fault has to do with, by its number. */
 static void show_notes(FILE *out, const struct table *table)
 {
@@ -155,6 +167,9 @@ static void show_notes(FILE *out, const struct table *table)
     case M7_INCOMPLETE:
         show_open(out, table);
         show_warnings(out, table);
+        break;
+    case M7_BAD_CLASS:
+        show_class(out, table);
         break;
     case M7_BAD_BRACE:
         if (brace != NULL && table->file[table->answer.place] == '\'')

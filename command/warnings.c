@@ -1,5 +1,5 @@
-/* What reads without a fault but is seldom meant: in a file that is taken, or in
-   the bytes before its first fault, which may come from there. */
+/* What reads without a fault but is seldom meant: in a file that is taken, or
+   before the macro with the first fault, which may come from there. */
 #include "command.h"
 #include <string.h>
 
@@ -95,6 +95,8 @@ size_t show_warnings(FILE *out, const struct table *table)
     scan_file(&scan, table->file, table->answer.number == 0 ? table->size : table->answer.place);
     for (size_t i = 0; i < scan.count; i++) {
         const struct part *part = &scan.parts[i];
+        if (part->kind == MACRO && part->open)
+            break;
         if (part->kind == IGNORED) {
             warnings += warn_ignored(out, table, part);
         } else if (part->kind == SKIP) {
