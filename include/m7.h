@@ -273,6 +273,21 @@ m7_answer m7_feed(uint8_t *table, size_t table_size,
                   const uint8_t *line, size_t line_size, uint32_t budget,
                   uint8_t *output, size_t output_size);
 
+/* The version of this header, and that of the library that is linked. */
+#define M7_VERSION "1.0"
+const char *m7_version(void);
+
+/* What a number means, in a few words of English; of 0 it is "taken". A number
+   that is not listed above has a text too. The text is constant and is never
+   null. */
+const char *m7_meaning(uint32_t number);
+
+/* The sizes above, for languages that cannot read this header. */
+size_t m7_table_bytes(void);
+size_t m7_state_bytes(void);
+size_t m7_output_bytes(void);
+size_t m7_file_bytes(void);
+
 #ifdef __cplusplus
 }
 #endif
