@@ -2,8 +2,8 @@ use Rattle.program.proofs.Lines.{ran-lines, ran-refused}
 use native.Mathlib.Omega.{arith}
 use mathlib.Core.Path.{refl}
 use borrow.Author.Needs.{needs}
-use Rattle.program.proofs.read_and_answer.Statement.{statement}
-use Rattle.program.proofs.read_and_answer.Tie as tie
+use Rattle.program.proofs.run.Statement.{statement}
+use Rattle.program.proofs.run.Tie as tie
 
 read-parts-requires : tie.Need-read-parts-requires
 read-parts-requires c κs = search needs
@@ -26,8 +26,8 @@ refusal-said-requires c κs = search needs
 returns-2 : tie.Need-returns-2
 returns-2 c = (c .refusal-said .ensures .0, ran-refused (c .before .before .before .before .before .before .before .before .pre .0) (c .before .before .before .before .before .read-parts .ensures) (c .before .before .before .parts .given .1) (c .refusal-said .ensures .1) refl)
 
-pub read-and-answer-spec : {M : Type 1} → statement M
-read-and-answer-spec =
+pub run-spec : {M : Type 1} → statement M
+run-spec =
     tie.close
     (tie.spec
     read-parts-requires
