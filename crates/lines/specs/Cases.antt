@@ -1,4 +1,4 @@
--- Cases of parts 3 to 6, computed from quoted file, lines and budget to the answers; the M cases of 01 are in the crate songs. In a string `\\` is one `\`.
+-- Cases of parts 3 to 6, computed from quoted file, lines and budget to the answers; the M cases of 01 are in the crate m_cases. In a string `\\` is one `\`.
 use mathlib.Core.Path.{_≡_, refl}
 use Prim.Native.Nat.{ℕ}
 use mathlib.Core.List.{List, [], _∷_, _++_}
@@ -73,6 +73,21 @@ pub lineCases :
     (songs "'n'<'#(n)';'o'<'$TRACE 0'#(n=5);'q'<'$FOO'#(n=7);" ("o" ∷ "n" ∷ "q" ∷ "n" ∷ []) ≡ said (bytes "") 2 ∷ said (bytes "5") 5 ∷ refused 23 0 1 ∷ said (bytes "5") 5 ∷ [])
 unfolding everything
 lineCases = (refl, refl, refl, refl, refl, refl, refl, refl, refl, refl, refl, refl, refl, refl, refl)
+
+-- 02, N3: a line under each kind with letters beyond ASCII, and the signs among them; ranges and calls keep to ASCII
+pub letterCases :
+    (songs "'{?3*}'<'({1})';" ("L'été à Nîmes: 2 × 3" ∷ "Süße Grüße, Änne" ∷ []) ≡ said (bytes "(L)'(été) (à) (Nîmes): 2 × 3") 1 ∷ said (bytes "(Süße) (Grüße), (Änne)") 1 ∷ []) ×
+    (songs "'{?2*}'<'({1})';" ("6÷2×é1 ªµº" ∷ []) ≡ said (bytes "(6)÷(2)×(é1) ªµº") 1 ∷ []) ×
+    (songs "'{?4*}'<'({1})';" ("¿ÀÖ×ØÞßZ" ∷ []) ≡ said (bytes "¿(ÀÖ)×(ØÞ)ß(Z)") 1 ∷ []) ×
+    (songs "'{?5*}'<'({1})';" ("Þßö÷øÿz" ∷ []) ≡ said (bytes "Þ(ßö)÷(øÿz)") 1 ∷ []) ×
+    (songs "'{?6*}'<'({1})';" ("é1é" ∷ []) ≡ said (bytes "é(1)é") 1 ∷ []) ×
+    (songs "'[éa-z]*'<'x';" ("thé à" ∷ []) ≡ said (bytes "x à") 1 ∷ []) ×
+    (song "'[a-é]'='';" 1 "" ≡ refused 13 4 0 ∷ []) ×
+    (song "'[à-é]'='';" 1 "" ≡ refused 13 4 0 ∷ []) ×
+    (song "'[A-Ö]'='';" 1 "" ≡ refused 13 4 0 ∷ []) ×
+    (song "'&(é)'='';" 1 "" ≡ refused 16 3 0 ∷ [])
+unfolding everything
+letterCases = (refl, refl, refl, refl, refl, refl, refl, refl, refl, refl)
 
 -- 4, 21, 22 and 33 at their bounds
 pub lineBounds :
