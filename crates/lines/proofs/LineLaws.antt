@@ -18,7 +18,7 @@ use Rattle.lines.specs.Matching.{Divides}
 use Rattle.lines.specs.Replacing.{Work, Done}
 use Rattle.lines.specs.Replacing.Done.{bad, good}
 use Rattle.lines.specs.Pass.{Walk, ended, occurs, pass, occurred, outcome}
-use Rattle.lines.specs.Line.{Numbered, Pass, Line, passed, refused, done, control, isIn, newestFirst, closing, closedBy}
+use Rattle.lines.specs.Line.{Sent, Numbered, Pass, Line, passed, refused, done, control, isIn, newestFirst, closing, closedBy}
 use Rattle.lines.specs.Line.{isControl, due, follow, afterPass, textOf, passes, lineOf, passesOf, hadOccurrence, ending}
 use Rattle.lines.specs.Line.{Line.ended as lineEnded}
 use Rattle.lines.specs.Feeding.{withheld, out, kindOfDone}
@@ -135,9 +135,9 @@ passes-hold ms (suc budget) closed since todo st t a =
     (λ w. passes-hold ms budget (closedBy e closed) [] (newestFirst (closedBy e closed) ms) (w .state) (textOf w) (todo-all ms (closedBy e closed))))
 
 -- THE LAW
-pub line-holds : (ms : Table) (st : State) (budget : ℕ) (t : List ℕ) → Passes ms [] [] t st (lineOf ms st budget t)
+pub line-holds : (ms : Table) (st : State) (sent : Sent) → Passes ms [] [] (sent .line) st (lineOf ms st sent)
 unfolding lineOf
-line-holds ms st budget t = passes-hold ms _ [] [] (newestFirst [] ms) st t (todo-all ms [])
+line-holds ms st sent = passes-hold ms _ [] [] (newestFirst [] ms) st (sent .line) (todo-all ms [])
 
 -- WHAT IS LEFT AT THE END
 
@@ -206,14 +206,14 @@ or-false : (a b : Bool) → (a || b ≡ false) ↔ ((a ≡ false) × (b ≡ fals
 or-false true b = (λ e. absurd (false≢true (sym e)), λ h. absurd (false≢true (sym (h .0))))
 or-false false b = (λ e. (refl, e), λ h. h .1)
 
-no-occurrence : (l : Line) → (hadOccurrence l ≡ false) ↔ NoOccurrence l
-unfolding hadOccurrence
+no-occurrence : (l : Line) → (hadOccurrence (passesOf l) ≡ false) ↔ NoOccurrence l
+unfolding passesOf hadOccurrence
 no-occurrence (lineEnded e) = (λ e. tt, λ h. refl)
 no-occurrence (passed x l) =
-    let y = or-false (occurred (x .events)) (hadOccurrence l) in
+    let y = or-false (occurred (x .events)) (hadOccurrence (passesOf l)) in
     (λ e. (y .0 e .0, no-occurrence l .0 (y .0 e .1)), λ h. y .1 (h .0, no-occurrence l .1 (h .1)))
 
-pub kind-of-done : (l : Line) (s : List ℕ) (st : State) (f : ℕ) (o : Bool) → st .nflag ≡ f → hadOccurrence l ≡ o
+pub kind-of-done : (l : Line) (s : List ℕ) (st : State) (f : ℕ) (o : Bool) → st .nflag ≡ f → hadOccurrence (passesOf l) ≡ o
     → (Withholds st l × (kindOfDone f o s ≡ withheld)) ⊎ ((Withholds st l → ⊥) × (kindOfDone f o s ≡ out s))
 unfolding kindOfDone
 kind-of-done l s st zero o e g = inr (λ h. h .0 e, refl)

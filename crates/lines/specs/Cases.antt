@@ -14,9 +14,9 @@ use Rattle.lines.specs.State.{State, freshStack, freshCounter, fresh, st
 use Rattle.lines.specs.Matching.{Span, span, byteFits, begins, isMember, inClass, fits, width, Copies, Allowed, Satisfies, Divides, endOf, Fewer, then, more, spare, repeated, isEnd, chosen, closing, tagText}
 use Rattle.lines.specs.Replacing.{unless, onto, puts, put, withStack, withCounter, withPointer, withValue, withIncrement, withEntry, fallen, moves, early, late, stores, callActs, acts, replaces, commandsAct, occur}
 use Rattle.lines.specs.Pass.{Occurrence, barred, unlessBarred, counting, match, goOn, matched, atEnd, onward, atByte, walk, pass, occurrences, occurred, outcome}
-use Rattle.lines.specs.Line.{isIn, unlessClosed, openFrom, newestFirst, closing as closingMacro, closedBy, isControl, due, follow, afterPass, textOf, passes, lineOf, passesOf, hadOccurrence, ending}
+use Rattle.lines.specs.Line.{Sent, isIn, unlessClosed, openFrom, newestFirst, closing as closingMacro, closedBy, isControl, due, follow, afterPass, textOf, passes, lineOf, passesOf, hadOccurrence, ending}
 use Rattle.lines.specs.Feeding.Kind.{refusedWith, out, withheld, controlled}
-use Rattle.lines.specs.Feeding.{Kind, Answer, Fed, bytes, same, withTrace, withNflag, flagOrder, macroOrder, orderOf, numberOf, placeOf, kindNumber, outputOf, kindOfDone, refusal, ofOrder, answered, answer, hasBadByte, feed, feeds}
+use Rattle.lines.specs.Feeding.{Kind, Answer, bytes, same, withTrace, withNflag, flagOrder, macroOrder, orderOf, numberOf, placeOf, kindNumber, outputOf, kindOfDone, refusal, ofOrder, answered, answer, hasBadByte, feed, feeds}
 
 -- the name that opens all definitions for a computed case
 unfoldable pub everything : ℕ
@@ -39,17 +39,21 @@ shownAnswers [] = []
 shownAnswers (a ∷ as₁) = shownKind (a .passes) (a .kind) ∷ shownAnswers as₁
 
 -- lines fed to what reading made of a file
-abbrev pub fedTo : List Fed → Read → List Shown
+abbrev pub fedTo : List Sent → Read → List Shown
 fedTo xs (refusedAt r p) = refused (fileNumber r) p 0 ∷ []
 fedTo xs (table ms) = shownAnswers (feeds ms fresh xs)
 
+-- a line sent with a budget
+abbrev pub sent : ℕ → List ℕ → Sent
+sent n t = record { line = t; budget = n }
+
 -- a file, and lines with one budget for all
-abbrev pub lines : ℕ → List String → List Fed
+abbrev pub lines : ℕ → List String → List Sent
 lines n [] = []
-lines n (s ∷ ss) = (n, bytes s) ∷ lines n ss
+lines n (s ∷ ss) = sent n (bytes s) ∷ lines n ss
 
 abbrev pub song : String → ℕ → String → List Shown
-song f n s = fedTo ((n, bytes s) ∷ []) (readFile (bytes f))
+song f n s = fedTo (sent n (bytes s) ∷ []) (readFile (bytes f))
 
 abbrev pub songs : String → List String → List Shown
 songs f ss = fedTo (lines 10000 ss) (readFile (bytes f))
@@ -91,7 +95,7 @@ letterCases = (refl, refl, refl, refl, refl, refl, refl, refl, refl, refl)
 
 -- 4, 21, 22 and 33 at their bounds
 pub lineBounds :
-    (fedTo ((1000000, replicate 1054 120) ∷ (1000001, replicate 1055 0) ∷ (10000, replicate 1055 0) ∷ (10000, 97 ∷ 0 ∷ []) ∷ (10000, 10 ∷ []) ∷ []) (readFile []) ≡ said (replicate 1054 120) 0 ∷ refused 4 0 0 ∷ refused 21 0 0 ∷ refused 22 0 0 ∷ refused 22 0 0 ∷ []) ×
-    (fedTo ((10000, replicate 50 97) ∷ (10000, replicate 51 97) ∷ []) (readFile (bytes "'{a*}'<'b'&(1,t);")) ≡ said (bytes "b") 1 ∷ refused 33 0 1 ∷ [])
+    (fedTo (sent 1000000 (replicate 1054 120) ∷ sent 1000001 (replicate 1055 0) ∷ sent 10000 (replicate 1055 0) ∷ sent 10000 (97 ∷ 0 ∷ []) ∷ sent 10000 (10 ∷ []) ∷ []) (readFile []) ≡ said (replicate 1054 120) 0 ∷ refused 4 0 0 ∷ refused 21 0 0 ∷ refused 22 0 0 ∷ refused 22 0 0 ∷ []) ×
+    (fedTo (sent 10000 (replicate 50 97) ∷ sent 10000 (replicate 51 97) ∷ []) (readFile (bytes "'{a*}'<'b'&(1,t);")) ≡ said (bytes "b") 1 ∷ refused 33 0 1 ∷ [])
 unfolding everything
 lineBounds = (refl, refl)
