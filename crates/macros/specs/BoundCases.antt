@@ -1,11 +1,11 @@
--- The bounds of a macro file (01, "Bounds"), computed.
+-- Cases of the bounds of a macro file (01, "Bounds"), computed.
 use mathlib.Core.Path.{_≡_, refl}
 use Prim.Native.Nat.{ℕ, zero, suc}
 use mathlib.Core.List.{List, [], _∷_, _++_}
 use lib.ListN.{replicate}
 use Rattle.macros.specs.Read.{readFile, readOnto}
 use Rattle.macros.specs.Read.Read.{refusedAt, table}
 use Rattle.macros.specs.Cases.{everything, bytes, shown, sized}
 
 -- n copies of some bytes
 abbrev times : ℕ → List ℕ → List ℕ
