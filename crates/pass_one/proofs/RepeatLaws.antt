@@ -18,7 +18,8 @@ use Rattle.macros.specs.Macro.Piece.{element, start, end, left, right}
 use Rattle.lines.specs.State.{State}
 use Rattle.lines.specs.Matching.{Division, Rest, fits, width, isEnd, then, more, spare, repeated, chosen, stops}
 use Rattle.lines.proofs.MoreLaws.{stopsOf, or-else, more-false, more-true, more-count, more-again}
-use Rattle.pass_one.specs.Pieces.{codeUnit, membersOf, codeClosure, closureOf, fitU, widthU, ledTo, leadOf, again}
+use Rattle.form_element.specs.Element.{codeUnit, codeClosure, closureOf}
+use Rattle.pass_one.specs.Pieces.{membersOf, fitU, widthU, ledTo, leadOf, again}
 use Rattle.pass_one.specs.Trying.{thenP, foundOf}
 use Rattle.pass_one.specs.declared.unit.Lead.the-variants.{After, Nothing}
 

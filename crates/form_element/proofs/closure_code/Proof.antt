@@ -1,16 +1,16 @@
 use Rattle.form_table.specs.Form.{closureCode}
 use borrow.Author.Needs.{needs}
-use Rattle.read_pattern.proofs.pattern.closure_code.Statement.{statement}
-use Rattle.read_pattern.proofs.pattern.closure_code.Tie as tie
+use Rattle.form_element.proofs.closure_code.Statement.{statement}
+use Rattle.form_element.proofs.closure_code.Tie as tie
 
 enum-told : tie.Need-enum-told
-enum-told c = c .match .keys1
+enum-told c = search needs
 
 enum-told-2 : tie.Need-enum-told-2
-enum-told-2 c = c .match .keys2
+enum-told-2 c = search needs
 
 enum-told-3 : tie.Need-enum-told-3
-enum-told-3 c = c .match .keys3
+enum-told-3 c = search needs
 
 returns : tie.Need-returns
 unfolding closureCode

@@ -1,9 +1,8 @@
--- Assumes nothing.
-use Rattle.pass_one.proofs.unit.closure_of.Statement.{statement}
-use Rattle.pass_one.proofs.unit.closure_of.Tie as tie
 use borrow.Author.Tests.{eq-eqb, ne-eqb, lt-ltb, le-ltb}
 use Rattle.macros.specs.Macro.{pick}
-use Rattle.pass_one.specs.Pieces.{closureAt}
+use Rattle.form_element.specs.Element.{closureAt}
+use Rattle.form_element.proofs.closure_of.Statement.{statement}
+use Rattle.form_element.proofs.closure_of.Tie as tie
 
 returns : tie.Need-returns
 unfolding closureAt pick
