@@ -16,3 +16,4 @@ pub mod Budget
 pub mod OneLine
 pub mod TagsAtWork
 pub mod Cases
+pub mod LineCases
