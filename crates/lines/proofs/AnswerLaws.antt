@@ -16,9 +16,9 @@ use Rattle.macros.specs.Read.{readOnto}
 use Rattle.macros.specs.Read.Read.{refusedAt, table}
 use Rattle.lines.specs.State.{State}
 use Rattle.lines.specs.Matching.{begins}
-use Rattle.lines.specs.Line.{Ending, Line, refused, done, control, passesOf, hadOccurrence, ending, lineOf}
+use Rattle.lines.specs.Line.{Sent, Ending, Line, refused, done, control, passesOf, hadOccurrence, ending, lineOf}
 use Rattle.lines.specs.Feeding.{bytes, same, withTrace, withNflag, flagOrder, macroOrder, Order, wrong, orders, orderOf}
-use Rattle.lines.specs.Feeding.{Kind, refusedWith, out, withheld, controlled, Answer, kindOfDone, refusal, ofOrder, answered, answer, hasBadByte, Fed, feed}
+use Rattle.lines.specs.Feeding.{Kind, refusedWith, out, withheld, controlled, Answer, kindOfDone, refusal, ofOrder, answered, answer, hasBadByte, feed}
 use Rattle.lines.specs.Controls.{Says}
 use Rattle.lines.specs.Demand.{endOfLine, passCount, Withholds, HasBadByte, Fits, History, Run, Finished, ByKind}
 use Rattle.lines.specs.OneLine.{OneAnswer, Meets, OneList}
@@ -38,22 +38,22 @@ by-false false h = refl
 
 -- A LINE THAT IS FED
 
-module _ (ms : Table) (st : State) (budget : ℕ) (t : List ℕ) where
-  feed-costly : mostBudget < budget → feed ms st budget t ≡ refusal ms st 0 (ofHost budgetTooLarge)
+module _ (ms : Table) (st : State) (sent : Sent) where
+  feed-costly : mostBudget < sent .budget → feed ms st sent ≡ refusal ms st 0 (ofHost budgetTooLarge)
   unfolding feed
-  feed-costly h = rw (lt-leb budget mostBudget h, feed)
+  feed-costly h = rw (lt-leb (sent .budget) mostBudget h, feed)
 
-  feed-long : budget ≤ mostBudget → mostLineBytes < length t → feed ms st budget t ≡ refusal ms st 0 (ofLine lineTooLong)
+  feed-long : sent .budget ≤ mostBudget → mostLineBytes < length (sent .line) → feed ms st sent ≡ refusal ms st 0 (ofLine lineTooLong)
   unfolding feed
-  feed-long h g = rw (le-leb budget mostBudget h, lt-leb (length t) mostLineBytes g, feed)
+  feed-long h g = rw (le-leb (sent .budget) mostBudget h, lt-leb (length (sent .line)) mostLineBytes g, feed)
 
-  feed-bad : budget ≤ mostBudget → length t ≤ mostLineBytes → HasBadByte t → feed ms st budget t ≡ refusal ms st 0 (ofLine badByte)
+  feed-bad : sent .budget ≤ mostBudget → length (sent .line) ≤ mostLineBytes → HasBadByte (sent .line) → feed ms st sent ≡ refusal ms st 0 (ofLine badByte)
   unfolding feed
-  feed-bad h g f = rw (le-leb budget mostBudget h, le-leb (length t) mostLineBytes g, by-true (hasBadByte t) (λ e. no-bad-byte t e f), feed)
+  feed-bad h g f = rw (le-leb (sent .budget) mostBudget h, le-leb (length (sent .line)) mostLineBytes g, by-true (hasBadByte (sent .line)) (λ e. no-bad-byte (sent .line) e f), feed)
 
-  feed-runs : Fits budget t → feed ms st budget t ≡ answer ms st (lineOf ms st budget t)
+  feed-runs : Fits sent → feed ms st sent ≡ answer ms st (lineOf ms st sent)
   unfolding feed
-  feed-runs f = rw (le-leb budget mostBudget (f .few), le-leb (length t) mostLineBytes (f .short), by-false (hasBadByte t) (λ e. f .clean (bad-byte t e)), feed)
+  feed-runs f = rw (le-leb (sent .budget) mostBudget (f .few), le-leb (length (sent .line)) mostLineBytes (f .short), by-false (hasBadByte (sent .line)) (λ e. f .clean (bad-byte (sent .line) e)), feed)
 
 -- A CONTROL LINE
 
@@ -116,26 +116,26 @@ module _ (ms : Table) (x : State) where
 answer-same : (a b : Answer) → a .kind ≡ b .kind → a .passes ≡ b .passes → a .table ≡ b .table → a .state ≡ b .state → a ≡ b
 answer-same a b k p t s = λ i. record { kind = k i; passes = p i; table = t i; state = s i }
 
-module _ (ms : Table) (st : State) (budget : ℕ) (t : List ℕ) where
+module _ (ms : Table) (st : State) (sent : Sent) where
   abbrev count : ℕ
-  count = length (passesOf (lineOf ms st budget t))
+  count = length (passesOf (lineOf ms st sent))
 
   -- the history is the one that the definition makes
-  is-line : (l : Line) (a : Answer) → Run ms st budget t l a → l ≡ lineOf ms st budget t
-  is-line l a r = one-line ms st budget t l (lineOf ms st budget t) (r .history) (line-history ms st budget t (r .history .fits))
+  is-line : (l : Line) (a : Answer) → Run ms st sent l a → l ≡ lineOf ms st sent
+  is-line l a r = one-line ms st sent l (lineOf ms st sent) (r .history) (line-history ms st sent (r .history .fits))
 
-  passes-are : (l : Line) (a : Answer) → Run ms st budget t l a → a .passes ≡ count
-  passes-are l a r = r .number ∙ ap passCount (is-line l a r) ∙ sym (pass-count (lineOf ms st budget t))
+  passes-are : (l : Line) (a : Answer) → Run ms st sent l a → a .passes ≡ count
+  passes-are l a r = r .number ∙ ap passCount (is-line l a r) ∙ sym (pass-count (lineOf ms st sent))
 
   -- feed's answer, by the history's end
-  feed-ends : (l : Line) (a : Answer) → Run ms st budget t l a → (e : Ending) → endOfLine l ≡ e
-      → feed ms st budget t ≡ answered ms st count (hadOccurrence (lineOf ms st budget t)) e
+  feed-ends : (l : Line) (a : Answer) → Run ms st sent l a → (e : Ending) → endOfLine l ≡ e
+      → feed ms st sent ≡ answered ms st count (hadOccurrence (lineOf ms st sent)) e
   unfolding answer
   feed-ends l a r e f =
-      feed-runs ms st budget t (r .history .fits)
-      ∙ ap (answered ms st count (hadOccurrence (lineOf ms st budget t))) (end-of-line (lineOf ms st budget t) ∙ ap endOfLine (sym (is-line l a r)) ∙ f)
+      feed-runs ms st sent (r .history .fits)
+      ∙ ap (answered ms st count (hadOccurrence (lineOf ms st sent))) (end-of-line (lineOf ms st sent) ∙ ap endOfLine (sym (is-line l a r)) ∙ f)
 
-  finished-is : (l : Line) (a : Answer) (s : List ℕ) → Run ms st budget t l a → Finished ms l a s → a ≡ feed ms st budget t
+  finished-is : (l : Line) (a : Answer) (s : List ℕ) → Run ms st sent l a → Finished ms l a s → a ≡ feed ms st sent
   unfolding answered
   finished-is l a s r f =
       answer-same a (record { kind = kindOfDone (a .state .nflag) (hadOccurrence whole) s; passes = count; table = ms; state = a .state })
@@ -144,10 +144,10 @@ module _ (ms : Table) (st : State) (budget : ℕ) (t : List ℕ) where
       ∙ sym (feed-ends l a r (done s (a .state)) (f .final))
     where
       whole : Line
-      whole = lineOf ms st budget t
+      whole = lineOf ms st sent
 
       made : Kind
-      made = kindOfDone (a .state .nflag) (hadOccurrence (lineOf ms st budget t)) s
+      made = kindOfDone (a .state .nflag) (hadOccurrence (lineOf ms st sent)) s
 
       kinds : (Withholds (a .state) l × (a .kind ≡ withheld)) ⊎ ((Withholds (a .state) l → ⊥) × (a .kind ≡ out s))
           → (Withholds (a .state) l × (made ≡ withheld)) ⊎ ((Withholds (a .state) l → ⊥) × (made ≡ out s)) → a .kind ≡ made
@@ -156,24 +156,24 @@ module _ (ms : Table) (st : State) (budget : ℕ) (t : List ℕ) where
       kinds (inr h) (inl g) = absurd (h .0 (g .0))
       kinds (inr h) (inr g) = h .1 ∙ sym (g .1)
 
-  refused-is : (l : Line) (a : Answer) (x : Refusal) → Run ms st budget t l a → a .kind ≡ refusedWith x → a .table ≡ ms → a .state ≡ st → feed ms st budget t ≡ refusal ms st count x
-      → a ≡ feed ms st budget t
+  refused-is : (l : Line) (a : Answer) (x : Refusal) → Run ms st sent l a → a .kind ≡ refusedWith x → a .table ≡ ms → a .state ≡ st → feed ms st sent ≡ refusal ms st count x
+      → a ≡ feed ms st sent
   unfolding refusal
   refused-is l a x r k m s f = answer-same a (refusal ms st count x) k (passes-are l a r) m s ∙ sym f
 
   -- a refusal before any pass
-  early-is : (a : Answer) (x : Refusal) → a .kind ≡ refusedWith x → a .table ≡ ms → a .state ≡ st → a .passes ≡ 0 → feed ms st budget t ≡ refusal ms st 0 x → a ≡ feed ms st budget t
+  early-is : (a : Answer) (x : Refusal) → a .kind ≡ refusedWith x → a .table ≡ ms → a .state ≡ st → a .passes ≡ 0 → feed ms st sent ≡ refusal ms st 0 x → a ≡ feed ms st sent
   unfolding refusal
   early-is a x k m s p f = answer-same a (refusal ms st 0 x) k p m s ∙ sym f
 
-  fixed : (l : Line) (a : Answer) (k : Kind) → a .kind ≡ k → ByKind ms st budget t l a k → a ≡ feed ms st budget t
+  fixed : (l : Line) (a : Answer) (k : Kind) → a .kind ≡ k → ByKind ms st sent l a k → a ≡ feed ms st sent
   unfolding answered ofOrder
   fixed l a (refusedWith (ofHost badMemory)) e h = absurd (h .2)
   fixed l a (refusedWith (ofHost badTable)) e h = absurd (h .2)
   fixed l a (refusedWith (ofHost badState)) e h = absurd (h .2)
-  fixed l a (refusedWith (ofHost budgetTooLarge)) e h = early-is a (ofHost budgetTooLarge) e (h .0) (h .1) (h .2 .1) (feed-costly ms st budget t (h .2 .0))
-  fixed l a (refusedWith (ofLine lineTooLong)) e h = early-is a (ofLine lineTooLong) e (h .0) (h .1) (h .2 .2) (feed-long ms st budget t (h .2 .0) (h .2 .1))
-  fixed l a (refusedWith (ofLine badByte)) e h = early-is a (ofLine badByte) e (h .0) (h .1) (h .2 .3) (feed-bad ms st budget t (h .2 .0) (h .2 .1) (h .2 .2))
+  fixed l a (refusedWith (ofHost budgetTooLarge)) e h = early-is a (ofHost budgetTooLarge) e (h .0) (h .1) (h .2 .1) (feed-costly ms st sent (h .2 .0))
+  fixed l a (refusedWith (ofLine lineTooLong)) e h = early-is a (ofLine lineTooLong) e (h .0) (h .1) (h .2 .2) (feed-long ms st sent (h .2 .0) (h .2 .1))
+  fixed l a (refusedWith (ofLine badByte)) e h = early-is a (ofLine badByte) e (h .0) (h .1) (h .2 .3) (feed-bad ms st sent (h .2 .0) (h .2 .1) (h .2 .2))
   fixed l a (refusedWith (ofLine badControl)) e h =
       let c = h .2 .1 in
       refused-is l a (ofLine badControl) (h .2 .0) e (h .0) (h .1)
@@ -192,7 +192,7 @@ module _ (ms : Table) (st : State) (budget : ℕ) (t : List ℕ) where
 
 -- THE LAW
 pub one-answer : OneAnswer
-one-answer ms st budget t l k a b h g = fixed ms st budget t l a (a .kind) refl h ∙ sym (fixed ms st budget t k b (b .kind) refl g)
+one-answer ms st sent l k a b h g = fixed ms st sent l a (a .kind) refl h ∙ sym (fixed ms st sent k b (b .kind) refl g)
 
 pub one-list : OneList
 one-list ms st [] [] [] h g = refl
@@ -201,6 +201,6 @@ one-list ms st [] (a ∷ as₁) bs h g = absurd h
 one-list ms st (x ∷ xs) [] bs h g = absurd h
 one-list ms st (x ∷ xs) (a ∷ as₁) [] h g = absurd g
 one-list ms st (x ∷ xs) (a ∷ as₁) (b ∷ bs) h g =
-    let e : a ≡ b = one-answer ms st (x .0) (x .1) (h .0 .0) (g .0 .0) a b (h .0 .1) (g .0 .1) in
+    let e : a ≡ b = one-answer ms st x (h .0 .0) (g .0 .0) a b (h .0 .1) (g .0 .1) in
     let i : as₁ ≡ bs = one-list (a .table) (a .state) xs as₁ bs (h .1) (subst (λ (c : Answer). Meets (c .table) (c .state) xs bs) (sym e) (g .1)) in
     ap (λ (c : Answer). c ∷ as₁) e ∙ ap (λ (l : List Answer). b ∷ l) i

@@ -12,7 +12,7 @@ use Rattle.lines.specs.State.{State}
 use Rattle.lines.specs.Replacing.{Work, Done}
 use Rattle.lines.specs.Replacing.Done.{bad, good}
 use Rattle.lines.specs.Pass.{pass, occurred, outcome}
-use Rattle.lines.specs.Line.{Numbered, Pass, Ending, Line, passed, refused, done, control, newestFirst, closedBy}
+use Rattle.lines.specs.Line.{Sent, Numbered, Pass, Ending, Line, passed, refused, done, control, newestFirst, closedBy}
 use Rattle.lines.specs.Line.{isControl, due, follow, afterPass, textOf, passes, lineOf}
 use Rattle.lines.specs.Line.{Line.ended as lineEnded}
 use Rattle.lines.specs.Demand.{passCount, endOfLine}
@@ -60,9 +60,9 @@ passes-budgeted ms (suc n) closed todo st t =
     (λ w. passes-budgeted ms n (closedBy e closed) (newestFirst (closedBy e closed) ms) (w .state) (textOf w))))
 
 -- THE LAW
-pub line-budgeted : (ms : Table) (st : State) (n : ℕ) (t : List ℕ) → Budgeted n (lineOf ms st n t)
+pub line-budgeted : (ms : Table) (st : State) (sent : Sent) → Budgeted (sent .budget) (lineOf ms st sent)
 unfolding lineOf
-line-budgeted ms st n t = passes-budgeted ms n [] (newestFirst [] ms) st t
+line-budgeted ms st sent = passes-budgeted ms (sent .budget) [] (newestFirst [] ms) st (sent .line)
 
 -- THE EXACT RULE FOR 31
 
@@ -139,4 +139,4 @@ module _ (ms : Table) where
 -- THE LAW
 pub budget-exact : BudgetExact
 unfolding lineOf
-budget-exact ms st b t = exact ms b [] (newestFirst [] ms) st t
+budget-exact ms st sent = exact ms (sent .budget) [] (newestFirst [] ms) st (sent .line)

@@ -13,8 +13,8 @@ use Rattle.macros.specs.Refusals.Refusal.{ofHost, ofLine, ofFile, ofWork}
 use Rattle.macros.specs.Refusals.LineRefusal.{lineTooLong, badByte, badControl}
 use Rattle.macros.specs.Macro.{Table}
 use Rattle.lines.specs.State.{State, fresh}
-use Rattle.lines.specs.Line.{Ending, Line, refused, done, control, isIn, passesOf, hadOccurrence, ending, lineOf}
-use Rattle.lines.specs.Feeding.{Order, wrong, orders, orderOf, Answer, kindOfDone, refusal, ofOrder, answered, answer, hasBadByte, feed, Fed, feeds}
+use Rattle.lines.specs.Line.{Sent, Ending, Line, refused, done, control, isIn, passesOf, hadOccurrence, ending, lineOf}
+use Rattle.lines.specs.Feeding.{Order, wrong, orders, orderOf, Answer, kindOfDone, refusal, ofOrder, answered, answer, hasBadByte, feed, feeds}
 use Rattle.lines.specs.Controls.{Says}
 use Rattle.lines.specs.Demand.{HasBadByte, Fits, History, Run, Finished, ByKind, Lines, Demand3}
 use Rattle.lines.proofs.LineLaws.{line-holds, left-nothing, pass-count, end-of-line, kind-of-done}
@@ -47,17 +47,17 @@ no-bad-byte (b ∷ bs) e h = go (no-bad-byte bs) (eqb b 0) refl (eqb b 10) refl 
     go ih false f false g h (inr (inr z)) = ih h z
 
 -- a line that fits, and the answer that its history makes
-module _ (ms : Table) (st : State) (budget : ℕ) (t : List ℕ) (fits : Fits budget t) where
+module _ (ms : Table) (st : State) (sent : Sent) (fits : Fits sent) where
   abbrev history : Line
-  history = lineOf ms st budget t
+  history = lineOf ms st sent
 
   abbrev count : ℕ
   count = length (passesOf history)
 
-  pub line-history : History ms st budget t history
-  line-history = record { fits = fits; passes = line-holds ms st budget t; within = line-budgeted ms st budget t .within; usedUp = line-budgeted ms st budget t .usedUp }
+  pub line-history : History ms st sent history
+  line-history = record { fits = fits; passes = line-holds ms st sent; within = line-budgeted ms st sent .within; usedUp = line-budgeted ms st sent .usedUp }
 
-  run : (a : Answer) → a .passes ≡ count → Run ms st budget t history a
+  run : (a : Answer) → a .passes ≡ count → Run ms st sent history a
   run a n = record { history = line-history; number = n ∙ pass-count history }
 
   finished : (s : List ℕ) (z : State) → ending history ≡ done s z
@@ -68,18 +68,18 @@ module _ (ms : Table) (st : State) (budget : ℕ) (t : List ℕ) (fits : Fits bu
         final = sym (end-of-line history) ∙ e;
         kind = kind-of-done history s z (z .nflag) (hadOccurrence history) refl refl;
         table = refl;
-        nothingLeft = λ i m at f. left-nothing ms s z i m at [] [] t st history (line-holds ms st budget t) (λ j k b c d. absurd (false≢true d)) e f;
+        nothingLeft = λ i m at f. left-nothing ms s z i m at [] [] (sent .line) st history (line-holds ms st sent) (λ j k b c d. absurd (false≢true d)) e f;
       }
 
   done-holds : (s : List ℕ) (z : State) → ending history ≡ done s z → (f : ℕ) (o : Bool)
-      → ByKind ms st budget t history (record { kind = kindOfDone (z .nflag) (hadOccurrence history) s; passes = count; table = ms; state = z }) (kindOfDone f o s)
+      → ByKind ms st sent history (record { kind = kindOfDone (z .nflag) (hadOccurrence history) s; passes = count; table = ms; state = z }) (kindOfDone f o s)
   unfolding kindOfDone
   done-holds s z e zero o = (run _ refl, finished s z e)
   done-holds s z e (suc f) true = (run _ refl, finished s z e)
   done-holds s z e (suc f) false = (run _ refl, (s, finished s z e))
 
   control-holds : (s : List ℕ) (z : State) → ending history ≡ control s z → (x : Order) → Says ms z s x
-      → ByKind ms st budget t history (ofOrder ms st count x) (ofOrder ms st count x .kind)
+      → ByKind ms st sent history (ofOrder ms st count x) (ofOrder ms st count x .kind)
   unfolding ofOrder refusal
   control-holds s z e (wrong (ofHost r)) g = absurd g
   control-holds s z e (wrong (ofLine lineTooLong)) g = absurd g
@@ -90,27 +90,27 @@ module _ (ms : Table) (st : State) (budget : ℕ) (t : List ℕ) (fits : Fits bu
   control-holds s z e (orders ks y) g = (run _ refl, (s, z, record { final = sym (end-of-line history) ∙ e; ordered = g }))
 
   ending-holds : (e : Ending) → ending history ≡ e
-      → ByKind ms st budget t history (answered ms st count (hadOccurrence history) e) (answered ms st count (hadOccurrence history) e .kind)
+      → ByKind ms st sent history (answered ms st count (hadOccurrence history) e) (answered ms st count (hadOccurrence history) e .kind)
   unfolding answered refusal
   ending-holds (refused r) e = (refl, refl, (run _ refl, sym (end-of-line history) ∙ e))
   ending-holds (done s z) e = done-holds s z e (z .nflag) (hadOccurrence history)
   ending-holds (control s z) e = control-holds s z e (orderOf ms z s) (order-says ms z s)
 
 -- of one line that is fed
-pub fed-holds : (ms : Table) (st : State) (budget : ℕ) (t : List ℕ) → ByKind ms st budget t (lineOf ms st budget t) (feed ms st budget t) (feed ms st budget t .kind)
+pub fed-holds : (ms : Table) (st : State) (sent : Sent) → ByKind ms st sent (lineOf ms st sent) (feed ms st sent) (feed ms st sent .kind)
 unfolding answer refusal
-fed-holds ms st budget t =
-    feed-cases ms st budget t (λ a. ByKind ms st budget t (lineOf ms st budget t) a (a .kind))
-    (λ e. (refl, refl, (leb-false budget mostBudget e, refl)))
-    (λ e f. (refl, refl, (leb-true budget mostBudget e, leb-false (length t) mostLineBytes f, refl)))
-    (λ e f g. (refl, refl, (leb-true budget mostBudget e, leb-true (length t) mostLineBytes f, bad-byte t g, refl)))
-    (λ e f g. ending-holds ms st budget t (record { few = leb-true budget mostBudget e; short = leb-true (length t) mostLineBytes f; clean = no-bad-byte t g }) (ending (lineOf ms st budget t)) refl)
+fed-holds ms st sent =
+    feed-cases ms st sent (λ a. ByKind ms st sent (lineOf ms st sent) a (a .kind))
+    (λ e. (refl, refl, (leb-false (sent .budget) mostBudget e, refl)))
+    (λ e f. (refl, refl, (leb-true (sent .budget) mostBudget e, leb-false (length (sent .line)) mostLineBytes f, refl)))
+    (λ e f g. (refl, refl, (leb-true (sent .budget) mostBudget e, leb-true (length (sent .line)) mostLineBytes f, bad-byte (sent .line) g, refl)))
+    (λ e f g. ending-holds ms st sent (record { few = leb-true (sent .budget) mostBudget e; short = leb-true (length (sent .line)) mostLineBytes f; clean = no-bad-byte (sent .line) g }) (ending (lineOf ms st sent)) refl)
 
 -- of every state, of which fresh is one, and every table
-lines : (ms : Table) (st : State) (xs : List Fed) → Lines ms st xs (feeds ms st xs)
+lines : (ms : Table) (st : State) (xs : List Sent) → Lines ms st xs (feeds ms st xs)
 unfolding feeds
 lines ms st [] = tt
-lines ms st (x ∷ xs) = (fed-holds ms st (x .0) (x .1), lines _ _ xs)
+lines ms st (x ∷ xs) = (fed-holds ms st x, lines _ _ xs)
 
 -- THE LAW
 pub demand3 : Demand3

@@ -18,6 +18,7 @@ use Rattle.macros.specs.Formed.{Between, Bytes}
 use Rattle.macros.specs.Accepted.{Accepted}
 use Rattle.macros.proofs.Costs.{Shows}
 use Rattle.lines.specs.State.{State, InRange}
+use Rattle.lines.specs.Line.{Sent}
 use Rattle.lines.specs.Feeding.{Kind, numberOf, placeOf, outputOf, kindOfDone, refusal}
 use Rattle.lines.specs.Feeding.Kind.{refusedWith, out, withheld, controlled}
 use Rattle.lines.specs.FeedKeeps.{Placed, Number, Kept}
@@ -97,13 +98,13 @@ done-taken (suc n) false t b h = tt
 
 -- THE ANSWERS
 
-pub refusal-kept : {ms : Table} {st : State} {budget : ℕ} (n : ℕ) (r : Refusal) → Accepted ms → InRange st → n ≤ budget → OfLine r → Kept ms st budget (refusal ms st n r)
+pub refusal-kept : {ms : Table} {st : State} {sent : Sent} (n : ℕ) (r : Refusal) → Accepted ms → InRange st → n ≤ sent .budget → OfLine r → Kept ms st sent (refusal ms st n r)
 unfolding refusal numberOf placeOf outputOf
 refusal-kept n r a i h g =
     record { table = a; state = i; fits = omega arith; bytes = tt; passes = h; refused = λ q e. (refl, refl); number = g .0; place = g .1 }
 
-pub taken-kept : {ms : Table} {st : State} {budget : ℕ} (k : Kind) (n : ℕ) (ks : Table) (s : State) → Accepted ks → InRange s → n ≤ budget → Taken k
-    → Kept ms st budget (record { kind = k; passes = n; table = ks; state = s })
+pub taken-kept : {ms : Table} {st : State} {sent : Sent} (k : Kind) (n : ℕ) (ks : Table) (s : State) → Accepted ks → InRange s → n ≤ sent .budget → Taken k
+    → Kept ms st sent (record { kind = k; passes = n; table = ks; state = s })
 taken-kept k n ks s a i h g =
     record {
       table = a;

@@ -12,7 +12,7 @@ use Rattle.lines.specs.State.{State, AllOf, InRange}
 use Rattle.lines.specs.Replacing.{Work, Done}
 use Rattle.lines.specs.Replacing.Done.{bad, good}
 use Rattle.lines.specs.Pass.{pass, occurred, outcome}
-use Rattle.lines.specs.Line.{Numbered, Pass, Ending, Line, isIn, unlessClosed, openFrom, newestFirst, closedBy, isControl, due, follow, afterPass, textOf, passes, lineOf, passesOf, ending}
+use Rattle.lines.specs.Line.{Sent, Numbered, Pass, Ending, Line, isIn, unlessClosed, openFrom, newestFirst, closedBy, isControl, due, follow, afterPass, textOf, passes, lineOf, passesOf, ending}
 use Rattle.lines.specs.Line.Ending.{refused, done, control}
 use Rattle.lines.proofs.KeepBytes.{all-reverse, bytes-onto, length-onto}
 use Rattle.lines.proofs.KeepWork.{Sound, SoundDone}
@@ -93,6 +93,6 @@ passes-within ms (suc n) closed todo st t f o h =
     (λ w. passes-within ms n closed es st t f k h)
     (λ w s. passes-within ms n (closedBy e closed) (newestFirst (closedBy e closed) ms) (w .state) (textOf w) f (newest-formed (closedBy e closed) ms f) (text-good w s))))
 
-pub line-within : (ms : Table) (st : State) (n : ℕ) (t : List ℕ) → Each Spellable ms → Good t st → Within n (lineOf ms st n t)
+pub line-within : (ms : Table) (st : State) (sent : Sent) → Each Spellable ms → Good (sent .line) st → Within (sent .budget) (lineOf ms st sent)
 unfolding lineOf
-line-within ms st n t f h = passes-within ms n [] (newestFirst [] ms) st t f (newest-formed [] ms f) h
+line-within ms st sent f h = passes-within ms (sent .budget) [] (newestFirst [] ms) st (sent .line) f (newest-formed [] ms f) h

@@ -18,7 +18,7 @@ use Rattle.lines.specs.Matching.{Divides}
 use Rattle.lines.specs.Replacing.{Work, Done}
 use Rattle.lines.specs.Replacing.Done.{bad, good}
 use Rattle.lines.specs.Pass.{Walk, ended, occurs, pass, occurred, outcome}
-use Rattle.lines.specs.Line.{Numbered, Pass, Line, passed, refused, done, control, isIn, newestFirst, closing, closedBy}
+use Rattle.lines.specs.Line.{Sent, Numbered, Pass, Line, passed, refused, done, control, isIn, newestFirst, closing, closedBy}
 use Rattle.lines.specs.Line.{isControl, due, follow, afterPass, textOf, passes, lineOf, passesOf, hadOccurrence, ending}
 use Rattle.lines.specs.Line.{Line.ended as lineEnded}
 use Rattle.lines.specs.Feeding.{withheld, out, kindOfDone}
@@ -135,9 +135,9 @@ passes-hold ms (suc budget) closed since todo st t a =
     (λ w. passes-hold ms budget (closedBy e closed) [] (newestFirst (closedBy e closed) ms) (w .state) (textOf w) (todo-all ms (closedBy e closed))))
 
 -- THE LAW
-pub line-holds : (ms : Table) (st : State) (budget : ℕ) (t : List ℕ) → Passes ms [] [] t st (lineOf ms st budget t)
+pub line-holds : (ms : Table) (st : State) (sent : Sent) → Passes ms [] [] (sent .line) st (lineOf ms st sent)
 unfolding lineOf
-line-holds ms st budget t = passes-hold ms _ [] [] (newestFirst [] ms) st t (todo-all ms [])
+line-holds ms st sent = passes-hold ms _ [] [] (newestFirst [] ms) st (sent .line) (todo-all ms [])
 
 -- WHAT IS LEFT AT THE END
 

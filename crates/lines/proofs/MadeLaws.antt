@@ -6,14 +6,15 @@ use Rattle.macros.specs.Read.{readFile}
 use Rattle.macros.specs.Accepted.{Accepted}
 use Rattle.macros.proofs.Laws.{round-trip, read-keeps}
 use Rattle.lines.specs.State.{State}
-use Rattle.lines.specs.Feeding.{Answer, Fed, feeds}
+use Rattle.lines.specs.Line.{Sent}
+use Rattle.lines.specs.Feeding.{Answer, feeds}
 use Rattle.lines.specs.FeedKeeps.{EachKept}
 use Rattle.lines.specs.Made.{tableAfter, MadeReadsBack, MadeAccepted}
 use Rattle.lines.specs.Made.Made.{byReading, byLines}
 use Rattle.lines.proofs.FeedKeeps.{feeds-from}
 
 -- each answer leaves an accepted table, so the last one does
-after-accepted : (ms : Table) (st : State) (xs : List Fed) (as₁ : List Answer) → Accepted ms → EachKept ms st xs as₁ → Accepted (tableAfter ms as₁)
+after-accepted : (ms : Table) (st : State) (xs : List Sent) (as₁ : List Answer) → Accepted ms → EachKept ms st xs as₁ → Accepted (tableAfter ms as₁)
 unfolding tableAfter
 after-accepted ms st [] [] a k = a
 after-accepted ms st [] (y ∷ ys) a k = absurd k

@@ -297,5 +297,5 @@ line-same ms n closed since t st (passed x l) (passed y k) h g u v =
 
 -- THE LAW
 pub one-line : OneLine
-one-line ms st budget t l k h g =
-    line-same ms budget [] [] t st l k (h .passes) (g .passes) (record { within = h .within; usedUp = h .usedUp }) (record { within = g .within; usedUp = g .usedUp })
+one-line ms st sent l k h g =
+    line-same ms (sent .budget) [] [] (sent .line) st l k (h .passes) (g .passes) (record { within = h .within; usedUp = h .usedUp }) (record { within = g .within; usedUp = g .usedUp })

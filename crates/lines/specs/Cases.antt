@@ -1,4 +1,5 @@
--- What a computed case of parts 3 to 6 is: a quoted file, and lines with their budgets, each beside its answer and the state after it. The cases are in LineCases and in the crate m_cases.
+-- What a computed case of parts 3 to 6 is: a quoted file, and lines with their budgets, each beside its answer and the state after it.
+-- The cases are in LineCases and in the crate m_cases.
 use mathlib.Core.Path.{_≡_}
 use Prim.Native.Nat.{ℕ, suc}
 use mathlib.Core.Bool.{Bool}
@@ -14,15 +15,26 @@ use Rattle.macros.specs.Read.Read.{refusedAt, table}
 use Rattle.macros.specs.Refusals.{fileNumber}
 use Rattle.macros.specs.Cases.{everything as macrosOpen}
 use Rattle.lines.specs.State.{Stack, Counter, State, freshStack, freshCounter, fresh, stackOf, counterOf, currentEntry, contents}
-use Rattle.lines.specs.Matching.{byteFits, begins, isMember, inClass, fits, width, Copies, Allowed, Satisfies, Divides, endOf, Fewer, then, more, spare, repeated, isEnd, chosen, closing, tagText}
-use Rattle.lines.specs.Replacing.{unless, onto, puts, put, withStack, withCounter, withPointer, withValue, withIncrement, withEntry, fallen, moves, early, late, stores, callActs, acts, replaces, commandsAct, occur}
-use Rattle.lines.specs.Pass.{barred, unlessBarred, counting, match, goOn, matched, atEnd, onward, atByte, walk, pass, occurrences, occurred, outcome}
-use Rattle.lines.specs.Line.{isIn, unlessClosed, openFrom, newestFirst, closing as closingMacro, closedBy, isControl, due, follow, afterPass, textOf, passes, lineOf, passesOf, hadOccurrence, ending}
-use Rattle.lines.specs.Feeding.{Kind, Answer, Fed, bytes, same, withTrace, withNflag, flagOrder, macroOrder, orderOf, numberOf, placeOf, kindNumber, outputOf, kindOfDone, refusal, ofOrder, answered, answer, hasBadByte, feed, feeds}
+use Rattle.lines.specs.Matching.{byteFits, begins, isMember, inClass, fits, width, Copies, Allowed, Satisfies, Divides, endOf, Fewer}
+use Rattle.lines.specs.Matching.{then, more, spare, repeated, isEnd, chosen, closing, tagText}
+use Rattle.lines.specs.Replacing.{unless, onto, puts, put, withStack, withCounter, withPointer, withValue, withIncrement, withEntry}
+use Rattle.lines.specs.Replacing.{fallen, moves, early, late, stores, callActs, acts, replaces, commandsAct, occur}
+use Rattle.lines.specs.Pass.{barred, unlessBarred, counting, match, goOn, matched, atEnd, onward, atByte, walk, pass, occurrences}
+use Rattle.lines.specs.Pass.{occurred, outcome}
+use Rattle.lines.specs.Line.{Sent, isIn, unlessClosed, openFrom, newestFirst, closing as closingMacro, closedBy, isControl, due}
+use Rattle.lines.specs.Line.{follow, afterPass, textOf, passes, lineOf, passesOf, hadOccurrence, ending}
+use Rattle.lines.specs.Feeding.{Kind, Answer, bytes, same, withTrace, withNflag, flagOrder, macroOrder, orderOf, numberOf, placeOf}
+use Rattle.lines.specs.Feeding.{kindNumber, outputOf, kindOfDone, refusal, ofOrder, answered, answer, hasBadByte, feed, feeds}
 
 -- the name that opens all definitions for a computed case
 unfoldable pub everything : ℕ
-unfolding macrosOpen kindOf freshStack freshCounter fresh stackOf counterOf currentEntry contents byteFits begins isMember inClass fits width Copies Allowed Satisfies Divides endOf Fewer then more spare repeated isEnd chosen closing tagText unless onto puts put withStack withCounter withPointer withValue withIncrement withEntry fallen moves early late stores callActs acts replaces commandsAct occur barred unlessBarred counting match goOn matched atEnd onward atByte walk pass occurrences occurred outcome isIn unlessClosed openFrom newestFirst closingMacro closedBy isControl due follow afterPass textOf passes lineOf passesOf hadOccurrence ending same withTrace withNflag flagOrder macroOrder orderOf numberOf placeOf kindNumber outputOf kindOfDone refusal ofOrder answered answer hasBadByte feed feeds
+unfolding macrosOpen kindOf freshStack freshCounter fresh stackOf counterOf currentEntry contents byteFits begins isMember inClass fits
+    width Copies Allowed Satisfies Divides endOf Fewer then more spare repeated isEnd chosen closing tagText unless onto puts put withStack
+    withCounter withPointer withValue withIncrement withEntry fallen moves early late stores callActs acts replaces commandsAct occur barred
+    unlessBarred counting match goOn matched atEnd onward atByte walk pass occurrences occurred outcome isIn unlessClosed openFrom
+    newestFirst closingMacro closedBy isControl due follow afterPass textOf passes lineOf passesOf hadOccurrence ending same withTrace
+    withNflag flagOrder macroOrder orderOf numberOf placeOf kindNumber outputOf kindOfDone refusal ofOrder answered answer hasBadByte feed
+    feeds
 everything = 0
 
 -- WHAT A CASE SHOWS
@@ -36,7 +48,9 @@ pub record Shown : Type 0 where
   pub text : List ℕ
 
 abbrev pub shown : Answer → Shown
-shown a = let k : Kind = a .kind in record { kind = kindNumber k; number = numberOf k; place = placeOf k; passes = a .passes; text = outputOf k }
+shown a =
+    let k : Kind = a .kind in
+    record { kind = kindNumber k; number = numberOf k; place = placeOf k; passes = a .passes; text = outputOf k }
 
 -- a line that goes out
 abbrev pub out : List ℕ → (passes : ℕ) → Shown
@@ -79,13 +93,15 @@ entryParts c n (e ∷ es) xs = partUnless (same e []) (entry c n e) (entryParts 
 abbrev stackParts : String → List Stack → List Part → List Part
 stackParts Str.[] ks xs = xs
 stackParts (Str._∷_ c s) [] xs = xs
-stackParts (Str._∷_ c s) (k ∷ ks) xs = partUnless (eqb (k .pointer) 1) (pointer c (k .pointer)) (entryParts c 1 (k .entries) (stackParts s ks xs))
+stackParts (Str._∷_ c s) (k ∷ ks) xs =
+    partUnless (eqb (k .pointer) 1) (pointer c (k .pointer)) (entryParts c 1 (k .entries) (stackParts s ks xs))
 
 abbrev counterParts : String → List Counter → List Part → List Part
 counterParts Str.[] ks xs = xs
 counterParts (Str._∷_ c s) [] xs = xs
 counterParts (Str._∷_ c s) (k ∷ ks) xs =
-    partUnless (eqb (k .value) 1) (value c (k .value)) (partUnless (eqb (k .increment) 1) (increment c (k .increment)) (counterParts s ks xs))
+    partUnless (eqb (k .value) 1) (value c (k .value))
+    (partUnless (eqb (k .increment) 1) (increment c (k .increment)) (counterParts s ks xs))
 
 -- the whole state: stacks from a to z, each with its pointer and its entries, then counters from a to z, then the flags
 abbrev pub shownState : State → List Part
@@ -96,23 +112,27 @@ shownState st =
 
 -- A CASE: a line, its budget, its answer, and the state after it
 pub record Case : Type 0 where
-  pub sent : Fed
+  pub sent : Sent
   pub answer : Shown
   pub state : List Part
 
+-- a line, by its bytes, and a budget
+abbrev sentWith : ℕ → List ℕ → Sent
+sentWith n t = record { line = t; budget = n }
+
 -- a quoted line that is fed with the budget 10,000
 abbrev pub fed : String → Shown → List Part → Case
-fed s a st = record { sent = (10000, bytes s); answer = a; state = st }
+fed s a st = record { sent = sentWith 10000 (bytes s); answer = a; state = st }
 
 -- with another budget
 abbrev pub fedWithin : ℕ → String → Shown → List Part → Case
-fedWithin n s a st = record { sent = (n, bytes s); answer = a; state = st }
+fedWithin n s a st = record { sent = sentWith n (bytes s); answer = a; state = st }
 
 -- a line that is given by its bytes, and its budget
 abbrev pub fedBytes : ℕ → List ℕ → Shown → List Part → Case
-fedBytes n t a st = record { sent = (n, t); answer = a; state = st }
+fedBytes n t a st = record { sent = sentWith n t; answer = a; state = st }
 
-abbrev sentOf : List Case → List Fed
+abbrev sentOf : List Case → List Sent
 sentOf [] = []
 sentOf (c ∷ cs) = c .sent ∷ sentOf cs
 
@@ -138,9 +158,9 @@ abbrev pub shownAnswers : List Answer → List Shown
 shownAnswers [] = []
 shownAnswers (a ∷ as₁) = shown a ∷ shownAnswers as₁
 
-abbrev pub fedTo : List Fed → Read → List Shown
+abbrev pub fedTo : List Sent → Read → List Shown
 fedTo xs (refusedAt r p) = refused (fileNumber r) p 0 ∷ []
 fedTo xs (table ms) = shownAnswers (feeds ms fresh xs)
 
 abbrev pub song : String → ℕ → String → List Shown
-song f n s = fedTo ((n, bytes s) ∷ []) (readFile (bytes f))
+song f n s = fedTo (sentWith n (bytes s) ∷ []) (readFile (bytes f))

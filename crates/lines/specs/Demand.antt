@@ -25,10 +25,10 @@ use Rattle.lines.specs.Replacing.{Work, occur}
 use Rattle.lines.specs.Replacing.Done.{bad, good}
 use Rattle.lines.specs.Pass.{Occurrence, Walk, occurred}
 use Rattle.lines.specs.Pass.Walk.{ended, occurs}
-use Rattle.lines.specs.Line.{Pass, Ending, Line, lineOf}
+use Rattle.lines.specs.Line.{Sent, Pass, Ending, Line, lineOf}
 use Rattle.lines.specs.Line.Ending.{refused, done, control}
 use Rattle.lines.specs.Line.{Line.ended as lineEnded, Line.passed as passed}
-use Rattle.lines.specs.Feeding.{Kind, Answer, Fed, feeds}
+use Rattle.lines.specs.Feeding.{Kind, Answer, feeds}
 use Rattle.lines.specs.Feeding.Kind.{refusedWith, out, withheld, controlled}
 use Rattle.lines.specs.Faults.{Why}
 use Rattle.lines.specs.Controls.{Ordered, Misordered}
@@ -192,7 +192,7 @@ Passes ms closed since t st (lineEnded (control s x)) = (s ≡ t) × (x ≡ st) 
 -- "31 another pass is due" (01, refusals): the line is no control line, and the pass of some macro is due [done_is_31]; that the budget is used up stands in History
 Passes ms closed since t st (lineEnded (refused r)) = (r ≡ budgetUsedUp) × (Dollar t → ⊥) × ((i : ℕ) × (m : Macro) × Due ms closed since i m)
 
--- ONE LINE t, fed to the table ms and the state st; its history l, and its answer a
+-- ONE LINE that is sent, fed to the table ms and the state st; its history l, and its answer a
 
 -- the numbers of the macros that are closed to it at its end
 abbrev pub closedIn : List ℕ → Line → List ℕ
@@ -224,22 +224,22 @@ HasBadByte [] = ⊥
 HasBadByte (b ∷ bs) = (b ≡ 0) ⊎ (b ≡ 10) ⊎ HasBadByte bs
 
 -- nothing refuses the line before its passes: not 4, 21 or 22 (01, refusals) [line_too_long]
-pub record Fits (budget : ℕ) (t : List ℕ) : Type 0 where
-  pub few : budget ≤ mostBudget
-  pub short : length t ≤ mostLineBytes
-  pub clean : HasBadByte t → ⊥
+pub record Fits (sent : Sent) : Type 0 where
+  pub few : sent .budget ≤ mostBudget
+  pub short : length (sent .line) ≤ mostLineBytes
+  pub clean : HasBadByte (sent .line) → ⊥
 
 -- the history of a line that nothing refuses before its passes
-pub record History (ms : Table) (st : State) (budget : ℕ) (t : List ℕ) (l : Line) : Type 0 where
-  pub fits : Fits budget t
-  pub passes : Passes ms [] [] t st l
+pub record History (ms : Table) (st : State) (sent : Sent) (l : Line) : Type 0 where
+  pub fits : Fits sent
+  pub passes : Passes ms [] [] (sent .line) st l
   -- "Each pass costs one of the budget" (01, part 6), and 31 says that it is used up [budget_off_by_one, budget_one_short]
-  pub within : passCount l ≤ budget
-  pub usedUp : endOfLine l ≡ refused budgetUsedUp → passCount l ≡ budget
+  pub within : passCount l ≤ sent .budget
+  pub usedUp : endOfLine l ≡ refused budgetUsedUp → passCount l ≡ sent .budget
 
 -- a line that has passes: its history, and "the answer carries the number of passes", also where it is refused [passes_not_counted, refused_passes_0]
-pub record Run (ms : Table) (st : State) (budget : ℕ) (t : List ℕ) (l : Line) (a : Answer) : Type 0 where
-  pub history : History ms st budget t l
+pub record Run (ms : Table) (st : State) (sent : Sent) (l : Line) (a : Answer) : Type 0 where
+  pub history : History ms st sent l
   pub number : a .passes ≡ passCount l
 
 -- one that goes out or is withheld, s its final text
@@ -264,38 +264,38 @@ pub record Miscontrolled (ms : Table) (l : Line) (r : Refusal) (s : List ℕ) (x
   pub misordered : Misordered ms s r
 
 -- WHY A LINE IS REFUSED (01, refusals), by the refusal
-abbrev pub Reason : Table → State → ℕ → List ℕ → Line → Answer → Refusal → Type 0
+abbrev pub Reason : Table → State → Sent → Line → Answer → Refusal → Type 0
 -- 1, 2 and 3 are about memories, and no line meets them here
-Reason ms st budget t l a (ofHost badMemory) = ⊥
-Reason ms st budget t l a (ofHost badTable) = ⊥
-Reason ms st budget t l a (ofHost badState) = ⊥
+Reason ms st sent l a (ofHost badMemory) = ⊥
+Reason ms st sent l a (ofHost badTable) = ⊥
+Reason ms st sent l a (ofHost badState) = ⊥
 -- "4 budget too large", first
-Reason ms st budget t l a (ofHost budgetTooLarge) = (mostBudget < budget) × (a .passes ≡ 0)
+Reason ms st sent l a (ofHost budgetTooLarge) = (mostBudget < sent .budget) × (a .passes ≡ 0)
 -- "21 too long", next
-Reason ms st budget t l a (ofLine lineTooLong) = (budget ≤ mostBudget) × (mostLineBytes < length t) × (a .passes ≡ 0)
+Reason ms st sent l a (ofLine lineTooLong) = (sent .budget ≤ mostBudget) × (mostLineBytes < length (sent .line)) × (a .passes ≡ 0)
 -- "22 holds byte 0 or line feed"
-Reason ms st budget t l a (ofLine badByte) = (budget ≤ mostBudget) × (length t ≤ mostLineBytes) × HasBadByte t × (a .passes ≡ 0)
+Reason ms st sent l a (ofLine badByte) = (sent .budget ≤ mostBudget) × (length (sent .line) ≤ mostLineBytes) × HasBadByte (sent .line) × (a .passes ≡ 0)
 -- 23, and 10 to 19 with their place: "Later, of a control line", behind its passes
-Reason ms st budget t l a (ofLine badControl) = Run ms st budget t l a × ((s : List ℕ) × (x : State) × Miscontrolled ms l (ofLine badControl) s x)
-Reason ms st budget t l a (ofFile r p) = Run ms st budget t l a × ((s : List ℕ) × (x : State) × Miscontrolled ms l (ofFile r p) s x)
+Reason ms st sent l a (ofLine badControl) = Run ms st sent l a × ((s : List ℕ) × (x : State) × Miscontrolled ms l (ofLine badControl) s x)
+Reason ms st sent l a (ofFile r p) = Run ms st sent l a × ((s : List ℕ) × (x : State) × Miscontrolled ms l (ofFile r p) s x)
 -- 31: its history ends so; by usedUp of History the passes are the budget, and by Passes another one is due. 32 to 35: its last pass is refused so, by Walks
-Reason ms st budget t l a (ofWork r) = Run ms st budget t l a × (endOfLine l ≡ refused r)
+Reason ms st sent l a (ofWork r) = Run ms st sent l a × (endOfLine l ≡ refused r)
 
-abbrev pub ByKind : Table → State → ℕ → List ℕ → Line → Answer → Kind → Type 0
+abbrev pub ByKind : Table → State → Sent → Line → Answer → Kind → Type 0
 -- "a refused line leaves table, state and output as they were" (a refusal has no output) [refused_line_keeps_state], and is refused for its reason
-ByKind ms st budget t l a (refusedWith r) = (a .table ≡ ms) × (a .state ≡ st) × Reason ms st budget t l a r
+ByKind ms st sent l a (refusedWith r) = (a .table ≡ ms) × (a .state ≡ st) × Reason ms st sent l a r
 -- "If it goes out or is withheld"
-ByKind ms st budget t l a (out s) = Run ms st budget t l a × Finished ms l a s
-ByKind ms st budget t l a withheld = Run ms st budget t l a × ((s : List ℕ) × Finished ms l a s)
+ByKind ms st sent l a (out s) = Run ms st sent l a × Finished ms l a s
+ByKind ms st sent l a withheld = Run ms st sent l a × ((s : List ℕ) × Finished ms l a s)
 -- or is a control line
-ByKind ms st budget t l a controlled = Run ms st budget t l a × ((s : List ℕ) × (x : State) × Controlled ms l a s x)
+ByKind ms st sent l a controlled = Run ms st sent l a × ((s : List ℕ) × (x : State) × Controlled ms l a s x)
 
 -- "The passes and replacements meant are those by which 01's rules make the line's answer": of the history lineOf
-abbrev pub LineHolds : Table → State → Fed → Answer → Type 0
-LineHolds ms st x a = ByKind ms st (x .0) (x .1) (lineOf ms st (x .0) (x .1)) a (a .kind)
+abbrev pub LineHolds : Table → State → Sent → Answer → Type 0
+LineHolds ms st sent a = ByKind ms st sent (lineOf ms st sent) a (a .kind)
 
 -- LINES "fed in turn", each to "the table and state that the last returned or left, refused or not" (01, contracts)
-abbrev pub Lines : Table → State → List Fed → List Answer → Type 0
+abbrev pub Lines : Table → State → List Sent → List Answer → Type 0
 Lines ms st [] [] = Unit {0}
 Lines ms st (x ∷ xs) (a ∷ as₁) = LineHolds ms st x a × Lines (a .table) (a .state) xs as₁
 Lines ms st [] (a ∷ as₁) = ⊥
@@ -303,4 +303,4 @@ Lines ms st (x ∷ xs) [] = ⊥
 
 -- DEMAND 3: "For every list of lines, control lines and refused ones included, fed in turn from a fresh state and any accepted table, each with any budget"
 abbrev pub Demand3 : Type 0
-Demand3 = (ms : Table) → Accepted ms → (xs : List Fed) → Lines ms fresh xs (feeds ms fresh xs)
+Demand3 = (ms : Table) → Accepted ms → (xs : List Sent) → Lines ms fresh xs (feeds ms fresh xs)

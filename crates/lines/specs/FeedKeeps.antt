@@ -11,7 +11,8 @@ use Rattle.macros.specs.Macro.{Table}
 use Rattle.macros.specs.Formed.{Between, Bytes, Octets}
 use Rattle.macros.specs.Accepted.{Accepted}
 use Rattle.lines.specs.State.{State, InRange, AllOf, fresh}
-use Rattle.lines.specs.Feeding.{Answer, Fed, numberOf, placeOf, outputOf, feed, feeds}
+use Rattle.lines.specs.Line.{Sent}
+use Rattle.lines.specs.Feeding.{Answer, numberOf, placeOf, outputOf, feed, feeds}
 use Rattle.lines.specs.Feeding.Kind.{refusedWith}
 
 -- the numbers with a place: "(10 to 19, else 0)"
@@ -24,7 +25,7 @@ abbrev pub Number : ℕ → Type 0
 Number n = (n ≡ 0) ⊎ (n ≡ 4) ⊎ Between 12 19 n ⊎ Between 21 23 n ⊎ Between 31 35 n
 
 -- the answer a to a line that was fed to the table ms and the state st
-pub record Kept (ms : Table) (st : State) (budget : ℕ) (a : Answer) : Type 0 where
+pub record Kept (ms : Table) (st : State) (sent : Sent) (a : Answer) : Type 0 where
   -- the table after the line is accepted [macro_97, macro_unspelled]
   pub table : Accepted (a .table)
   -- the state after it is in range [counter_falls_to_0]
@@ -34,7 +35,7 @@ pub record Kept (ms : Table) (st : State) (budget : ℕ) (a : Answer) : Type 0 w
   -- and none of them is 0
   pub bytes : Bytes (outputOf (a .kind))
   -- the passes are at most the budget [budget_off_by_one]
-  pub passes : a .passes ≤ budget
+  pub passes : a .passes ≤ sent .budget
   -- a refused line leaves table and state as they were [refused_line_keeps_state]
   pub refused : (r : Refusal) → a .kind ≡ refusedWith r → (a .table ≡ ms) × (a .state ≡ st)
   -- the number is one that a line can be answered with [number_too_high]
@@ -44,19 +45,19 @@ pub record Kept (ms : Table) (st : State) (budget : ℕ) (a : Answer) : Type 0 w
 
 -- THE LAW: any bytes, with any budget, fed to an accepted table and a state in range
 abbrev pub FeedKeeps : Type 0
-FeedKeeps = (ms : Table) (st : State) (budget : ℕ) (t : List ℕ) → Accepted ms → InRange st → Octets t → Kept ms st budget (feed ms st budget t)
+FeedKeeps = (ms : Table) (st : State) (sent : Sent) → Accepted ms → InRange st → Octets (sent .line) → Kept ms st sent (feed ms st sent)
 
 -- the fresh state is in range [pointer_starts_at_0, counter_starts_at_0]
 abbrev pub FreshInRange : Type 0
 FreshInRange = InRange fresh
 
 -- an answer for each line, each kept from the table and state that the last returned or left
-abbrev pub EachKept : Table → State → List Fed → List Answer → Type 0
+abbrev pub EachKept : Table → State → List Sent → List Answer → Type 0
 EachKept ms st [] [] = Unit {0}
 EachKept ms st [] (a ∷ answers) = ⊥
 EachKept ms st (x ∷ xs) [] = ⊥
-EachKept ms st (x ∷ xs) (a ∷ answers) = Kept ms st (x .0) a × EachKept (a .table) (a .state) xs answers
+EachKept ms st (x ∷ xs) (a ∷ answers) = Kept ms st x a × EachKept (a .table) (a .state) xs answers
 
 -- THE LAW OF A WHOLE LIST: lines of any bytes, from an accepted table and the fresh state
 abbrev pub FeedsKeep : Type 0
-FeedsKeep = (ms : Table) (xs : List Fed) → Accepted ms → AllOf (λ (x : Fed). Octets (x .1)) xs → EachKept ms fresh xs (feeds ms fresh xs)
+FeedsKeep = (ms : Table) (xs : List Sent) → Accepted ms → AllOf (λ (x : Sent). Octets (x .line)) xs → EachKept ms fresh xs (feeds ms fresh xs)

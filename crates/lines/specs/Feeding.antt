@@ -17,7 +17,7 @@ use Rattle.macros.specs.Read.{Read, readOnto}
 use Rattle.macros.specs.Read.Read.{refusedAt, table}
 use Rattle.lines.specs.State.{State}
 use Rattle.lines.specs.Matching.{begins}
-use Rattle.lines.specs.Line.{Ending, Line, passesOf, hadOccurrence, ending, lineOf}
+use Rattle.lines.specs.Line.{Sent, Ending, Line, passesOf, hadOccurrence, ending, lineOf}
 use Rattle.lines.specs.Line.Ending.{refused, done, control}
 
 -- CONTROL LINES
@@ -137,24 +137,20 @@ hasBadByte [] = false
 hasBadByte (b ∷ bs) = elim (eqb b 0 || eqb b 10) [ true ↦ true | false ↦ hasBadByte bs ]
 
 -- a line fed to a table and a state: 4, 21 and 22 before any pass
-unfoldable pub feed : Table → State → ℕ → List ℕ → Answer
-feed ms st budget t =
-    elim (leb budget mostBudget) [
+unfoldable pub feed : Table → State → Sent → Answer
+feed ms st sent =
+    elim (leb (sent .budget) mostBudget) [
       | false ↦ refusal ms st 0 (ofHost budgetTooLarge)
-      | true ↦ elim (leb (length t) mostLineBytes) [
+      | true ↦ elim (leb (length (sent .line)) mostLineBytes) [
         | false ↦ refusal ms st 0 (ofLine lineTooLong)
-        | true ↦ elim (hasBadByte t) [
+        | true ↦ elim (hasBadByte (sent .line)) [
           | true ↦ refusal ms st 0 (ofLine badByte)
-          | false ↦ answer ms st (lineOf ms st budget t)
+          | false ↦ answer ms st (lineOf ms st sent)
         ]
       ]
     ]
 
--- a budget and a line
-abbrev pub Fed : Type 0
-Fed = ℕ × List ℕ
-
 -- lines fed in turn, each to the table and state that the last returned or left
-unfoldable pub feeds : Table → State → List Fed → List Answer
+unfoldable pub feeds : Table → State → List Sent → List Answer
 feeds ms st [] = []
-feeds ms st (x ∷ xs) = let a : Answer = feed ms st (x .0) (x .1) in a ∷ feeds (a .table) (a .state) xs
+feeds ms st (sent ∷ rest) = let a : Answer = feed ms st sent in a ∷ feeds (a .table) (a .state) rest

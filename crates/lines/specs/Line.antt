@@ -12,6 +12,11 @@ use Rattle.lines.specs.Replacing.{Work, Done, onto}
 use Rattle.lines.specs.Replacing.Done.{bad, good}
 use Rattle.lines.specs.Pass.{Walk, pass, occurred, outcome}
 
+-- A LINE THAT IS SENT: its bytes, and the budget of its passes
+pub record Sent : Type 0 where
+  pub line : List ℕ
+  pub budget : ℕ
+
 -- THE HISTORY OF A LINE
 
 -- a macro with its place in the table, the oldest at 0
@@ -101,8 +106,8 @@ passes ms (suc budget) closed todo st t =
     (λ w. passes ms budget (closedBy e closed) (newestFirst (closedBy e closed) ms) (w .state) (textOf w)))
 
 -- a line from its start
-unfoldable pub lineOf : Table → State → ℕ → List ℕ → Line
-lineOf ms st budget t = passes ms budget [] (newestFirst [] ms) st t
+unfoldable pub lineOf : Table → State → Sent → Line
+lineOf ms st sent = passes ms (sent .budget) [] (newestFirst [] ms) st (sent .line)
 
 -- WHAT A LINE COMES TO
 

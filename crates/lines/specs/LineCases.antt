@@ -1,4 +1,5 @@
--- Cases of parts 3 to 6, computed. Each line stands beside its answer (Cases) and what is then not as in the fresh state. In a string `\\` is one `\`.
+-- Cases of parts 3 to 6, computed. Each line stands beside its answer (Cases) and what is then not as in the fresh state.
+-- In a string `\\` is one `\`.
 use mathlib.Core.Path.{_≡_, refl}
 use mathlib.Core.List.{List, [], _∷_, _++_}
 use lib.ListN.{replicate}
@@ -41,7 +42,8 @@ pub kinds :
 unfolding everything
 kinds = (refl, refl, refl)
 
--- "`*` after a literal, `?n`, class or call means one or more, `*-` zero or more"; what follows a closure gets its copies back; the first closure has the most
+-- "`*` after a literal, `?n`, class or call means one or more, `*-` zero or more"; what follows a closure gets its copies back; the first
+-- closure has the most
 pub closures :
     (Tried "'a*ab'<'X';" (
     fed "aaab" (says "X" 1) []
@@ -60,7 +62,8 @@ pub closures :
 unfolding everything
 closures = (refl, refl, refl)
 
--- "an empty entry counts once under `*` and no times under `*-`"; "A closure's span is whole copies of its unit, not single bytes of a call's text"; the entry is the current one
+-- "an empty entry counts once under `*` and no times under `*-`"; "A closure's span is whole copies of its unit, not single bytes of a
+-- call's text"; the entry is the current one
 pub entriesMatch :
     (Tried "'Z'<''&(a:aa:);'&(a)*a'<'X';" (
     fed "aaaa" (says "XXXX" 2) []
@@ -89,7 +92,8 @@ pub valuesMatch :
 unfolding everything
 valuesMatch = refl
 
--- "A tag runs from the end of what precedes its left brace to the end of what precedes its right."; "Tags .. are numbered by their left braces"
+-- "A tag runs from the end of what precedes its left brace to the end of what precedes its right."; "Tags .. are numbered by their left
+-- braces"
 pub tags :
     Tried "'{a{b*-}}{c}'<'{3}{2}{1}.'&(1,p)&(2,q)&(3,r);" (
     fed "xabbc" (says "xcbbabb." 1) (holds "p" 1 "abb" ∷ holds "q" 1 "bb" ∷ holds "r" 1 "c" ∷ [])
@@ -101,7 +105,8 @@ tags = refl
 
 -- PART 4
 
--- "For each occurrence replacement and then commands act, left to right"; a counter moves by its increment, before or after it is inserted; "#(i=n)" and "#(i,n)"; "A pointer or counter that would fall below 1 is 1."
+-- "For each occurrence replacement and then commands act, left to right"; a counter moves by its increment, before or after it is
+-- inserted; "#(i=n)" and "#(i,n)"; "A pointer or counter that would fall below 1 is 1."
 pub counters :
     (Tried "'a'<'#(n),#(n)'#(n=9)#(n=7)#(n,3);'b'<'#(n-)#(n) #(+n)#(n+)#(n)';'c'<'#(-n)#(-n)#(-n)#(-n)';" (
     fed "a" (says "1,1" 5) (value "n" 7 ∷ increment "n" 3 ∷ [])
@@ -348,7 +353,8 @@ pub flags :
 unfolding everything
 flags = refl
 
--- reading 23: `$MACRO` is compared as the line's start and adds the newest; a fault gives its own number and place; "else a count other than one gives 23"
+-- reading 23: `$MACRO` is compared as the line's start and adds the newest; a fault gives its own number and place; "else a count other
+-- than one gives 23"
 pub newMacros :
     Tried "'a'='o';" (
     fed "$MACROS 'a'='b';" (control 0) []
@@ -379,7 +385,8 @@ pub withholding :
 unfolding everything
 withholding = refl
 
--- reading 24: state moved by passes stays when the line turns out to be a control line that is taken, "a refused one restores all"; 23 has place 0 and the passes begun
+-- reading 24: state moved by passes stays when the line turns out to be a control line that is taken, "a refused one restores all"; 23 has
+-- place 0 and the passes begun
 pub controlLater :
     Tried "'o'<'$TRACE 1'#(n=5);'q'<'$FOO'#(n=7);'m'<'$MACRO \\'k\\'<\\'\\#(n)\\'\\;'#(n=6);" (
     fed "o" (control 3) (value "n" 5 ∷ trace 1 ∷ [])

@@ -14,7 +14,8 @@ use Rattle.macros.specs.Write.{written, writeOut}
 use Rattle.macros.specs.Write.Written.{file}
 use Rattle.macros.specs.Accepted.{Each, Accepted}
 use Rattle.lines.specs.State.{State, InRange, AllOf}
-use Rattle.lines.specs.Feeding.{Answer, Fed, feeds}
+use Rattle.lines.specs.Line.{Sent}
+use Rattle.lines.specs.Feeding.{Answer, feeds}
 
 -- the table that a list of answers leaves: the last one's; without an answer, the table that was there
 unfoldable pub tableAfter : Table → List Answer → Table
@@ -26,7 +27,7 @@ pub data Made (ms : Table) : Type 0 where
   -- some bytes are read as it
   byReading : (s : List ℕ) → Octets s → readFile s ≡ table ms → Made ms
   -- lines of any bytes, with any budgets, leave it; the first was fed to an accepted table and a state in range
-  byLines : (first : Table) (st : State) (xs : List Fed) → Accepted first → InRange st → AllOf (λ (x : Fed). Octets (x .1)) xs
+  byLines : (first : Table) (st : State) (xs : List Sent) → Accepted first → InRange st → AllOf (λ (x : Sent). Octets (x .line)) xs
       → tableAfter first (feeds first st xs) ≡ ms → Made ms
 
 -- the file s that the table ms is written to
