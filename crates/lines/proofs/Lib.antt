@@ -5,7 +5,7 @@ pub mod ChoiceLaws
 pub mod TagLaws
 pub mod MatchLaws
 pub mod CopiedLaws
-pub mod FaultLaws
+pub mod OccurLaws
 pub mod PassLaws
 pub mod StepLaws
 pub mod RoomLaws

@@ -21,7 +21,7 @@ use Rattle.macros.specs.Accepted.{Accepted}
 use Rattle.lines.specs.State.{State, fresh}
 use Rattle.lines.specs.Matching.{Division, Divides, Fewer, endOf}
 use Rattle.lines.specs.Tags.{TagsOf}
-use Rattle.lines.specs.Replacing.{Work, occur}
+use Rattle.lines.specs.Replacing.{Work}
 use Rattle.lines.specs.Replacing.Done.{bad, good}
 use Rattle.lines.specs.Pass.{Occurrence, Walk, occurred}
 use Rattle.lines.specs.Pass.Walk.{ended, occurs}
@@ -30,7 +30,7 @@ use Rattle.lines.specs.Line.Ending.{refused, done, control}
 use Rattle.lines.specs.Line.{Line.ended as lineEnded, Line.passed as passed}
 use Rattle.lines.specs.Feeding.{Kind, Answer, feeds}
 use Rattle.lines.specs.Feeding.Kind.{refusedWith, out, withheld, controlled}
-use Rattle.lines.specs.Faults.{Why}
+use Rattle.lines.specs.Steps.{newLine, Copied, stepsOf, Acts, Breaks}
 use Rattle.lines.specs.Controls.{Ordered, Misordered}
 
 -- A PASS OF THE MACRO m OVER THE TEXT t
@@ -64,10 +64,10 @@ pub record Stands (m : Macro) (t : List ℕ) (from : ℕ) (last : Option ℕ) (p
   -- "with the tags of that division" [late_tag, inner_brace_ends]
   pub tags : TagsOf (m .pattern) t p d
 
--- "Each replacement": replacement and commands act with the division, and make the moment after
+-- "Each replacement": its steps, with the tags of the division, make the moment after (Steps)
 pub record Replaces (m : Macro) (t : List ℕ) (from : ℕ) (last : Option ℕ) (o : Occurrence) : Type 0 where
   pub stands : Stands m t from last (o .place) (o .division) (o .before .state)
-  pub made : occur m t (o .division) (o .before) ≡ good (o .after)
+  pub acts : Acts (stepsOf m t (o .division)) (o .before) (o .after)
 
 -- where an occurrence ends
 abbrev pub stopOf : Occurrence → ℕ
@@ -82,28 +82,16 @@ abbrev pub behind : Option ℕ → ℕ
 behind none = 0
 behind (some q) = q
 
--- "the new line" (01, part 4) so far; out has its last byte first
-abbrev pub newLine : Work → List ℕ
-newLine w = reverse (w .out)
-
--- from the moment w to the moment v the bytes s are copied: the new line grows by them and has room for them, and the state stays
-pub record Copied (s : List ℕ) (w v : Work) : Type 0 where
-  pub line : newLine v ≡ newLine w ++ s
-  pub size : v .size ≡ w .size + length s
-  pub room : 0 < length s → v .size ≤ mostLineBytes
-  pub state : v .state ≡ w .state
-
 -- WHY A PASS IS REFUSED with r, in the moment v: "at the first such step" (01, refusals), so all before it is as in a pass that is not
 
--- a match stands next, and a step of its replacement or of its commands is refused: 32 to 35, each for its reason (Faults)
+-- a match stands next, and a step of its replacement or of its commands is refused: 32 to 35, each for its reason (Steps)
 pub record Fails (m : Macro) (t : List ℕ) (from : ℕ) (last : Option ℕ) (w : Work) (r : WorkRefusal) (v : Work) : Type 0 where
   pub place : ℕ
   pub division : Division
   pub before : Work
   pub copied : Copied (slice (behind last) place t) w before
   pub stands : Stands m t from last place division (before .state)
-  pub refused : occur m t division before ≡ bad r v
-  pub why : Why m t division r v
+  pub breaks : Breaks (stepsOf m t division) before r v
 
 -- a byte without a match is to be copied, and the new line is full: "32 the new line's 1,055th byte"
 pub record Full (m : Macro) (t : List ℕ) (from : ℕ) (last : Option ℕ) (w : Work) (r : WorkRefusal) (v : Work) : Type 0 where

@@ -9,7 +9,7 @@ pub mod Tags
 pub mod Room
 pub mod FeedKeeps
 pub mod Made
-pub mod Faults
+pub mod Steps
 pub mod Controls
 pub mod Demand
 pub mod Budget

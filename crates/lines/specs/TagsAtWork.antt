@@ -17,7 +17,7 @@ use Rattle.lines.specs.Matching.{Division, Divides, stops}
 use Rattle.lines.specs.Replacing.{Work, Done, withEntry, acts, callActs}
 use Rattle.lines.specs.Replacing.Done.{bad, good}
 use Rattle.lines.specs.Tags.{Closes, endAfter}
-use Rattle.lines.specs.Demand.{Copied}
+use Rattle.lines.specs.Steps.{Copied}
 
 -- where the tag number n stands in the pattern es: front before its left brace, inside between its braces
 pub record TagAt (es : List Piece) (n : ℕ) : Type 0 where
