@@ -129,17 +129,17 @@ module _ (ms : Table) (st : State) (sent : Sent) where
 
   -- feed's answer, by the history's end
   feed-ends : (l : Line) (a : Answer) → Run ms st sent l a → (e : Ending) → endOfLine l ≡ e
-      → feed ms st sent ≡ answered ms st count (hadOccurrence (lineOf ms st sent)) e
+      → feed ms st sent ≡ answered ms st count (hadOccurrence (passesOf (lineOf ms st sent))) e
   unfolding answer
   feed-ends l a r e f =
       feed-runs ms st sent (r .history .fits)
-      ∙ ap (answered ms st count (hadOccurrence (lineOf ms st sent))) (end-of-line (lineOf ms st sent) ∙ ap endOfLine (sym (is-line l a r)) ∙ f)
+      ∙ ap (answered ms st count (hadOccurrence (passesOf (lineOf ms st sent)))) (end-of-line (lineOf ms st sent) ∙ ap endOfLine (sym (is-line l a r)) ∙ f)
 
   finished-is : (l : Line) (a : Answer) (s : List ℕ) → Run ms st sent l a → Finished ms l a s → a ≡ feed ms st sent
   unfolding answered
   finished-is l a s r f =
-      answer-same a (record { kind = kindOfDone (a .state .nflag) (hadOccurrence whole) s; passes = count; table = ms; state = a .state })
-      (kinds (f .kind) (subst (λ (k : Line). (Withholds (a .state) k × (made ≡ withheld)) ⊎ ((Withholds (a .state) k → ⊥) × (made ≡ out s))) (sym (is-line l a r)) (kind-of-done whole s (a .state) (a .state .nflag) (hadOccurrence whole) refl refl)))
+      answer-same a (record { kind = kindOfDone (a .state .nflag) (hadOccurrence (passesOf whole)) s; passes = count; table = ms; state = a .state })
+      (kinds (f .kind) (subst (λ (k : Line). (Withholds (a .state) k × (made ≡ withheld)) ⊎ ((Withholds (a .state) k → ⊥) × (made ≡ out s))) (sym (is-line l a r)) (kind-of-done whole s (a .state) (a .state .nflag) (hadOccurrence (passesOf whole)) refl refl)))
       (passes-are l a r) (f .table) refl
       ∙ sym (feed-ends l a r (done s (a .state)) (f .final))
     where
@@ -147,7 +147,7 @@ module _ (ms : Table) (st : State) (sent : Sent) where
       whole = lineOf ms st sent
 
       made : Kind
-      made = kindOfDone (a .state .nflag) (hadOccurrence (lineOf ms st sent)) s
+      made = kindOfDone (a .state .nflag) (hadOccurrence (passesOf (lineOf ms st sent))) s
 
       kinds : (Withholds (a .state) l × (a .kind ≡ withheld)) ⊎ ((Withholds (a .state) l → ⊥) × (a .kind ≡ out s))
           → (Withholds (a .state) l × (made ≡ withheld)) ⊎ ((Withholds (a .state) l → ⊥) × (made ≡ out s)) → a .kind ≡ made

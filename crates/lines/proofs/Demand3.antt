@@ -61,18 +61,18 @@ module _ (ms : Table) (st : State) (sent : Sent) (fits : Fits sent) where
   run a n = record { history = line-history; number = n ∙ pass-count history }
 
   finished : (s : List ℕ) (z : State) → ending history ≡ done s z
-      → Finished ms history (record { kind = kindOfDone (z .nflag) (hadOccurrence history) s; passes = count; table = ms; state = z }) s
+      → Finished ms history (record { kind = kindOfDone (z .nflag) (hadOccurrence (passesOf history)) s; passes = count; table = ms; state = z }) s
   unfolding isIn
   finished s z e =
       record {
         final = sym (end-of-line history) ∙ e;
-        kind = kind-of-done history s z (z .nflag) (hadOccurrence history) refl refl;
+        kind = kind-of-done history s z (z .nflag) (hadOccurrence (passesOf history)) refl refl;
         table = refl;
         nothingLeft = λ i m at f. left-nothing ms s z i m at [] [] (sent .line) st history (line-holds ms st sent) (λ j k b c d. absurd (false≢true d)) e f;
       }
 
   done-holds : (s : List ℕ) (z : State) → ending history ≡ done s z → (f : ℕ) (o : Bool)
-      → ByKind ms st sent history (record { kind = kindOfDone (z .nflag) (hadOccurrence history) s; passes = count; table = ms; state = z }) (kindOfDone f o s)
+      → ByKind ms st sent history (record { kind = kindOfDone (z .nflag) (hadOccurrence (passesOf history)) s; passes = count; table = ms; state = z }) (kindOfDone f o s)
   unfolding kindOfDone
   done-holds s z e zero o = (run _ refl, finished s z e)
   done-holds s z e (suc f) true = (run _ refl, finished s z e)
@@ -90,10 +90,10 @@ module _ (ms : Table) (st : State) (sent : Sent) (fits : Fits sent) where
   control-holds s z e (orders ks y) g = (run _ refl, (s, z, record { final = sym (end-of-line history) ∙ e; ordered = g }))
 
   ending-holds : (e : Ending) → ending history ≡ e
-      → ByKind ms st sent history (answered ms st count (hadOccurrence history) e) (answered ms st count (hadOccurrence history) e .kind)
+      → ByKind ms st sent history (answered ms st count (hadOccurrence (passesOf history)) e) (answered ms st count (hadOccurrence (passesOf history)) e .kind)
   unfolding answered refusal
   ending-holds (refused r) e = (refl, refl, (run _ refl, sym (end-of-line history) ∙ e))
-  ending-holds (done s z) e = done-holds s z e (z .nflag) (hadOccurrence history)
+  ending-holds (done s z) e = done-holds s z e (z .nflag) (hadOccurrence (passesOf history))
   ending-holds (control s z) e = control-holds s z e (orderOf ms z s) (order-says ms z s)
 
 -- of one line that is fed

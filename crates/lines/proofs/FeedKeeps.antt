@@ -57,7 +57,7 @@ module _ (ms : Table) (st : State) (sent : Sent) (a : Accepted ms) (i : InRange 
 
   answer-kept : (l : Line) → Within (sent .budget) l → Kept ms st sent (answer ms st l)
   unfolding answer
-  answer-kept l h = answered-kept (length (passesOf l)) (hadOccurrence l) (ending l) (h .count) (h .ends)
+  answer-kept l h = answered-kept (length (passesOf l)) (hadOccurrence (passesOf l)) (ending l) (h .count) (h .ends)
 
 -- THE LAWS
 

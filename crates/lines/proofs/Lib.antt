@@ -8,6 +8,7 @@ pub mod CopiedLaws
 pub mod OccurLaws
 pub mod PassLaws
 pub mod StepLaws
+pub mod NextLaws
 pub mod RoomLaws
 pub mod OpenLaws
 pub mod LineLaws

@@ -207,14 +207,14 @@ or-false : (a b : Bool) → (a || b ≡ false) ↔ ((a ≡ false) × (b ≡ fals
 or-false true b = (λ e. absurd (false≢true (sym e)), λ h. absurd (false≢true (sym (h .0))))
 or-false false b = (λ e. (refl, e), λ h. h .1)
 
-no-occurrence : (l : Line) → (hadOccurrence l ≡ false) ↔ NoOccurrence l
-unfolding hadOccurrence
+no-occurrence : (l : Line) → (hadOccurrence (passesOf l) ≡ false) ↔ NoOccurrence l
+unfolding passesOf hadOccurrence
 no-occurrence (lineEnded e) = (λ e. tt, λ h. refl)
 no-occurrence (passed x l) =
-    let y = or-false (occurred (x .events)) (hadOccurrence l) in
+    let y = or-false (occurred (x .events)) (hadOccurrence (passesOf l)) in
     (λ e. (y .0 e .0, no-occurrence l .0 (y .0 e .1)), λ h. y .1 (h .0, no-occurrence l .1 (h .1)))
 
-pub kind-of-done : (l : Line) (s : List ℕ) (st : State) (f : ℕ) (o : Bool) → st .nflag ≡ f → hadOccurrence l ≡ o
+pub kind-of-done : (l : Line) (s : List ℕ) (st : State) (f : ℕ) (o : Bool) → st .nflag ≡ f → hadOccurrence (passesOf l) ≡ o
     → (Withholds st l × (kindOfDone f o s ≡ withheld)) ⊎ ((Withholds st l → ⊥) × (kindOfDone f o s ≡ out s))
 unfolding kindOfDone
 kind-of-done l s st zero o e g = inr (λ h. h .0 e, refl)

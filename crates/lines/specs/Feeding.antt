@@ -127,7 +127,7 @@ answered ms old n o (done t st) = record { kind = kindOfDone (st .nflag) o t; pa
 answered ms old n o (control t st) = ofOrder ms old n (orderOf ms st t)
 
 unfoldable pub answer : Table → State → Line → Answer
-answer ms old l = answered ms old (length (passesOf l)) (hadOccurrence l) (ending l)
+answer ms old l = answered ms old (length (passesOf l)) (hadOccurrence (passesOf l)) (ending l)
 
 -- FEEDING
 

@@ -111,14 +111,22 @@ lineOf ms st sent = passes ms (sent .budget) [] (newestFirst [] ms) st (sent .li
 
 -- WHAT A LINE COMES TO
 
+-- its passes
 unfoldable pub passesOf : Line → List Pass
 passesOf (ended e) = []
 passesOf (passed x l) = x ∷ passesOf l
 
-unfoldable pub hadOccurrence : Line → Bool
-hadOccurrence (ended e) = false
-hadOccurrence (passed x l) = occurred (x .events) || hadOccurrence l
+-- whether one of the passes had an occurrence
+unfoldable pub hadOccurrence : List Pass → Bool
+hadOccurrence [] = false
+hadOccurrence (x ∷ xs) = occurred (x .events) || hadOccurrence xs
 
+-- its end, behind all its passes
 unfoldable pub ending : Line → Ending
 ending (ended e) = e
 ending (passed x l) = ending l
+
+-- some passes, and behind them a line
+unfoldable pub passesThen : List Pass → Line → Line
+passesThen [] l = l
+passesThen (x ∷ xs) l = passed x (passesThen xs l)
