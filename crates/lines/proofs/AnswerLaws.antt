@@ -20,8 +20,8 @@ use Rattle.lines.specs.Line.{Sent, Ending, Line, refused, done, control,
 use Rattle.lines.specs.Feeding.{bytes, same, withTrace, withNflag, flagOrder, macroOrder, Order, wrong, orders, orderOf}
 use Rattle.lines.specs.Feeding.{Kind, refusedWith, out, withheld, controlled, Answer, kindOfDone, refusal, ofOrder, answered, answer, hasBadByte, feed}
 use Rattle.lines.specs.Controls.{Says}
-use Rattle.lines.specs.Demand.{endOfLine, passCount, Withholds, HasBadByte, Fits, History, Run, Finished, ByKind}
-use Rattle.lines.specs.OneLine.{OneAnswer, Meets, OneList}
+use Rattle.lines.specs.Demand.{endOfLine, passCount, Withholds, HasBadByte, Fits, History, Run, Finished, ByKind, Lines}
+use Rattle.lines.specs.OneLine.{OneAnswer, OneList}
 use Rattle.lines.proofs.LineLaws.{pass-count, end-of-line, kind-of-done}
 use Rattle.lines.proofs.OrderLaws.{begins-with, same-true}
 use Rattle.lines.proofs.Demand3.{bad-byte, no-bad-byte, line-history}
@@ -192,7 +192,7 @@ module _ (ms : Table) (st : State) (sent : Sent) where
 
 -- THE LAW
 pub one-answer : OneAnswer
-one-answer ms st sent l k a b h g = fixed ms st sent l a (a .kind) refl h ∙ sym (fixed ms st sent k b (b .kind) refl g)
+one-answer ms st sent a b h g = fixed ms st sent (h .0) a (a .kind) refl (h .1) ∙ sym (fixed ms st sent (g .0) b (b .kind) refl (g .1))
 
 pub one-list : OneList
 one-list ms st [] [] [] h g = refl
@@ -201,6 +201,6 @@ one-list ms st [] (a ∷ as₁) bs h g = absurd h
 one-list ms st (x ∷ xs) [] bs h g = absurd h
 one-list ms st (x ∷ xs) (a ∷ as₁) [] h g = absurd g
 one-list ms st (x ∷ xs) (a ∷ as₁) (b ∷ bs) h g =
-    let e : a ≡ b = one-answer ms st x (h .0 .0) (g .0 .0) a b (h .0 .1) (g .0 .1) in
-    let i : as₁ ≡ bs = one-list (a .table) (a .state) xs as₁ bs (h .1) (subst (λ (c : Answer). Meets (c .table) (c .state) xs bs) (sym e) (g .1)) in
+    let e : a ≡ b = one-answer ms st x a b (h .0) (g .0) in
+    let i : as₁ ≡ bs = one-list (a .table) (a .state) xs as₁ bs (h .1) (subst (λ (c : Answer). Lines (c .table) (c .state) xs bs) (sym e) (g .1)) in
     ap (λ (c : Answer). c ∷ as₁) e ∙ ap (λ (l : List Answer). b ∷ l) i

@@ -2,6 +2,7 @@ pub mod CopyLaws
 pub mod MoreLaws
 pub mod ClosureLaws
 pub mod ChoiceLaws
+pub mod FewerLaws
 pub mod TagLaws
 pub mod MatchLaws
 pub mod CopiedLaws

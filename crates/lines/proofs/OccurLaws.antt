@@ -70,7 +70,7 @@ current-step : (m : Mark) (i : ℕ) (w : Work) → ComesTo (insertsCurrent m i �
 unfolding puts
 current-step m i w =
     let n : ℕ = w .size + length (contents (w .state) m i) in
-    by-unless (insertsCurrent m i) (leb n mostLineBytes) newLineTooLong w _ 
+    by-unless (insertsCurrent m i) (leb n mostLineBytes) newLineTooLong w _
     (λ e. (leb-true n mostLineBytes e, puts-copied (contents (w .state) m i) w (leb-true n mostLineBytes e)))
     (λ e. (refl, leb-false n mostLineBytes e))
 

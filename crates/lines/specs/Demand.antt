@@ -18,14 +18,14 @@ use Rattle.macros.specs.Refusals.WorkRefusal.{budgetUsedUp, newLineTooLong}
 use Rattle.macros.specs.Macro.{Symbol, Macro, Table, pick}
 use Rattle.macros.specs.Macro.Symbol.{equal, less}
 use Rattle.macros.specs.Accepted.{Accepted}
-use Rattle.lines.specs.State.{State, fresh}
+use Rattle.lines.specs.State.{State, InRange, fresh}
 use Rattle.lines.specs.Matching.{Division, Divides, Fewer, endOf}
 use Rattle.lines.specs.Tags.{TagsOf}
 use Rattle.lines.specs.Replacing.{Work}
 use Rattle.lines.specs.Replacing.Done.{bad, good}
 use Rattle.lines.specs.Pass.{Occurrence, Walk, occurred}
 use Rattle.lines.specs.Pass.Walk.{ended, occurs}
-use Rattle.lines.specs.Line.{Sent, Pass, Ending, Line, lineOf}
+use Rattle.lines.specs.Line.{Sent, Pass, Ending, Line}
 use Rattle.lines.specs.Line.Ending.{refused, done, control}
 use Rattle.lines.specs.Line.{Line.ended as lineEnded, Line.passed as passed}
 use Rattle.lines.specs.Feeding.{Kind, Answer, feeds}
@@ -278,9 +278,9 @@ ByKind ms st sent l a withheld = Run ms st sent l a × ((s : List ℕ) × Finish
 -- or is a control line
 ByKind ms st sent l a controlled = Run ms st sent l a × ((s : List ℕ) × (x : State) × Controlled ms l a s x)
 
--- "The passes and replacements meant are those by which 01's rules make the line's answer": of the history lineOf
+-- "The passes and replacements meant are those by which 01's rules make the line's answer": some history has them, and by OneLine no other has
 abbrev pub LineHolds : Table → State → Sent → Answer → Type 0
-LineHolds ms st sent a = ByKind ms st sent (lineOf ms st sent) a (a .kind)
+LineHolds ms st sent a = (l : Line) × ByKind ms st sent l a (a .kind)
 
 -- LINES "fed in turn", each to "the table and state that the last returned or left, refused or not" (01, contracts)
 abbrev pub Lines : Table → State → List Sent → List Answer → Type 0
@@ -289,6 +289,11 @@ Lines ms st (x ∷ xs) (a ∷ as₁) = LineHolds ms st x a × Lines (a .table) (
 Lines ms st [] (a ∷ as₁) = ⊥
 Lines ms st (x ∷ xs) [] = ⊥
 
--- DEMAND 3: "For every list of lines, control lines and refused ones included, fed in turn from a fresh state and any accepted table, each with any budget"
+-- RESUMED WORK: demand 3 from any state that 2 does not refuse, so that a list of lines may be cut anywhere
+abbrev pub Resumed : Type 0
+Resumed = (ms : Table) → Accepted ms → (st : State) → InRange st → (xs : List Sent) → Lines ms st xs (feeds ms st xs)
+
+-- DEMAND 3: "For every list of lines, control lines and refused ones included, fed in turn from a fresh state and any accepted table,
+-- each with any budget"
 abbrev pub Demand3 : Type 0
 Demand3 = (ms : Table) → Accepted ms → (xs : List Sent) → Lines ms fresh xs (feeds ms fresh xs)

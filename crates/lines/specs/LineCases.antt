@@ -16,12 +16,16 @@ pub classes :
     ∷ fed "xyz" (says "XXX" 2) []
     ∷ []
     )) ×
+    (Tried "'[aceg]'<'-';" (
+    fed "abcdefgh" (says "-b-d-f-h" 1) []
+    ∷ []
+    )) ×
     (Tried "'[b-d]'<'X';" (
     fed "abcde" (says "aXXXe" 1) []
     ∷ []
     ))
 unfolding everything
-classes = (refl, refl)
+classes = (refl, refl, refl)
 
 -- a literal, `?n`, and "`^` (place 0) and `$` (line end), both of width zero"
 pub kinds :
