@@ -38,7 +38,7 @@ TagInserts =
     (st : State) (t : List ℕ) (es : List Piece) (p : ℕ) (d : Division) → Divides st t es p d
     → (n : ℕ) (g : TagAt es n) (w : Work) → ComesTo (inserts (textOfTag es n g t p d) ∷ []) w (acts t es (stops d) (tag n) w)
 
--- THE LAW: and `&(n,i)`, with a sign or without, stores it as the current entry [next_tag_stored]
+-- THE LAW: and `&(n,i)`, with a sign or without, stores it as the current entry [next_tag_stored, stored_before_move]
 abbrev pub TagStores : Type 0
 TagStores =
     (st : State) (t : List ℕ) (es : List Piece) (p : ℕ) (d : Division) → Divides st t es p d
