@@ -18,17 +18,17 @@ use Rattle.m7.specs.Feeding.{Call, Feeds, Returns, sizedToFeed}
 -- calls in turn, nothing else writing the memories meanwhile: each is lent the table and the state that the last returned or left
 abbrev pub InTurn : (table state : List ℕ) → List Call → Type 0
 InTurn t b [] = Unit {0}
-InTurn t b (c ∷ cs) = (c .table ≡ t) × (c .state ≡ b) × Feeds c × InTurn (c .table′) (c .state′) cs
+InTurn t b (c ∷ cs) = (c .feeding .lent .table ≡ t) × (c .feeding .lent .state ≡ b) × Feeds c × InTurn (c .feeding .left .table) (c .feeding .left .state) cs
 
 -- what demand 3 says of a call's line and its answer a, by the definition LineHolds of crates/lines; a call that is lent a memory of another size is refused with 3, and no line is fed
 abbrev pub CallHolds : (sized : Bool) → Table → State → Call → Answered → Type 0
-CallHolds true ms st c a = LineHolds ms st (c .budget, c .line) a
+CallHolds true ms st c a = LineHolds ms st (c .feeding .sent) a
 CallHolds false ms st c a = a ≡ refusal ms st 0 (ofHost badMemory)
 
 -- of every call in turn, from the table and the state that the last answer left
 abbrev pub AllHold : Table → State → List Call → List Answered → Type 0
 AllHold ms st [] [] = Unit {0}
-AllHold ms st (c ∷ cs) (a ∷ as₁) = CallHolds (sizedToFeed c) ms st c a × AllHold (a .table) (a .state) cs as₁
+AllHold ms st (c ∷ cs) (a ∷ as₁) = CallHolds (sizedToFeed (c .feeding .lent)) ms st c a × AllHold (a .table) (a .state) cs as₁
 AllHold ms st [] (a ∷ as₁) = ⊥
 AllHold ms st (c ∷ cs) [] = ⊥
 
@@ -41,7 +41,7 @@ AllReturn (c ∷ cs) [] = ⊥
 
 -- "a refused line leaves table, state and output as they were", byte for byte
 abbrev pub Keeps : Call → Type 0
-Keeps c = (c .answer .number ≡ 0 → ⊥) → (c .table′ ≡ c .table) × (c .state′ ≡ c .state) × (c .output′ ≡ c .output)
+Keeps c = (c .answer .number ≡ 0 → ⊥) → c .feeding .left ≡ c .feeding .lent
 
 abbrev pub AllKeep : List Call → Type 0
 AllKeep [] = Unit {0}
