@@ -17,7 +17,7 @@ use Rattle.lines.specs.Line.{isControl, due, follow, afterPass, textOf, 
 use Rattle.lines.specs.Line.{Line.ended as lineEnded}
 use Rattle.lines.specs.Demand.{passCount, endOfLine}
 use Rattle.lines.specs.Budget.{BudgetExact}
-use Rattle.lines.proofs.FaultLaws.{NoBudget, pass-no}
+use Rattle.lines.proofs.OccurLaws.{NoBudget, pass-no}
 
 -- THE PASSES ARE WITHIN THE BUDGET
 

@@ -14,7 +14,7 @@ use Rattle.macros.specs.Refusals.WorkRefusal.{newLineTooLong}
 use Rattle.lines.specs.Replacing.{Work, unless, onto, put}
 use Rattle.lines.specs.Replacing.Done.{bad, good}
 use Rattle.lines.specs.Line.{textOf}
-use Rattle.lines.specs.Demand.{newLine, Copied}
+use Rattle.lines.specs.Steps.{newLine, Copied}
 
 reverse-onto : (l o : List ℕ) → reverseAux l o ≡ reverse l ++ o
 reverse-onto [] o = refl

@@ -16,11 +16,12 @@ use Rattle.lines.specs.State.{State, fresh}
 use Rattle.lines.specs.Line.{Sent, Ending, Line, refused, done, control, isIn, passesOf, hadOccurrence, ending, lineOf}
 use Rattle.lines.specs.Feeding.{Order, wrong, orders, orderOf, Answer, kindOfDone, refusal, ofOrder, answered, answer, hasBadByte, feed, feeds}
 use Rattle.lines.specs.Controls.{Says}
-use Rattle.lines.specs.Demand.{HasBadByte, Fits, History, Run, Finished, ByKind, Lines, Demand3}
+use Rattle.lines.specs.Demand.{HasBadByte, Fits, History, Run, Finished, ByKind, LineHolds, Lines, Resumed, Demand3}
 use Rattle.lines.proofs.LineLaws.{line-holds, left-nothing, pass-count, end-of-line, kind-of-done}
 use Rattle.lines.proofs.BudgetLaws.{line-budgeted}
 use Rattle.lines.proofs.FeedLaws.{feed-cases}
 use Rattle.lines.proofs.OrderLaws.{order-says}
+use Rattle.lines.proofs.KeepState.{fresh-in-range}
 
 -- 22, joined to the demand's own notion
 pub bad-byte : (t : List ℕ) → hasBadByte t ≡ true → HasBadByte t
@@ -106,12 +107,18 @@ fed-holds ms st sent =
     (λ e f g. (refl, refl, (leb-true (sent .budget) mostBudget e, leb-true (length (sent .line)) mostLineBytes f, bad-byte (sent .line) g, refl)))
     (λ e f g. ending-holds ms st sent (record { few = leb-true (sent .budget) mostBudget e; short = leb-true (length (sent .line)) mostLineBytes f; clean = no-bad-byte (sent .line) g }) (ending (lineOf ms st sent)) refl)
 
--- of every state, of which fresh is one, and every table
+pub fed-line : (ms : Table) (st : State) (sent : Sent) → LineHolds ms st sent (feed ms st sent)
+fed-line ms st sent = (lineOf ms st sent, fed-holds ms st sent)
+
+-- of every state and every table
 lines : (ms : Table) (st : State) (xs : List Sent) → Lines ms st xs (feeds ms st xs)
 unfolding feeds
 lines ms st [] = tt
-lines ms st (x ∷ xs) = (fed-holds ms st x, lines _ _ xs)
+lines ms st (x ∷ xs) = (fed-line ms st x, lines _ _ xs)
 
 -- THE LAW
+pub resumed : Resumed
+resumed ms accepted st range xs = lines ms st xs
+
 pub demand3 : Demand3
-demand3 ms accepted xs = lines ms fresh xs
+demand3 ms accepted xs = resumed ms accepted fresh fresh-in-range xs

@@ -2,10 +2,11 @@ pub mod CopyLaws
 pub mod MoreLaws
 pub mod ClosureLaws
 pub mod ChoiceLaws
+pub mod FewerLaws
 pub mod TagLaws
 pub mod MatchLaws
 pub mod CopiedLaws
-pub mod FaultLaws
+pub mod OccurLaws
 pub mod PassLaws
 pub mod StepLaws
 pub mod NextLaws
@@ -14,6 +15,7 @@ pub mod OpenLaws
 pub mod LineLaws
 pub mod BudgetLaws
 pub mod FeedLaws
+pub mod OntoLaws
 pub mod OrderLaws
 pub mod Demand3
 pub mod OneLaws

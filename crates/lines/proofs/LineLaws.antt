@@ -22,11 +22,12 @@ use Rattle.lines.specs.Line.{Sent, Numbered, Pass, Line, passed, refused
 use Rattle.lines.specs.Line.{isControl, due, follow, afterPass, textOf, passes, lineOf, passesOf, hadOccurrence, ending}
 use Rattle.lines.specs.Line.{Line.ended as lineEnded}
 use Rattle.lines.specs.Feeding.{withheld, out, kindOfDone}
-use Rattle.lines.specs.Demand.{Nowhere, Walks, newLine, Copied, NotIn, Due, Dollar, EndsIn, FailsIn}
+use Rattle.lines.specs.Steps.{newLine, Copied}
+use Rattle.lines.specs.Demand.{Nowhere, Walks, NotIn, Due, Dollar, EndsIn, FailsIn}
 use Rattle.lines.specs.Demand.{PassHolds, closedIf, closedAfter, sinceAfter, Passes, closedIn, passCount, endOfLine, NoOccurrence, Withholds}
 use Rattle.lines.proofs.CopiedLaws.{text-of}
 use Rattle.lines.proofs.PassLaws.{ends-in, fails-in, pass-walks}
-use Rattle.lines.proofs.FaultLaws.{NoBudget, pass-no}
+use Rattle.lines.proofs.OccurLaws.{NoBudget, pass-no}
 use Rattle.lines.proofs.OpenLaws.{in-cons, not-in, Todo, todo-next, todo-all}
 
 -- WHAT A PASS COMES TO

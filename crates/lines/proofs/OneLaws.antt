@@ -2,7 +2,7 @@
 use mathlib.Core.Path.{_≡_, refl, sym, ap, _∙_, subst}
 use mathlib.Core.Bool.{Bool, true, false}
 use mathlib.Core.Logic.{_⊎_, inl, inr}
-use mathlib.Core.List.{List, [], _∷_, reverse, reverse-reverse}
+use mathlib.Core.List.{List, [], _∷_}
 use mathlib.Core.Option.{Option, none, some}
 use Prim.Native.Nat.{ℕ, zero, suc, _+_, _-_, _≤_, _<_}
 use native.Mathlib.Omega.{arith}
@@ -20,24 +20,14 @@ use Rattle.lines.specs.Replacing.Done.{bad, good}
 use Rattle.lines.specs.Pass.{Occurrence, Walk, ended, occurs}
 use Rattle.lines.specs.Line.{Numbered, Pass, Line, passed, refused, done, control}
 use Rattle.lines.specs.Line.{Line.ended as lineEnded}
-use Rattle.lines.specs.Demand.{NoneAhead, Stands, Replaces, stopOf, aheadAfter, behind, newLine, Copied, Fails, Full, Walks, EndsIn, FailsIn}
+use Rattle.lines.specs.Steps.{newLine, Copied}
+use Rattle.lines.specs.Demand.{NoneAhead, Stands, Replaces, stopOf, aheadAfter, behind, Fails, Full, Walks, EndsIn, FailsIn}
 use Rattle.lines.specs.Demand.{PassHolds, closedAfter, sinceAfter, Passes, passCount, endOfLine}
 use Rattle.lines.specs.OneLine.{OneLine}
 use Rattle.lines.proofs.LineLaws.{either}
+use Rattle.lines.proofs.OccurLaws.{copied-same, occur-is}
 
 -- MOMENTS AND DIVISIONS
-
-copied-same : (s : List ℕ) (w v x : Work) → Copied s w v → Copied s w x → v ≡ x
-copied-same s w v x h g = λ i. record { out = o i; size = n i; state = z i }
-  where
-    o : v .out ≡ x .out
-    o = sym (reverse-reverse (v .out)) ∙ ap reverse (h .line ∙ sym (g .line)) ∙ reverse-reverse (x .out)
-
-    n : v .size ≡ x .size
-    n = h .size ∙ sym (g .size)
-
-    z : v .state ≡ x .state
-    z = h .state ∙ sym (g .state)
 
 fewer-not : (a b : Division) → Fewer a b → Fewer b a → ⊥
 unfolding Fewer
@@ -159,6 +149,13 @@ module _ (m : Macro) (t : List ℕ) (from : ℕ) (last : Option ℕ) (w : Work) 
   of-fails : (r : WorkRefusal) (v : Work) → Fails m t from last w r v → Hit m t from last w
   of-fails r v f = record { place = f .place; division = f .division; before = f .before; copied = f .copied; stands = f .stands }
 
+made : (m : Macro) (t : List ℕ) (from : ℕ) (last : Option ℕ) (o : Occurrence) → Replaces m t from last o → occur m t (o .division) (o .before) ≡ good (o .after)
+made m t from last o h = occur-is m t (o .division) (o .before) (good (o .after)) (h .acts)
+
+refusal : (m : Macro) (t : List ℕ) (from : ℕ) (last : Option ℕ) (w : Work) (r : WorkRefusal) (v : Work) (f : Fails m t from last w r v)
+    → occur m t (f .division) (f .before) ≡ bad r v
+refusal m t from last w r v f = occur-is m t (f .division) (f .before) (bad r v) (f .breaks)
+
 good-not-bad : (a : Done) (v : Work) (r : WorkRefusal) (x : Work) → a ≡ good v → a ≡ bad r x → ⊥
 good-not-bad a v r x e f = let z : _≡_ {A = ℕ} 0 1 = cc in omega arith
 
@@ -181,7 +178,7 @@ walk-same m t from last w z (occurs o k) (occurs x j) h g =
     let q = of-occurrence m t from last w z x (g .0) (g .1) in
     let s = hits-same m t from last w z p q in
     let a = acts-same m t from last w z p q in
-    let c : o .after ≡ x .after = after-same (occur m t (o .division) (o .before)) (occur m t (x .division) (x .before)) (o .after) (x .after) a (h .1 .made) (g .1 .made) in
+    let c : o .after ≡ x .after = after-same (occur m t (o .division) (o .before)) (occur m t (x .division) (x .before)) (o .after) (x .after) a (made m t from last o (h .1)) (made m t from last x (g .1)) in
     let e : o ≡ x = occurrence-same o x (s .places) (s .divisions) (s .befores) c in
     let i : k ≡ j =
     walk-same m t (aheadAfter o) (some (stopOf o)) (o .after) (ahead-on o) k j (h .2)
@@ -193,7 +190,7 @@ walk-same m t from last w z (occurs o k) (occurs x j) h g =
 walk-same m t from last w z (occurs o k) (ended (good v)) h g = absurd (hit-end m t from last w z (of-occurrence m t from last w z o (h .0) (h .1)) v (g .0) (g .1))
 walk-same m t from last w z (occurs o k) (ended (bad r v)) h (inl f) =
     let a = acts-same m t from last w z (of-occurrence m t from last w z o (h .0) (h .1)) (of-fails m t from last w z r v f) in
-    absurd (good-not-bad (occur m t (o .division) (o .before)) (o .after) r v (h .1 .made) (a ∙ f .refused))
+    absurd (good-not-bad (occur m t (o .division) (o .before)) (o .after) r v (made m t from last o (h .1)) (a ∙ refusal m t from last w r v f))
 walk-same m t from last w z (occurs o k) (ended (bad r v)) h (inr f) = absurd (hit-full m t from last w z (of-occurrence m t from last w z o (h .0) (h .1)) r v f)
 walk-same m t from last w z (ended (good v)) (occurs x j) h g = absurd (hit-end m t from last w z (of-occurrence m t from last w z x (g .0) (g .1)) v (h .0) (h .1))
 walk-same m t from last w z (ended (good v)) (ended (good y)) h g = ap (λ (x : Work). ended (good x)) (copied-same (slice (behind last) (length t) t) w v y (h .0) (g .0))
@@ -201,12 +198,12 @@ walk-same m t from last w z (ended (good v)) (ended (bad r y)) h (inl f) = absur
 walk-same m t from last w z (ended (good v)) (ended (bad r y)) h (inr f) = absurd (end-full m t from last w z v (h .0) r y f)
 walk-same m t from last w z (ended (bad r v)) (occurs x j) (inl f) g =
     let a = acts-same m t from last w z (of-occurrence m t from last w z x (g .0) (g .1)) (of-fails m t from last w z r v f) in
-    absurd (good-not-bad (occur m t (x .division) (x .before)) (x .after) r v (g .1 .made) (a ∙ f .refused))
+    absurd (good-not-bad (occur m t (x .division) (x .before)) (x .after) r v (made m t from last x (g .1)) (a ∙ refusal m t from last w r v f))
 walk-same m t from last w z (ended (bad r v)) (occurs x j) (inr f) g = absurd (hit-full m t from last w z (of-occurrence m t from last w z x (g .0) (g .1)) r v f)
 walk-same m t from last w z (ended (bad r v)) (ended (good y)) (inl f) g = absurd (hit-end m t from last w z (of-fails m t from last w z r v f) y (g .0) (g .1))
 walk-same m t from last w z (ended (bad r v)) (ended (good y)) (inr f) g = absurd (end-full m t from last w z y (g .0) r v f)
 walk-same m t from last w z (ended (bad r v)) (ended (bad s y)) (inl f) (inl g) =
-    ap ended (sym (f .refused) ∙ acts-same m t from last w z (of-fails m t from last w z r v f) (of-fails m t from last w z s y g) ∙ g .refused)
+    ap ended (sym (refusal m t from last w r v f) ∙ acts-same m t from last w z (of-fails m t from last w z r v f) (of-fails m t from last w z s y g) ∙ refusal m t from last w s y g)
 walk-same m t from last w z (ended (bad r v)) (ended (bad s y)) (inl f) (inr g) = absurd (hit-full m t from last w z (of-fails m t from last w z r v f) s y g)
 walk-same m t from last w z (ended (bad r v)) (ended (bad s y)) (inr f) (inl g) = absurd (hit-full m t from last w z (of-fails m t from last w z s y g) r v f)
 walk-same m t from last w z (ended (bad r v)) (ended (bad s y)) (inr f) (inr g) = ap ended (full-same m t from last w z r v s y f g)

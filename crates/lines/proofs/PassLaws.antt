@@ -17,11 +17,12 @@ use Rattle.lines.specs.Matching.{Division, Divides, endOf}
 use Rattle.lines.specs.Replacing.{Work, Done, put, occur}
 use Rattle.lines.specs.Replacing.Done.{bad, good}
 use Rattle.lines.specs.Pass.{Walk, ended, occurs, match, goOn, matched, atEnd, onward, atByte, walk, pass, outcome}
-use Rattle.lines.specs.Demand.{NoneAhead, Stands, Copied, Full, behind, Walks, EndsIn, FailsIn}
+use Rattle.lines.specs.Steps.{Copied, stepsOf, ComesTo}
+use Rattle.lines.specs.Demand.{NoneAhead, Stands, Full, behind, Walks, EndsIn, FailsIn}
 use Rattle.lines.proofs.CopyLaws.{ends-on, ends-inside}
 use Rattle.lines.proofs.MatchLaws.{Matches, match-matches}
 use Rattle.lines.proofs.TagLaws.{tags-run}
-use Rattle.lines.proofs.FaultLaws.{occur-why}
+use Rattle.lines.proofs.OccurLaws.{occur-steps}
 use Rattle.lines.proofs.CopiedLaws.{copied-none, copied-append, put-full, put-copied, byte-inside, byte-rest, slice-next}
 
 -- the end of a pass, joined to the demand's own notion
@@ -61,8 +62,8 @@ module _ (m : Macro) (t : List ℕ) (p : ℕ) (last : Option ℕ) (v w : Work) (
       stands = record { ahead = ahead; inside = inside; divides = h .0; counts = h .1; leftmost = before; most = h .2; tags = tags-run (v .state) t (m .pattern) p d (h .0) }
 
       go : (a : Done) → occur m t d v ≡ a → Walks m t from last w (goOn a (λ x. occurs (record { place = p; division = d; before = v; after = x }) (k x)))
-      go (bad r x) e = inl (record { place = p; division = d; before = v; copied = now; stands = stands; refused = e; why = occur-why m t d v r x e })
-      go (good x) e = (now, record { stands = stands; made = e }, ih x)
+      go (bad r x) e = inl (record { place = p; division = d; before = v; copied = now; stands = stands; breaks = subst (ComesTo (stepsOf m t d) v) e (occur-steps m t d v) })
+      go (good x) e = (now, record { stands = stands; acts = subst (ComesTo (stepsOf m t d) v) e (occur-steps m t d v) }, ih x)
 
   end-holds : p ≡ length t → (a : Option Division) → Matches (Divides (v .state) t (m .pattern) p) last p a → Walks m t from last w (atEnd m t p v a)
   unfolding atEnd pick

@@ -1,27 +1,20 @@
 -- The laws of specs/TagsAtWork.
 use mathlib.Core.Path.{_≡_, refl, sym, ap, _∙_, subst}
-use mathlib.Core.Bool.{Bool, true, false}
 use mathlib.Core.List.{List, [], _∷_, _++_, reverseAux}
 use Prim.Native.Nat.{ℕ, zero, suc, _+_, _-_, _≤_, _<_}
 use native.Mathlib.Nat.{zero-add}
 use native.Mathlib.Omega.{arith}
-use borrow.Author.Tests.{leb-true, leb-false}
-use lib.Dec.{leb}
-use lib.ListN.{length}
-use Rattle.macros.specs.Bounds.{mostLineBytes, mostEntryBytes}
-use Rattle.macros.specs.Refusals.WorkRefusal.{newLineTooLong, tagTooLong}
 use Rattle.macros.specs.Macro.{Piece, Macro, tags, depth}
 use Rattle.macros.specs.Macro.Piece.{element, start, end, left, right}
 use Rattle.macros.specs.Macro.Mark.{stack}
-use Rattle.macros.specs.Macro.Move.{still}
 use Rattle.macros.specs.Formed.{FormedPieces}
 use Rattle.lines.specs.State.{State}
 use Rattle.lines.specs.Matching.{Division, Divides, stops, tagText}
-use Rattle.lines.specs.Replacing.{Work, Done, _>>=_, unless, onto, puts, withEntry, early, late, stores, acts, callActs}
-use Rattle.lines.specs.Replacing.Done.{bad, good}
+use Rattle.lines.specs.Replacing.{Work, _>>=_, puts, early, late, stores, acts, callActs}
+use Rattle.lines.specs.Steps.{withMove, ComesTo, Step.inserts as inserts, Step.stores as storesText}
 use Rattle.lines.specs.Tags.{Closes}
-use Rattle.lines.specs.TagsAtWork.{TagAt, textOfTag, Inserts, Stores, TagInserts, TagStores, TagsStand}
-use Rattle.lines.proofs.CopiedLaws.{puts-copied}
+use Rattle.lines.specs.TagsAtWork.{TagAt, textOfTag, TagInserts, TagStores, TagsStand}
+use Rattle.lines.proofs.OccurLaws.{puts-step, store-step, moved-step}
 use Rattle.lines.proofs.TagLaws.{tags-run}
 
 -- the definition's text is the tag's
@@ -30,30 +23,18 @@ tag-text st t es p d h n g =
     ap (λ (k : ℕ). tagText t k es (stops d)) (let a = g .number in let z : n - 1 ≡ tags (g .front) = omega arith in z)
     ∙ tags-run st t es p d h (g .front) (g .inside) (g .back) (g .pieces) (g .own)
 
-inserts : (x : List ℕ) (w : Work) → Inserts x w (puts x w)
-unfolding puts unless
-inserts x w = go (leb (w .size + length x) mostLineBytes) refl
-  where
-    go : (b : Bool) → leb (w .size + length x) mostLineBytes ≡ b → Inserts x w (unless b newLineTooLong w (record { out = onto x (w .out); size = w .size + length x; state = w .state }))
-    go true e = puts-copied x w (leb-true (w .size + length x) mostLineBytes e)
-    go false e = (refl, refl, leb-false (w .size + length x) mostLineBytes e)
-
 pub tag-inserts : TagInserts
 unfolding acts
-tag-inserts st t es p d h n g w = subst (λ (x : List ℕ). Inserts x w (puts (tagText t (n - 1) es (stops d)) w)) (tag-text st t es p d h n g) (inserts (tagText t (n - 1) es (stops d)) w)
-
-stored : (i : ℕ) (x : List ℕ) (w : Work) → Stores i x w (good w >>= stores i x >>= late stack still i)
-unfolding stores unless late
-stored i x w = go (leb (length x) mostEntryBytes) refl
-  where
-    go : (b : Bool) → leb (length x) mostEntryBytes ≡ b → Stores i x w (unless b tagTooLong w (withEntry i x w) >>= late stack still i)
-    go true e = (refl, leb-true (length x) mostEntryBytes e)
-    go false e = (refl, refl, leb-false (length x) mostEntryBytes e)
+tag-inserts st t es p d h n g w =
+    let x : List ℕ = tagText t (n - 1) es (stops d) in
+    subst (λ (y : List ℕ). ComesTo (inserts y ∷ []) w (puts x w)) (tag-text st t es p d h n g) (puts-step x w)
 
 pub tag-stores : TagStores
-unfolding callActs early
-tag-stores st t es p d h n g i w =
-    subst (λ (x : List ℕ). Stores i x w (good w >>= stores i (tagText t (n - 1) es (stops d)) >>= late stack still i)) (tag-text st t es p d h n g) (stored i (tagText t (n - 1) es (stops d)) w)
+unfolding callActs
+tag-stores st t es p d h n g i v w =
+    let x : List ℕ = tagText t (n - 1) es (stops d) in
+    subst (λ (y : List ℕ). ComesTo (withMove stack i v (storesText i y)) w (early stack v i w >>= stores i x >>= late stack v i)) (tag-text st t es p d h n g)
+    (moved-step stack i v (storesText i x) (stores i x) (store-step i x) w)
 
 -- A PATTERN HAS ITS TAGS
 

@@ -1,5 +1,6 @@
 pub mod State
 pub mod Matching
+pub mod Choosing
 pub mod Replacing
 pub mod Pass
 pub mod Line
@@ -9,10 +10,11 @@ pub mod Tags
 pub mod Room
 pub mod FeedKeeps
 pub mod Made
-pub mod Faults
+pub mod Steps
 pub mod Controls
 pub mod Demand
 pub mod Budget
 pub mod OneLine
 pub mod TagsAtWork
 pub mod Cases
+pub mod LineCases

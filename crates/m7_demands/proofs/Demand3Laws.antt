@@ -14,14 +14,14 @@ use Rattle.lines.specs.Feeding.{Kind, feed, refusal, numberOf, placeOf, kindNum
 use Rattle.lines.specs.Feeding.Kind.{refusedWith, out, withheld, controlled}
 use Rattle.lines.specs.Feeding.{Answer as Answered}
 use Rattle.lines.specs.Demand.{ByKind}
-use Rattle.lines.proofs.Demand3.{fed-holds}
+use Rattle.lines.proofs.Demand3.{fed-holds, fed-line}
 use Rattle.form_state.specs.Form.{stateForm}
 use Rattle.form_state.specs.Access.{Holds}
 use Rattle.lines.proofs.KeepState.{fresh-in-range}
 use Rattle.line_memory.specs.Memory.{Memories, IsTable}
 use Rattle.line_feed.specs.Contract.{laidOut}
 use Rattle.m7.specs.Feeding.{Call, Feeds, Returns, Refuses, sizedToFeed, answerOf}
-use Rattle.m7_demands.specs.Demand3.{InTurn, CallHolds, Keeps, Holds3, Demand3}
+use Rattle.m7_demands.specs.Demand3.{InTurn, CallHolds, Keeps, Holds3, Resumed, Demand3}
 use Rattle.m7_demands.proofs.OneFeed.{memories-same}
 use Rattle.line_answer.specs.declared.Answer.{Answer}
 
@@ -57,7 +57,7 @@ unfolding refusal answerOf laidOut numberOf placeOf kindNumber outputOf place
 one ms st c f h k = go (sizedToFeed (c .feeding .lent)) refl
   where
     go : (b : Bool) → sizedToFeed (c .feeding .lent) ≡ b → One ms st c
-    go true e = record { answer = feed ms st (c .feeding .sent); returned = k .fed e ms f st h; line = rw e (fed-holds ms st (c .feeding .sent)); keeps = by-kind ms st c f h (k .fed e ms f st h) (fed ms st c f h .kind) refl }
+    go true e = record { answer = feed ms st (c .feeding .sent); returned = k .fed e ms f st h; line = rw e (fed-line ms st (c .feeding .sent)); keeps = by-kind ms st c f h (k .fed e ms f st h) (fed ms st c f h .kind) refl }
     go false e =
         let r : Refuses c badMemory = k .otherSize e in
         record {
@@ -75,5 +75,9 @@ calls ms st t b (c ∷ cs) f h k =
     record { answers = o .answer ∷ w .answers; returned = (o .returned, w .returned); demand = (o .line, w .demand); kept = (o .keeps, w .kept) }
 
 -- THE LAW
+pub resumed : Resumed
+resumed t b ms st cs f h k = calls ms st t b cs f h k
+
+-- and the fresh state is one
 pub demand3 : Demand3
-demand3 t ms cs f k = calls ms fresh t _ cs f (record { inRange = fresh-in-range; form = refl }) k
+demand3 t ms cs f k = resumed t _ ms fresh cs f (record { inRange = fresh-in-range; form = refl }) k
