@@ -20,7 +20,7 @@ use Rattle.form_table.specs.Form.{slotBytes, tableBytes, slots, form}
 use Rattle.form_table.proofs.Tables.{slots-size, formSize}
 use Rattle.read_scan.specs.Scan.{faultOf}
 use Rattle.form_items.specs.Items.{Wrote}
-use Rattle.read_file.specs.File.{ZeroAt, Adds, AddsFrom, Lent, Onto, tableOf}
+use Rattle.read_file.specs.File.{ZeroAt, Adds, AddsFrom, Lent, Onto, macrosBy, tableOf}
 use Rattle.read_scan.specs.declared.Fault.{Fault}
 use Rattle.read_scan.specs.declared.Fault.the-variants.{FileTooLong, ZeroByte}
 use Rattle.read_file.specs.declared.Added.{Added}
@@ -120,8 +120,8 @@ module _ (ms : Table) (f : Accepted ms) (c : ℕ) (l : length ms ≡ c) where
 -- READING
 
 module _ (s : List ℕ) (c : ℕ) (old out : List ℕ) (h : length s ≤ 32768) (z : ℕ) (x : ZeroAt s z) (i : length s ≤ z) {r : Added} (y : AddsFrom s c old out r) where
-  pub onto-table : {n : ℕ} {w : Reading} → r ≡ All n → w ≡ tableOf r → Onto s c old out w
-  onto-table {n} e g = rw (g ∙ ap tableOf e) by
+  pub onto-table : {n : ℕ} → r ≡ All n → Onto s c old out (TableOf n)
+  onto-table {n} e = by
     where
       a : Adds s c old out n (λ ms. table (reverse ms))
       a = rw e at y
@@ -140,13 +140,19 @@ module _ (s : List ℕ) (c : ℕ) (old out : List ℕ) (h : length s ≤ 32768) 
     pub not-all : AddsFrom s c old out (NotAll f q n)
     not-all = rw e at y
 
-    pub onto-refused : (fin : List ℕ) → Wrote out fin (c * 1024) (replicate ((n - c) * 1024) 0) → Onto s c old fin (NoTable f q)
-    onto-refused fin v ms g k l =
+    onto-fault : (fin : List ℕ) → Wrote out fin (c * 1024) (replicate ((n - c) * 1024) 0) → Onto s c old fin (NoTable f q)
+    onto-fault fin v ms g k l =
         let a = not-all in
         let d : length (reverse (a .added)) ≡ length (a .added) = length-reverse (a .added) in (
           fresh ms s h (x .missing i) ∙ a .answer (reverse ms) (length-reverse ms ∙ l),
           restored ms g c l old k out (reverse (a .added)) n (omega (arith, a .size, d)) (omega (arith, a .counted, d)) (a .few) (a .wrote) fin v,
         )
+
+    pub by-then : {m : ℕ} → m ≡ macrosBy r → m ≡ n
+    by-then g = g ∙ ap macrosBy e
+
+    pub onto-refused : {m : ℕ} {w : Reading} → m ≡ macrosBy r → w ≡ tableOf r → (fin : List ℕ) → Wrote out fin (c * 1024) (replicate ((m - c) * 1024) 0) → Onto s c old fin w
+    onto-refused g j fin v = rw (j ∙ ap tableOf e) (onto-fault fin (rw (by-then g) at v))
 
 -- THE SAME, BY WHAT readOnto SAYS
 

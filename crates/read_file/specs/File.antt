@@ -165,6 +165,11 @@ abbrev pub noMacro : Built → ℕ → Added
 noMacro (Made q h) n = NotAll Incomplete q n
 noMacro (NoMacro f q) n = NotAll f q n
 
+-- the macros that the table has by then
+abbrev pub macrosBy : Added → ℕ
+macrosBy (All n) = n
+macrosBy (NotAll f q n) = n
+
 abbrev pub tableOf : Added → Reading
 tableOf (All n) = TableOf n
 tableOf (NotAll f q n) = NoTable f q

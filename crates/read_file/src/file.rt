@@ -25,7 +25,7 @@ ghost use Rattle.macros.specs.Bounds.{mostMacros, mostTags};
 ghost use Rattle.form_table.specs.Form.{slotBytes, tableBytes, symbolCode};
 ghost use Rattle.read_scan.specs.Scan.{Reached};
 ghost use Rattle.read_file.specs.Action.{symbolOf};
-ghost use Rattle.read_file.specs.File.{MacroFrom, PartsFrom, noPattern, noNext, noEnd, opens, turned, Seeks, ZeroAt, AddsFrom, noQuote, noMacro, tableOf, Lent, Onto};
+ghost use Rattle.read_file.specs.File.{MacroFrom, PartsFrom, noPattern, noNext, noEnd, opens, turned, Seeks, ZeroAt, AddsFrom, noQuote, noMacro, macrosBy, tableOf, Lent, Onto};
 
 fn symbol_code(b: u8) -> u8
     ensures { λ r. ⌜ r ≡ symbolCode (symbolOf b) ⌝ }
@@ -175,11 +175,12 @@ pub fn read_onto(file: &[u8], table: &mut [u8], count: usize) -> Reading
     }
     let mut scratch: [u8; 1024] = [0; 1024];
     let added = add_macros(file, table, &mut scratch, count);
-    let Added::Refused(f, q, n) = added else {
+    let Added::All(n) = added else {
+        let by = macros_by(added);
+        clear(table, count * SLOT_BYTES, (by - count) * SLOT_BYTES);
         return table_of(added);
     };
-    clear(table, count * SLOT_BYTES, (n - count) * SLOT_BYTES);
-    Reading::Refused(f, q)
+    Reading::Table(n)
 }
 
 // REFUSALS HANDED ON, each with its place. Callers hand on nothing else, so the other arms are never taken.
@@ -228,6 +229,16 @@ fn no_macro(b: Built, n: usize) -> Added
     match b {
         Built::Made(q, _) => Added::Refused(Fault::Incomplete, q, n),
         Built::Refused(f, q) => Added::Refused(f, q, n),
+    }
+}
+
+// The macros that the table has by then.
+fn macros_by(a: Added) -> usize
+    ensures { λ r. ⌜ r ≡ macrosBy a ⌝ }
+{
+    match a {
+        Added::All(n) => n,
+        Added::Refused(_, _, n) => n,
     }
 }
 

@@ -1,7 +1,7 @@
 use borrow.Author.Needs.{needs}
 use native.Mathlib.Omega.{arith}
 use denote.Ref.{now}
-use Rattle.read_file.proofs.Restoring.{lent-size, lent-count, onto-long, onto-zero, onto-table, not-all, onto-refused}
+use Rattle.read_file.proofs.Restoring.{lent-size, lent-count, onto-long, onto-zero, onto-table, not-all, by-then, onto-refused}
 use Rattle.read_file.proofs.file.read_onto.Statement.{statement}
 use Rattle.read_file.proofs.file.read_onto.Tie as tie
 
@@ -28,18 +28,8 @@ enum-known-added c = c .match .keys1
 enum-told : tie.Need-enum-told
 enum-told c = c .match .keys2
 
-table-of-requires : tie.Need-table-of-requires
-table-of-requires c κs = tt
-
-same-length : tie.Need-same-length
-same-length c = search needs
-
-returns-3 : tie.Need-returns-3
-returns-3 c =
-    let args = c .before .before .before .before .before .before .before .before .before .before .before .before .before .before .args in
-    let add-macros = c .before .before .before .before .before .before .add-macros in
-    let first-zero = c .before .before .before .before .before .before .before .before .before .before .first-zero in
-    onto-table (now (args .file)) (args .count) (now (args .table)) (add-macros .last .1 .0) (omega (arith, c .before .before .before .before .before .before .before .before .before .before .before .if1 .left)) (first-zero .result) (first-zero .ensures) (omega (arith, c .before .before .before .before .before .before .before .before .before .if2 .left)) (add-macros .ensures) (c .before .enum-told .given .1) (c .table-of .ensures)
+macros-by-requires : tie.Need-macros-by-requires
+macros-by-requires c κs = tt
 
 mul-clear : tie.Need-mul-clear
 mul-clear c = omega (arith, lent-count (c .before .before .before .before .before .before .before .before .before .before .before .before .before .before .before .pre))
@@ -49,7 +39,8 @@ sub-clear c =
     let args = c .before .before .before .before .before .before .before .before .before .before .before .before .before .before .before .args in
     let add-macros = c .before .before .before .before .before .before .before .add-macros in
     let first-zero = c .before .before .before .before .before .before .before .before .before .before .before .first-zero in
-    let a = not-all (now (args .file)) (args .count) (now (args .table)) (add-macros .last .1 .0) (omega (arith, c .before .before .before .before .before .before .before .before .before .before .before .before .if1 .left)) (first-zero .result) (first-zero .ensures) (omega (arith, c .before .before .before .before .before .before .before .before .before .before .if2 .left)) (add-macros .ensures) (c .before .before .added .given .1) in
+    let a = not-all (now (args .file)) (args .count) (now (args .table)) (add-macros .last .1 .0) (omega (arith, c .before .before .before .before .before .before .before .before .before .before .before .before .if1 .left)) (first-zero .result) (first-zero .ensures) (omega (arith, c .before .before .before .before .before .before .before .before .before .before .if2 .left)) (add-macros .ensures) (c .before .before .enum-told .given .1) in
+    let n = by-then (now (args .file)) (args .count) (now (args .table)) (add-macros .last .1 .0) (omega (arith, c .before .before .before .before .before .before .before .before .before .before .before .before .if1 .left)) (first-zero .result) (first-zero .ensures) (omega (arith, c .before .before .before .before .before .before .before .before .before .before .if2 .left)) (add-macros .ensures) (c .before .before .enum-told .given .1) (c .before .macros-by .ensures) in
     omega (arith, a .counted)
 
 mul-clear-2 : tie.Need-mul-clear-2
@@ -57,7 +48,8 @@ mul-clear-2 c =
     let args = c .before .before .before .before .before .before .before .before .before .before .before .before .before .before .before .args in
     let add-macros = c .before .before .before .before .before .before .before .add-macros in
     let first-zero = c .before .before .before .before .before .before .before .before .before .before .before .first-zero in
-    let a = not-all (now (args .file)) (args .count) (now (args .table)) (add-macros .last .1 .0) (omega (arith, c .before .before .before .before .before .before .before .before .before .before .before .before .if1 .left)) (first-zero .result) (first-zero .ensures) (omega (arith, c .before .before .before .before .before .before .before .before .before .before .if2 .left)) (add-macros .ensures) (c .before .before .added .given .1) in
+    let a = not-all (now (args .file)) (args .count) (now (args .table)) (add-macros .last .1 .0) (omega (arith, c .before .before .before .before .before .before .before .before .before .before .before .before .if1 .left)) (first-zero .result) (first-zero .ensures) (omega (arith, c .before .before .before .before .before .before .before .before .before .before .if2 .left)) (add-macros .ensures) (c .before .before .enum-told .given .1) in
+    let n = by-then (now (args .file)) (args .count) (now (args .table)) (add-macros .last .1 .0) (omega (arith, c .before .before .before .before .before .before .before .before .before .before .before .before .if1 .left)) (first-zero .result) (first-zero .ensures) (omega (arith, c .before .before .before .before .before .before .before .before .before .before .if2 .left)) (add-macros .ensures) (c .before .before .enum-told .given .1) (c .before .macros-by .ensures) in
     omega (arith, a .few)
 
 clear-requires : tie.Need-clear-requires
@@ -65,19 +57,33 @@ clear-requires c κs =
     let args = c .before .before .before .before .before .before .before .before .before .before .before .before .before .before .before .args in
     let add-macros = c .before .before .before .before .before .before .before .add-macros in
     let first-zero = c .before .before .before .before .before .before .before .before .before .before .before .first-zero in
-    let a = not-all (now (args .file)) (args .count) (now (args .table)) (add-macros .last .1 .0) (omega (arith, c .before .before .before .before .before .before .before .before .before .before .before .before .if1 .left)) (first-zero .result) (first-zero .ensures) (omega (arith, c .before .before .before .before .before .before .before .before .before .before .if2 .left)) (add-macros .ensures) (c .before .before .added .given .1) in
+    let a = not-all (now (args .file)) (args .count) (now (args .table)) (add-macros .last .1 .0) (omega (arith, c .before .before .before .before .before .before .before .before .before .before .before .before .if1 .left)) (first-zero .result) (first-zero .ensures) (omega (arith, c .before .before .before .before .before .before .before .before .before .before .if2 .left)) (add-macros .ensures) (c .before .before .enum-told .given .1) in
+    let n = by-then (now (args .file)) (args .count) (now (args .table)) (add-macros .last .1 .0) (omega (arith, c .before .before .before .before .before .before .before .before .before .before .before .before .if1 .left)) (first-zero .result) (first-zero .ensures) (omega (arith, c .before .before .before .before .before .before .before .before .before .before .if2 .left)) (add-macros .ensures) (c .before .before .enum-told .given .1) (c .before .macros-by .ensures) in
     omega (arith, a .few, a .counted, add-macros .kept .1 .0, lent-size (c .before .before .before .before .before .before .before .before .before .before .before .before .before .before .before .pre))
+
+table-of-requires : tie.Need-table-of-requires
+table-of-requires c κs = tt
+
+same-length : tie.Need-same-length
+same-length c = search needs
+
+returns-3 : tie.Need-returns-3
+returns-3 c =
+    let clear = c .before .before .before .clear in
+    let args = c .before .before .before .before .before .before .before .before .before .before .before .before .before .before .before .before .before .before .before .args in
+    let add-macros = c .before .before .before .before .before .before .before .before .before .before .before .add-macros in
+    let first-zero = c .before .before .before .before .before .before .before .before .before .before .before .before .before .before .before .first-zero in
+    onto-refused (now (args .file)) (args .count) (now (args .table)) (add-macros .last .1 .0) (omega (arith, c .before .before .before .before .before .before .before .before .before .before .before .before .before .before .before .before .if1 .left)) (first-zero .result) (first-zero .ensures) (omega (arith, c .before .before .before .before .before .before .before .before .before .before .before .before .before .before .if2 .left)) (add-macros .ensures) (c .before .before .before .before .before .before .enum-told .given .1) (c .before .before .before .before .before .macros-by .ensures) (c .table-of .ensures) (clear .last .0) (clear .ensures)
 
 same-length-2 : tie.Need-same-length-2
 same-length-2 c = search needs
 
 returns-4 : tie.Need-returns-4
 returns-4 c =
-    let args = c .before .before .before .before .before .before .before .before .before .before .before .before .before .before .before .before .before .before .args in
-    let add-macros = c .before .before .before .before .before .before .before .before .before .before .add-macros in
-    let first-zero = c .before .before .before .before .before .before .before .before .before .before .before .before .before .before .first-zero in
-    let clear = c .before .before .clear in
-    onto-refused (now (args .file)) (args .count) (now (args .table)) (add-macros .last .1 .0) (omega (arith, c .before .before .before .before .before .before .before .before .before .before .before .before .before .before .before .if1 .left)) (first-zero .result) (first-zero .ensures) (omega (arith, c .before .before .before .before .before .before .before .before .before .before .before .before .before .if2 .left)) (add-macros .ensures) (c .before .before .before .before .before .added .given .1) (clear .last .0) (clear .ensures)
+    let args = c .before .before .before .before .before .before .before .before .before .before .before .before .before .before .args in
+    let add-macros = c .before .before .before .before .before .before .add-macros in
+    let first-zero = c .before .before .before .before .before .before .before .before .before .before .first-zero in
+    onto-table (now (args .file)) (args .count) (now (args .table)) (add-macros .last .1 .0) (omega (arith, c .before .before .before .before .before .before .before .before .before .before .before .if1 .left)) (first-zero .result) (first-zero .ensures) (omega (arith, c .before .before .before .before .before .before .before .before .before .if2 .left)) (add-macros .ensures) (c .before .added .given .1)
 
 pub read-onto-spec : {M : Type 1} → statement M
 read-onto-spec =
@@ -90,12 +96,13 @@ read-onto-spec =
     add-macros-requires
     enum-known-added
     enum-told
-    table-of-requires
-    same-length
-    returns-3
+    macros-by-requires
     mul-clear
     sub-clear
     mul-clear-2
     clear-requires
+    table-of-requires
+    same-length
+    returns-3
     same-length-2
     returns-4)
