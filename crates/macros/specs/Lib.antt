@@ -9,6 +9,9 @@ pub mod Accepted
 pub mod RoundTrip
 pub mod Spelling
 pub mod ReadKeeps
+pub mod FirstFault
+pub mod ReadOnto
+pub mod WriteRefusals
 pub mod Cases
 pub mod ReadingCases
 pub mod WritingCases

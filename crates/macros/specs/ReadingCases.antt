@@ -102,6 +102,7 @@ pub otherText : Hold (
     ("'a'\n=\n'b'\n;" becomes "'a'='b';")
     ∷ ("'a'x\"y<z\"w'b'x\"y=z<\n;" becomes "'a'<'b';")
     ∷ ("'a'<=='b';" becomes "'a'<'b';")
+    ∷ ("'a'=<'b';" becomes "'a'='b';")
     ∷ ("'a'&(=x'b';" becomes "'a'='b';")
     ∷ ("'a'='b'&x#y& (a=1)&#(n=1)##(n=2)(;" becomes "'a'='b'#(n=1)#(n=2);")
     ∷ ("'a'=''\\;" becomes "'a'='';")
@@ -155,6 +156,7 @@ pub literals : Hold (
     ∷ ("'&a#*-&#(a)& (b)'='';" becomes "'\\&a\\#*-\\&#(a)\\& (b)'='';")
     ∷ ("'?\\3&\\('='';" becomes "'\\?3\\&('='';")
     ∷ ("']~\"(),.:=<'='';" becomes "']~\"(),.:=<'='';")
+    ∷ ("'\r[\r]'='\r&(a:\r:)';" becomes "'\r[\r]'='\r&(a:\r:)';")
     ∷ ("'é[é]'='é&(a:é:)';" becomes "'é[é]'='é&(a:é:)';") ∷ [])
 unfolding everything
 literals = refl
