@@ -1,6 +1,8 @@
 /* Measures the stack that calls use: each runs on a thread of its own whose
-   stack is painted first; what is no longer paint was used. With an argument
-   the calls run on the program's own stack, to be tried under `ulimit -s`. */
+   stack is painted first; what is no longer paint was used. `stack plain` runs
+   the calls on the program's own stack, to be tried under `ulimit -s`.
+   `stack search SEED COUNT` feeds lines to random patterns and to changes of
+   the one that used most, and shows that one. */
 #define _GNU_SOURCE
 #include "../include/m7.h"
 #include <pthread.h>
@@ -8,7 +10,7 @@
 #include <stdlib.h>
 #include <string.h>
 
-enum { STACK_BYTES = 16 << 20, PAINT = 0xA5 };
+enum { STACK_BYTES = 2 << 20, PAINT = 0xA5, MOST_PATTERN = 506, MOST_TAGS = 99 };
 
 static uint8_t table[M7_TABLE_BYTES];
 static uint8_t written[M7_FILE_BYTES];
@@ -66,12 +68,12 @@ static void show(const char *name, void *(*task)(void *))
     size_t idle, all;
     if (plain) {
         task(NULL);
-        printf("%-40s number %2u  returned\n", name, answer.number);
+        printf("%-46s number %2u  returned\n", name, answer.number);
         return;
     }
     idle = used_by(nothing);
     all = used_by(task);
-    printf("%-40s number %2u  %7zu bytes\n", name, answer.number, all - idle);
+    printf("%-46s number %2u  %7zu bytes\n", name, answer.number, all - idle);
 }
 
 static void add(const char *text)
@@ -105,6 +107,134 @@ static void worst(const char *unit, int times, const char *last)
     mixed("", unit, times, last);
 }
 
+/* Closures over every byte, each before a byte that stands once in the line. */
+static void singled(int times)
+{
+    char pair[2] = { 0 };
+    int i;
+    file_size = 0;
+    memset(line, 'z', sizeof line);
+    add("'");
+    for (i = 0; i < times; i++) {
+        pair[0] = (char)(128 + i);
+        line[2 * i + 1] = (uint8_t)pair[0];
+        add("?1*");
+        add(pair);
+    }
+    add("'<'';");
+    m7_read(file, file_size, table, sizeof table);
+    m7_fresh(state, sizeof state);
+    line_size = sizeof line;
+    show("m7_feed, 126 times ?1* and a byte of its own", feeds);
+}
+
+/* Units of a random pattern; those with braces have a tag each. */
+static const char *const units[] = {
+    "a", "b", "a*", "b*", "a*-", "b*-", "a*-^", "b*-^", "?1", "?1*", "?1*-", "?1*-^", "?3*-",
+    "[ab]*", "[ab]*-", "[~b]*-", "[~b]*-^", "^", "$", "a*-$", "{a*-}", "{a*-^}", "{?1*}", "{}",
+    "{^}", "&(a)", "&(a)*-", "#(n)*-",
+};
+
+enum { UNITS = sizeof units / sizeof units[0], RUNS = 3 };
+
+typedef struct {
+    uint8_t unit[MOST_PATTERN];
+    uint8_t line[M7_MOST_LINE_BYTES];
+} trial;
+
+static uint64_t seed;
+
+static unsigned below(unsigned bound)
+{
+    seed = seed * 6364136223846793005u + 1442695040888963407u;
+    return (unsigned)(seed >> 33) % bound;
+}
+
+/* A line of one letter, of two in turn, or of runs of letters. */
+static void any_line(trial *t)
+{
+    static const unsigned longest[RUNS] = { 3, 40, 400 };
+    unsigned kind = below(3), run = longest[below(RUNS)], left = 0, i;
+    uint8_t letter = 'a';
+    for (i = 0; i < sizeof t->line; i++) {
+        if (kind == 1)
+            letter = "ab"[i % 2];
+        if (kind == 2 && left == 0) {
+            letter = "aab"[below(3)];
+            left = 1 + below(run);
+        }
+        left -= kind == 2;
+        t->line[i] = letter;
+    }
+}
+
+/* Units of a few sorts, in turn or at random. */
+static void any_trial(trial *t)
+{
+    unsigned sorts = 1 + below(4), in_turn = below(2), sort[4], i;
+    for (i = 0; i < sorts; i++)
+        sort[i] = below(UNITS);
+    for (i = 0; i < MOST_PATTERN; i++)
+        t->unit[i] = (uint8_t)sort[in_turn ? i % sorts : below(sorts)];
+    any_line(t);
+}
+
+/* A run of units replaced, or another line. */
+static void change(trial *t)
+{
+    unsigned from = below(MOST_PATTERN), size = 1 + below(100), unit = below(UNITS);
+    if (below(4) == 0) {
+        any_line(t);
+        return;
+    }
+    for (; size > 0 && from < MOST_PATTERN; size--)
+        t->unit[from++] = (uint8_t)unit;
+}
+
+/* As many of the units as a macro holds, over the trial's line; 0 where it is refused. */
+static size_t used_in(const trial *t)
+{
+    size_t tags = 0, i;
+    file_size = 0;
+    add("'");
+    for (i = 0; i < MOST_PATTERN; i++) {
+        const char *unit = units[t->unit[i]];
+        size_t more = tags + (unit[0] == '{');
+        if (more <= MOST_TAGS && file_size - 1 + strlen(unit) <= MOST_PATTERN) {
+            add(unit);
+            tags = more;
+        }
+    }
+    add("'<'';");
+    if (m7_read(file, file_size, table, sizeof table).number != 0)
+        return 0;
+    m7_fresh(state, sizeof state);
+    memcpy(line, t->line, sizeof line);
+    line_size = sizeof line;
+    return used_by(feeds);
+}
+
+static void search(unsigned long count)
+{
+    static trial best, next;
+    size_t most = 0, idle = used_by(nothing), used;
+    unsigned long i;
+    for (i = 0; i < count; i++) {
+        if (i % 2 == 0)
+            any_trial(&next);
+        else
+            change(memcpy(&next, &best, sizeof next));
+        used = used_in(&next);
+        if (used > most) {
+            most = used;
+            best = next;
+        }
+    }
+    used_in(&best);
+    printf("%zu bytes at most in %lu trials, with\n%.*s\non %.60s..\n", most - idle, count,
+           (int)file_size, file, line);
+}
+
 static void nested(int depth)
 {
     int i;
@@ -120,8 +250,12 @@ static void nested(int depth)
 
 int main(int count, char **words)
 {
-    (void)words;
-    plain = count > 1;
+    plain = count == 2;
+    if (count == 4) {
+        seed = strtoul(words[2], NULL, 10);
+        search(strtoul(words[3], NULL, 10));
+        return 0;
+    }
     nested(99);
     show("m7_read, 99 nested tags", reads);
     show("m7_write, 99 nested tags", writes);
@@ -147,6 +281,9 @@ int main(int count, char **words)
     worst("[ab]*", 84, "c");
     worst("&(a)*-", 84, "b");
     worst("a*-^", 126, "b");
+    worst("a*-^", 126, "a*");
+    worst("a*-^", 125, "a*-aab");
+    singled(126);
     mixed("a*-", "$", 501, "b");
     mixed("a*-&(b)", "$", 497, "b");
     mixed("a*-&(b)", "{}", 99, "b");

@@ -12,7 +12,7 @@ const LINE_BYTES: usize = 1054;
 const FRAME_BYTES: usize = 6;
 
 /// Units without calls, and pieces of width zero.
-const UNITS: [&str; 24] = [
+const UNITS: [&str; 26] = [
     "a",
     "b",
     "a*",
@@ -37,6 +37,8 @@ const UNITS: [&str; 24] = [
     "^",
     "$",
     "{b*-a}",
+    "a*-^",
+    "?1*-^",
 ];
 
 struct Pass {
@@ -169,6 +171,8 @@ fn chosen(pass: &mut Pass) {
         ("a*-b*", "c"),
         ("a*-?1*", "c"),
         ("a*-^", "b"),
+        ("a*-^", "a*"),
+        ("?1*-^", "b"),
         ("{a*-}{}", "b"),
         ("{?1*-a}", "b"),
         ("a*-b*-", "c"),

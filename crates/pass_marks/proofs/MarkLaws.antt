@@ -16,7 +16,7 @@ use Rattle.pass_marks.specs.Marks.{byteOf, mark, markedIf, marked, clear
 
 -- BITS
 
-below8 : (P : ℕ → Type 0) → P 0 → P 1 → P 2 → P 3 → P 4 → P 5 → P 6 → P 7 → (s : ℕ) → s < 8 → P s
+pub below8 : (P : ℕ → Type 0) → P 0 → P 1 → P 2 → P 3 → P 4 → P 5 → P 6 → P 7 → (s : ℕ) → s < 8 → P s
 below8 P p0 p1 p2 p3 p4 p5 p6 p7 zero h = p0
 below8 P p0 p1 p2 p3 p4 p5 p6 p7 (suc zero) h = p1
 below8 P p0 p1 p2 p3 p4 p5 p6 p7 (suc (suc zero)) h = p2
@@ -34,7 +34,7 @@ power s = (1 * 2 ^ s) % 256
 power-is : (s : ℕ) → s < 8 → power s ≡ 2 ^ s
 power-is = below8 (λ s. power s ≡ 2 ^ s) refl refl refl refl refl refl refl refl
 
-abbrev Clear : ℕ → ℕ → Type 0
+abbrev pub Clear : ℕ → ℕ → Type 0
 Clear x s = (x / 2 ^ s) % 2 ≡ 1 → ⊥
 
 abbrev Fitting : ℕ → Type 0
@@ -89,7 +89,7 @@ byte-others x s j a b c f g =
     eqb-true _ _ (left-true _ _ _ h (ne-eqb _ _ f) (ne-eqb _ _ g))
 
 -- and in any number
-others : (x s j : ℕ) → s < 8 → j < 8 → Clear x s → (j ≡ s → ⊥) → ((x + 2 ^ s) / 2 ^ j) % 2 ≡ (x / 2 ^ j) % 2
+pub others : (x s j : ℕ) → s < 8 → j < 8 → Clear x s → (j ≡ s → ⊥) → ((x + 2 ^ s) / 2 ^ j) % 2 ≡ (x / 2 ^ j) % 2
 others x s j b c f g =
     let clear : Clear (x % 256) s = λ e. f (low-bit s b x ∙ e) in
     let small : x % 256 ≤ 255 = omega arith in
@@ -116,7 +116,7 @@ pub mark-set : (marks : List ℕ) (at q : ℕ) → eqb (mark marks at q) 1 ≡ f
 unfolding marked
 mark-set marks at q e = rw e (ap (λ (x : ℕ). set marks (byteOf at q) (getD marks (byteOf at q) 0 + x)) (power-is (q % 8) (omega arith)))
 
-by-marked : (P : List ℕ → Type 0) (marks : List ℕ) (at q : ℕ) → P marks → ((mark marks at q ≡ 1 → ⊥) → P (markedIf false marks at q)) → P (marked marks at q)
+pub by-marked : (P : List ℕ → Type 0) (marks : List ℕ) (at q : ℕ) → P marks → ((mark marks at q ≡ 1 → ⊥) → P (markedIf false marks at q)) → P (marked marks at q)
 unfolding marked
 by-marked P marks at q f g = by (eqb (mark marks at q) 1) refl
   where
@@ -203,7 +203,7 @@ in-zeros l zero i h = absurd (omega arith)
 in-zeros l (suc n) zero h = refl
 in-zeros l (suc n) (suc i) h = in-zeros l n i (omega arith)
 
-behind-zeros : (l : List ℕ) (n : ℕ) → drop n (replicate n 0 ++ l) ≡ l
+pub behind-zeros : (l : List ℕ) (n : ℕ) → drop n (replicate n 0 ++ l) ≡ l
 behind-zeros l zero = refl
 behind-zeros l (suc n) = behind-zeros l n
 

@@ -13,80 +13,80 @@ pub enum Passed {
     Refused(Fault, usize),
 }
 
-// Whether a pass goes well, or its refusal.
-pub enum Fate {
-    Well,
-    Bad(Fault),
+// Whether a step of the pass was refused.
+pub enum Refusal {
+    NotRefused,
+    RefusedBy(Fault),
 }
 
-// A moment of a pass: the place to be tried next, the end of the match just made, the bytes of the new line, whether there was an occurrence, and a refusal.
-pub struct At {
+// A moment of a pass: the place to be tried next, the end of the match just made, the bytes of the new line, whether there was an occurrence, and whether a step was refused.
+pub struct Moment {
     pub place: usize,
     pub last: usize,
     pub size: usize,
-    pub hit: bool,
-    pub fate: Fate,
+    pub occurred: bool,
+    pub refusal: Refusal,
 }
 
 // Place 0. 1,055 lies past every place: there was no match yet.
-pub fn start() -> At
+pub fn start() -> Moment
     ensures { λ r. ⌜ r ≡ startAt ⌝ }
 {
-    At {
+    Moment {
         place: 0,
         last: 1055,
         size: 0,
-        hit: false,
-        fate: Fate::Well,
+        occurred: false,
+        refusal: Refusal::NotRefused,
     }
 }
 
 // After a refusal no place is left: 1,055 lies past every place.
-fn refused(f: Fault, k: usize) -> At
+fn refused(f: Fault, k: usize) -> Moment
     ensures { λ r. ⌜ r ≡ refusedAt f k ⌝ }
 {
-    At {
+    Moment {
         place: 1055,
         last: 1055,
         size: k,
-        hit: true,
-        fate: Fate::Bad(f),
+        occurred: true,
+        refusal: Refusal::RefusedBy(f),
     }
 }
 
 // "A match .. goes on at its end".
-pub fn after(made: Outcome, end: usize) -> At
+pub fn after(made: Outcome, end: usize) -> Moment
     ensures { λ r. ⌜ r ≡ afterOf made end ⌝ }
 {
     match made {
         Outcome::Refused(f, k) => refused(f, k),
-        Outcome::Made(k) => At {
+        Outcome::Made(k) => Moment {
             place: end,
             last: end,
             size: k,
-            hit: true,
-            fate: Fate::Well,
+            occurred: true,
+            refusal: Refusal::NotRefused,
         },
     }
 }
 
 // The next place, with n bytes of the new line.
-fn moved(at: At, n: usize) -> At
+fn moved(at: Moment, n: usize) -> Moment
     requires { ⌜ at .place ≤ mostLineBytes ⌝ }
     ensures { λ r. ⌜ r ≡ movedTo at n ⌝ }
 {
-    let fate = at.fate;
-    At {
+    let refusal = at.refusal;
+    Moment {
         place: at.place + 1,
         last: at.last,
         size: n,
-        hit: at.hit,
-        fate: fate,
+        occurred: at.occurred,
+        refusal: refusal,
     }
 }
 
-// "the byte is copied"; 32: "the new line's 1,055th byte". At the line's length there is no byte.
-fn copy_byte(line: &[u8], at: At, out: &mut [u8]) -> At
+// "the byte is copied"; 32: "the new line's 1,055th byte". Moment the line's length there is no byte.
+fn copy_byte(line: &[u8], at: Moment, out: &mut [u8]) -> Moment
     requires { ⌜ (at .place ≤ mostLineBytes) × (length (now out) ≡ mostLineBytes) ⌝ }
     ensures { λ r. ⌜ Copies (now (line .entry)) (now (out .entry)) (now (out .exit)) at r ⌝ }
 {
@@ -103,7 +103,7 @@ fn copy_byte(line: &[u8], at: At, out: &mut [u8]) -> At
 }
 
 // Behind the tried place p: where the pass still stands there, without a match or with an empty one, the byte is copied and the pass goes on after it. Behind a longer match, or a refusal, nothing is copied.
-pub fn step_over(line: &[u8], p: usize, at: At, out: &mut [u8]) -> At
+pub fn step_over(line: &[u8], p: usize, at: Moment, out: &mut [u8]) -> Moment
     requires { ⌜ (p ≤ mostLineBytes) × (length (now out) ≡ mostLineBytes) ⌝ }
     ensures { λ r. ⌜ StepsOver (now (line .entry)) (now (out .entry)) (now (out .exit)) p at r ⌝ }
 {
@@ -115,12 +115,12 @@ pub fn step_over(line: &[u8], p: usize, at: At, out: &mut [u8]) -> At
 }
 
 // What the pass comes to, past the last place.
-pub fn answer(at: At) -> Passed
+pub fn answer(at: Moment) -> Passed
     ensures { λ r. ⌜ r ≡ passedOf at ⌝ }
 {
-    let fate = at.fate;
-    match fate {
-        Fate::Well => Passed::Over(at.hit, at.size),
-        Fate::Bad(f) => Passed::Refused(f, at.size),
+    let refusal = at.refusal;
+    match refusal {
+        Refusal::NotRefused => Passed::Over(at.occurred, at.size),
+        Refusal::RefusedBy(f) => Passed::Refused(f, at.size),
     }
 }

@@ -16,10 +16,10 @@ use Rattle.form_state.specs.Access.{Holds}
 use Rattle.pass_replace.specs.Contract.{IsSlot, IsMoment}
 use Rattle.pass_moment.specs.declared.Passed.{Passed}
 use Rattle.pass_one.specs.declared.Found.the-variants.{NoMatch}
-use Rattle.pass_moment.specs.declared.At.{At}
+use Rattle.pass_moment.specs.declared.Moment.{Moment}
 use Rattle.pass_one.specs.Contract.{marksBytes, Lent, Passes, SaysOccurred, sizeOf}
-use Rattle.pass_moment.specs.declared.Fate.{Fate}
-use Rattle.pass_moment.specs.declared.Fate.the-variants.{Well, Bad}
+use Rattle.pass_moment.specs.declared.Refusal.{Refusal}
+use Rattle.pass_moment.specs.declared.Refusal.the-variants.{NotRefused, RefusedBy}
 use Rattle.pass_marks.specs.Marks.{cleared}
 use Rattle.pass_marks.proofs.MarkLaws.{zero-again}
 use Rattle.pass_one.specs.Marks.{Sound}
@@ -46,13 +46,13 @@ zero-sound items b t marks n e = sound-zero items b t marks (λ i h. ap (λ (l :
 -- THE LOOP
 
 -- the moment that the memories hold, and what the pass from its start is from there on
-pub record Reached (t b out : List ℕ) (a : At) (m : Macro) (st : State) : Type 0 where
+pub record Reached (t b out : List ℕ) (a : Moment) (m : Macro) (st : State) : Type 0 where
   pub work : Work
   pub moment : IsMoment out b (a .size) work
   pub onward : Onward m t (pass m t st) false a work
 
 -- what holds at each turn
-pub record Going (s items t b₀ b out₀ out marks₀ marks seen₀ seen ends : List ℕ) (a : At) : Type 0 where
+pub record Going (s items t b₀ b out₀ out marks₀ marks seen₀ seen ends : List ℕ) (a : Moment) : Type 0 where
   pub size : a .size ≤ mostLineBytes
   pub stateSize : length b ≡ length b₀
   pub room : length out ≡ length out₀
@@ -62,7 +62,7 @@ pub record Going (s items t b₀ b out₀ out marks₀ marks seen₀ seen ends :
   pub inside : (i : ℕ) → getD ends i 0 ≤ length t
   pub sound : Sound items b t marks
   pub sees : Seen items seen b
-  pub well : a .place ≤ length t → a .fate ≡ Well
+  pub well : a .place ≤ length t → a .refusal ≡ NotRefused
   pub past : drop (a .size) out ≡ drop (a .size) out₀
   pub outside : drop (66 * length items) marks ≡ drop (66 * length items) marks₀
   pub reached : (m : Macro) → IsSlot s m → (st : State) → Holds b₀ st → Reached t b out a m st
@@ -73,12 +73,12 @@ start-reached t b out m st h =
     record { work = record { out = []; size = 0; state = st }; moment = record { line = refl; size = refl; state = h }; onward = record { on = λ l. (refl, refl); over = λ l. absurd (omega arith) } }
 
 -- the bytes of the new line
-size-is : (f : Fate) (hit : Bool) (n : ℕ) → sizeOf (answerOf f hit n) ≡ n
-size-is Well hit n = refl
-size-is (Bad f) hit n = refl
+size-is : (f : Refusal) (had : Bool) (n : ℕ) → sizeOf (answerOf f had n) ≡ n
+size-is NotRefused had n = refl
+size-is (RefusedBy f) had n = refl
 
 module _ (s items kinds t b out marks seen : List ℕ) (y : Lent s kinds t b out marks) (is : ItemsOf s items) where
-  pub start : Seen items seen b → (a : At) → a ≡ startAt → Going s items t b b out out marks marks seen seen (replicate 1016 0) a
+  pub start : Seen items seen b → (a : Moment) → a ≡ startAt → Going s items t b b out out marks marks seen seen (replicate 1016 0) a
   start sn a e =
       subst (Going s items t b b out out marks marks seen seen (replicate 1016 0)) (sym e)
       (record {
@@ -97,7 +97,7 @@ module _ (s items kinds t b out marks seen : List ℕ) (y : Lent s kinds t b out
         reached = λ m i st h. start-reached t b out m st h;
       })
 
-  module _ (b′ out′ marks′ seen′ ends : List ℕ) (a : At) (g : Going s items t b b′ out out′ marks marks′ seen seen′ ends a) where
+  module _ (b′ out′ marks′ seen′ ends : List ℕ) (a : Moment) (g : Going s items t b b′ out out′ marks marks′ seen seen′ ends a) where
     module _ (le : a .place ≤ length t) where
       pub trying : AtPlace s items kinds t b′ out′ marks′ ends a
       trying =
@@ -123,7 +123,7 @@ module _ (s items kinds t b out marks seen : List ℕ) (y : Lent s kinds t b out
       pub skipped : (x : Bool) → Differs items t (a .place) x → x ≡ true → GoesBy s items t b′ b′ out′ out′ marks′ marks′ seen′ ends a a
       skipped x d e = goes-free s items kinds t b′ out′ marks′ ends a trying seen′ (g .sees) NoMatch marks′ ends (finds-none s items kinds t b′ out′ marks′ ends a trying x d e) refl
 
-      module _ (b″ out″ marks″ seen″ ends′ : List ℕ) (r : At) (h : Goes s items t b′ b″ out′ out″ marks′ marks″ seen″ ends′ a r) where
+      module _ (b″ out″ marks″ seen″ ends′ : List ℕ) (r : Moment) (h : Goes s items t b′ b″ out′ out″ marks′ marks″ seen″ ends′ a r) where
         came : (m : Macro) → IsSlot s m → (st : State) → Holds b st → Reached t b″ out″ r m st
         came m i st x =
             let u = g .reached m i st x in
@@ -160,7 +160,7 @@ module _ (s items kinds t b out marks seen : List ℕ) (y : Lent s kinds t b out
     -- past the last place
     pub pass-done : length t < a .place → (marks″ : List ℕ) → marks″ ≡ cleared marks′ (66 * length items) → (r : Passed) → r ≡ passedOf a → Passes s t b b′ out out′ marks marks″ r
     pass-done l marks″ e r k =
-        let z : sizeOf (passedOf a) ≡ a .size = size-is (a .fate) (a .hit) (a .size) in
+        let z : sizeOf (passedOf a) ≡ a .size = size-is (a .refusal) (a .occurred) (a .size) in
         let f = is .fits in
         subst (Passes s t b b′ out out′ marks marks″) (sym k)
         (record {

@@ -32,9 +32,9 @@ use Rattle.refusals.specs.declared.Outcome.the-variants.{Made, Refused as MadeR
 use Rattle.pass_replace.specs.Contract.{EndsFrom, IsSlot, IsDivided, IsMoment, Lent, Occurs, doneOf, sizeOf}
 use Rattle.pass_one.specs.declared.Found.{Found}
 use Rattle.pass_one.specs.declared.Found.the-variants.{Matched, NoMatch}
-use Rattle.pass_moment.specs.declared.At.{At}
-use Rattle.pass_moment.specs.declared.Fate.{Fate}
-use Rattle.pass_moment.specs.declared.Fate.the-variants.{Well}
+use Rattle.pass_moment.specs.declared.Moment.{Moment}
+use Rattle.pass_moment.specs.declared.Refusal.{Refusal}
+use Rattle.pass_moment.specs.declared.Refusal.the-variants.{NotRefused}
 use Rattle.pass_one.specs.Contract.{SaysOccurred, doneOf as passDone}
 use Rattle.pass_one.specs.Finding.{Ready, FoundAt, countedOf, Finds, lastOf, Differs}
 use Rattle.pass_one.specs.Trying.{Tried}
@@ -80,11 +80,11 @@ below-or P a b f g = by (ltb a b) refl
     by true e = f (ltb-true a b e)
     by false e = g (ltb-false a b e)
 
-both : (P : At → List ℕ → Type 0) (r x : At) (l y : List ℕ) → (r ≡ x) × (l ≡ y) → P x y → P r l
-both P r x l y e h = subst (λ (z : At). P z l) (sym (e .0)) (subst (P x) (sym (e .1)) h)
+both : (P : Moment → List ℕ → Type 0) (r x : Moment) (l y : List ℕ) → (r ≡ x) × (l ≡ y) → P x y → P r l
+both P r x l y e h = subst (λ (z : Moment). P z l) (sym (e .0)) (subst (P x) (sym (e .1)) h)
 
 -- what holds of each answer holds of the answer
-copies-by : (P : At → List ℕ → Type 0) (t out out′ : List ℕ) (a r : At) → Copies t out out′ a r → (length t ≤ a .place → P (movedTo a (a .size)) out)
+copies-by : (P : Moment → List ℕ → Type 0) (t out out′ : List ℕ) (a r : Moment) → Copies t out out′ a r → (length t ≤ a .place → P (movedTo a (a .size)) out)
     → (a .place < length t → mostLineBytes ≤ a .size → P (refusedAt NewLineTooLong (a .size)) out)
     → (a .place < length t → a .size < mostLineBytes → P (movedTo a (a .size + 1)) (set out (a .size) (getD t (a .place) 0)))
     → P r out′
@@ -103,17 +103,17 @@ or-false : (u : Bool) → u || false ≡ u
 or-false true = refl
 or-false false = refl
 
-module _ (m : Macro) (t : List ℕ) (x : Walk) (hit : Bool) (a : At) (w : Work) where
-  goes-on : a .place ≤ length t → outcome x ≡ outcome (from m t (a .last) (a .place) w) → hit || occurred x ≡ a .hit || occurred (from m t (a .last) (a .place) w) → Onward m t x hit a w
+module _ (m : Macro) (t : List ℕ) (x : Walk) (had : Bool) (a : Moment) (w : Work) where
+  goes-on : a .place ≤ length t → outcome x ≡ outcome (from m t (a .last) (a .place) w) → had || occurred x ≡ a .occurred || occurred (from m t (a .last) (a .place) w) → Onward m t x had a w
   goes-on l e f = record { on = λ k. (e, f); over = λ k. absurd (omega arith) }
 
-  is-over : length t < a .place → outcome x ≡ passDone (passedOf a) w → SaysOccurred (passedOf a) (hit || occurred x) → Onward m t x hit a w
+  is-over : length t < a .place → outcome x ≡ passDone (passedOf a) w → SaysOccurred (passedOf a) (had || occurred x) → Onward m t x had a w
   is-over l e f = record { on = λ k. absurd (omega arith); over = λ k. (e, f) }
 
   -- a pass that went well
-  is-done : a .fate ≡ Well → length t < a .place → outcome x ≡ good w → a .hit ≡ (hit || occurred x) → Onward m t x hit a w
+  is-done : a .refusal ≡ NotRefused → length t < a .place → outcome x ≡ good w → a .occurred ≡ (had || occurred x) → Onward m t x had a w
   is-done e l f g =
-      is-over l (f ∙ sym (ap (λ (k : Fate). passDone (answerOf k (a .hit) (a .size)) w) e)) (subst (λ (k : Fate). SaysOccurred (answerOf k (a .hit) (a .size)) (hit || occurred x)) (sym e) g)
+      is-over l (f ∙ sym (ap (λ (k : Refusal). passDone (answerOf k (a .occurred) (a .size)) w) e)) (subst (λ (k : Refusal). SaysOccurred (answerOf k (a .occurred) (a .size)) (had || occurred x)) (sym e) g)
 
 module _ (m : Macro) (t : List ℕ) (last p : ℕ) (w : Work) where
   -- at a byte
@@ -130,8 +130,8 @@ module _ (m : Macro) (t : List ℕ) (last p : ℕ) (w : Work) where
       unfolding atByte matched goOn occurred
       byte-occurs o = ap occurred byte-at ∙ rw (e, o)
 
-      byte-hits : (hit : Bool) → occur m t d w ≡ good v → hit || occurred (from m t last p w) ≡ true
-      byte-hits hit o = ap (λ (u : Bool). hit || u) (byte-occurs o) ∙ or-true hit
+      byte-hits : (had : Bool) → occur m t d w ≡ good v → had || occurred (from m t last p w) ≡ true
+      byte-hits had o = ap (λ (u : Bool). had || u) (byte-occurs o) ∙ or-true had
 
       empty-full : (r : WorkRefusal) → occur m t d w ≡ good v → endOf p d ≡ p → put (getD t p 0) v ≡ bad r v → outcome (from m t last p w) ≡ bad r v
       unfolding atByte matched goOn onward outcome
@@ -182,7 +182,7 @@ found-some (some d) p q es ends h = (d, refl, h .0, h .1)
 match-divides : (st : State) (es : List Piece) (t : List ℕ) (last : Option ℕ) (p : ℕ) (d : Division) → match st es last p (drop p t) ≡ some d → Divides st t es p d
 match-divides st es t last p d e = subst (Matches (Divides st t es p) last p) e (match-matches st es t last p) .0
 
-pub ready : (s items kinds t b out marks ends : List ℕ) (a : At) → AtPlace s items kinds t b out marks ends a → Ready items kinds b t (a .place) marks ends
+pub ready : (s items kinds t b out marks ends : List ℕ) (a : Moment) → AtPlace s items kinds t b out marks ends a → Ready items kinds b t (a .place) marks ends
 ready s items kinds t b out marks ends a y =
     let m = y .macro .0 in
     record {
@@ -198,13 +198,13 @@ ready s items kinds t b out marks ends a y =
       sound = y .sound;
     }
 
-pub finds : (s items kinds t b out marks ends : List ℕ) (a : At) → AtPlace s items kinds t b out marks ends a → (marks′ ends′ : List ℕ) (f r : Found) → Tried items b t 0 (a .place) marks marks′ ends′ f → r ≡ countedOf f (a .last) (a .place) → Finds items b t (a .last) (a .place) marks marks′ ends′ r
+pub finds : (s items kinds t b out marks ends : List ℕ) (a : Moment) → AtPlace s items kinds t b out marks ends a → (marks′ ends′ : List ℕ) (f r : Found) → Tried items b t 0 (a .place) marks marks′ ends′ f → r ≡ countedOf f (a .last) (a .place) → Finds items b t (a .last) (a .place) marks marks′ ends′ r
 finds s items kinds t b out marks ends a y marks′ ends′ f r k e = find-counted items b t (a .last) (a .place) marks marks′ ends′ (let p = y .place in let l = y .short in omega arith) f r k e
 
-pub finds-none : (s items kinds t b out marks ends : List ℕ) (a : At) → AtPlace s items kinds t b out marks ends a → (x : Bool) → Differs items t (a .place) x → x ≡ true → Finds items b t (a .last) (a .place) marks marks ends NoMatch
+pub finds-none : (s items kinds t b out marks ends : List ℕ) (a : Moment) → AtPlace s items kinds t b out marks ends a → (x : Bool) → Differs items t (a .place) x → x ≡ true → Finds items b t (a .last) (a .place) marks marks ends NoMatch
 finds-none s items kinds t b out marks ends a y x d e = find-differs items b t (a .last) (a .place) marks marks ends kinds ends (ready s items kinds t b out marks ends a y) x d e
 
-module _ (s items kinds t b out marks ends : List ℕ) (a : At) (y : AtPlace s items kinds t b out marks ends a) (seen : List ℕ) (sn : Seen items seen b) (r : Found) (marks′ ends′ : List ℕ) (fi : Finds items b t (a .last) (a .place) marks marks′ ends′ r) where
+module _ (s items kinds t b out marks ends : List ℕ) (a : Moment) (y : AtPlace s items kinds t b out marks ends a) (seen : List ℕ) (sn : Seen items seen b) (r : Found) (marks′ ends′ : List ℕ) (fi : Finds items b t (a .last) (a .place) marks marks′ ends′ r) where
   abbrev found : Macro → Work → Option Division
   found m w = matchAt m t (a .last) (a .place) w
 
@@ -213,19 +213,19 @@ module _ (s items kinds t b out marks ends : List ℕ) (a : At) (y : AtPlace s i
 
   -- without a match
   module _ (e : r ≡ NoMatch) where
-    abbrev Went : At → List ℕ → Type 0
+    abbrev Went : Moment → List ℕ → Type 0
     Went z l = Goes s items t b b out l marks marks′ seen ends′ a z
 
     none-here : (m : Macro) → IsSlot s m → (w : Work) → IsMoment out b (a .size) w → found m w ≡ none
     none-here m i w x = found-none (found m w) (a .place) (m .pattern) ends′ (subst (FoundAt (found m w) (a .place) (m .pattern) ends′) e (fi .found (m .pattern) (y .pattern .pattern m i) (w .state) (x .state)))
 
-    went : (z : At) (l : List ℕ) → ((m : Macro) → IsSlot s m → (w : Work) → IsMoment out b (a .size) w → (v : Work) × IsMoment l b (z .size) v × Onward m t (ahead m w) (a .hit) z v) → drop (z .size) l ≡ drop (z .size) out → z .size ≤ mostLineBytes → a .size ≤ z .size → a .place < z .place → (z .place ≤ length t → z .fate ≡ Well) → Went z l
+    went : (z : Moment) (l : List ℕ) → ((m : Macro) → IsSlot s m → (w : Work) → IsMoment out b (a .size) w → (v : Work) × IsMoment l b (z .size) v × Onward m t (ahead m w) (a .occurred) z v) → drop (z .size) l ≡ drop (z .size) out → z .size ≤ mostLineBytes → a .size ≤ z .size → a .place < z .place → (z .place ≤ length t → z .refusal ≡ NotRefused) → Went z l
     went z l c p n g f h = record { comes = c; past = p; size = n; grows = g; further = f; well = h; sound = fi .sound; sees = sn; outside = fi .outside; inside = fi .inside }
 
     free-end : length t ≤ a .place → Went (movedTo a (a .size)) out
     free-end l =
         went (movedTo a (a .size)) out
-        (λ m i w x. let f = end-free m t (a .last) (a .place) w l (none-here m i w x) in (w, x, is-done m t (ahead m w) (a .hit) (movedTo a (a .size)) w (y .well) (omega arith) (f .0) (sym (ap (λ (u : Bool). a .hit || u) (f .1) ∙ or-false (a .hit)))))
+        (λ m i w x. let f = end-free m t (a .last) (a .place) w l (none-here m i w x) in (w, x, is-done m t (ahead m w) (a .occurred) (movedTo a (a .size)) w (y .well) (omega arith) (f .0) (sym (ap (λ (u : Bool). a .occurred || u) (f .1) ∙ or-false (a .occurred)))))
         refl
         (y .size)
         (omega arith)
@@ -236,7 +236,7 @@ module _ (s items kinds t b out marks ends : List ℕ) (a : At) (y : AtPlace s i
     free-full-here l k =
         let h = y .short in
         went (refusedAt NewLineTooLong (a .size)) out
-        (λ m i w x. (w, x, is-over m t (ahead m w) (a .hit) (refusedAt NewLineTooLong (a .size)) w (omega arith) (free-full m t (a .last) (a .place) w l newLineTooLong (none-here m i w x) (put-full _ w (let z = x .size in omega arith))) tt))
+        (λ m i w x. (w, x, is-over m t (ahead m w) (a .occurred) (refusedAt NewLineTooLong (a .size)) w (omega arith) (free-full m t (a .last) (a .place) w l newLineTooLong (none-here m i w x) (put-full _ w (let z = x .size in omega arith))) tt))
         refl
         (y .size)
         (omega arith)
@@ -249,14 +249,14 @@ module _ (s items kinds t b out marks ends : List ℕ) (a : At) (y : AtPlace s i
         (λ m i w x.
         let c = put-moment out b (getD t (a .place) 0) (a .size) w k (y .room) x in
         let z : ahead m w ≡ from m t (a .last) (a .place + 1) (c .0) = step-copy m t (lastOf (a .last)) (a .place) w (c .0) l (none-here m i w x) (c .1) ∙ rw add-one in
-        (c .0, c .2, goes-on m t (ahead m w) (a .hit) (movedTo a (a .size + 1)) (c .0) (omega arith) (ap outcome z) (ap (λ (u : Bool). a .hit || u) (ap occurred z))))
+        (c .0, c .2, goes-on m t (ahead m w) (a .occurred) (movedTo a (a .size + 1)) (c .0) (omega arith) (ap outcome z) (ap (λ (u : Bool). a .occurred || u) (ap occurred z))))
         (drop-set-lt (a .size + 1) out (a .size) (getD t (a .place) 0) (omega arith))
         (omega arith)
         (omega arith)
         (omega arith)
         (λ k. y .well)
 
-    go-free : (z : At) (l : List ℕ) → Copies t out l a z → Went z l
+    go-free : (z : Moment) (l : List ℕ) → Copies t out l a z → Went z l
     go-free z l c = copies-by Went t out l a z c free-end free-full-here free-copied
 
     pub goes-free : GoesBy s items t b b out out marks marks′ seen ends′ a a
@@ -297,10 +297,10 @@ module _ (s items kinds t b out marks ends : List ℕ) (a : At) (y : AtPlace s i
         record { pattern = (m .pattern, y .pattern .pattern m (y .macro .1)); fits = y .pattern .fits; state = (c .0 .state, c .2 .state); old = sn .state; size = lm ∙ y .rows }
 
     module _ (b′ out′ marks″ seen′ : List ℕ) (rn : Renewed items b′ seen seen′ marks′ marks″) where
-      abbrev Acted : At → List ℕ → Type 0
+      abbrev Acted : Moment → List ℕ → Type 0
       Acted z l = Goes s items t b b′ out l marks marks″ seen′ ends′ a z
 
-      acted : (z : At) (l : List ℕ) → ((m : Macro) → IsSlot s m → (w : Work) → IsMoment out b (a .size) w → (v : Work) × IsMoment l b′ (z .size) v × Onward m t (ahead m w) (a .hit) z v) → drop (z .size) l ≡ drop (z .size) out → z .size ≤ mostLineBytes → a .size ≤ z .size → a .place < z .place → (z .place ≤ length t → z .fate ≡ Well) → Acted z l
+      acted : (z : Moment) (l : List ℕ) → ((m : Macro) → IsSlot s m → (w : Work) → IsMoment out b (a .size) w → (v : Work) × IsMoment l b′ (z .size) v × Onward m t (ahead m w) (a .occurred) z v) → drop (z .size) l ≡ drop (z .size) out → z .size ≤ mostLineBytes → a .size ≤ z .size → a .place < z .place → (z .place ≤ length t → z .refusal ≡ NotRefused) → Acted z l
       acted z l c p n g f h =
           record {
             comes = c;
@@ -336,7 +336,7 @@ module _ (s items kinds t b out marks ends : List ℕ) (a : At) (y : AtPlace s i
           (λ m i w x.
           let d = divided m i w x in
           let c = oc .comes m (d .0) (d .3) w x in
-          (c .0, c .2, is-over m t (ahead m w) (a .hit) (refusedAt f k) (c .0) (omega arith) (fails m t (a .last) (a .place) w (c .0) (d .0) (d .1) (refusalOf f) (c .1)) tt))
+          (c .0, c .2, is-over m t (ahead m w) (a .occurred) (refusedAt f k) (c .0) (omega arith) (fails m t (a .last) (a .place) w (c .0) (d .0) (d .1) (refusalOf f) (c .1)) tt))
           (oc .past)
           (oc .within)
           (grows (MadeRefused f k) oc)
@@ -344,7 +344,7 @@ module _ (s items kinds t b out marks ends : List ℕ) (a : At) (y : AtPlace s i
           (λ k. absurd (omega arith))
 
       module _ (k : ℕ) (oc : Occurs s ends′ t b b′ out out′ (a .size) (Made k)) where
-        abbrev next : At
+        abbrev next : Moment
         next = afterOf (Made k) q
 
         act-on : a .place < q → Acted next out′
@@ -357,7 +357,7 @@ module _ (s items kinds t b out marks ends : List ℕ) (a : At) (y : AtPlace s i
             let g = within in
             let h = y .short in
             let lt : a .place < length t = omega arith in
-            (c .0, c .2, goes-on m t (ahead m w) (a .hit) next (c .0) (within .1) (step-match m t (lastOf (a .last)) (a .place) w (c .0) (d .0) lt (d .1) (c .1) (omega arith) (omega arith) ∙ rw (z, last-some q (omega arith))) (byte-hits m t (a .last) (a .place) w lt (c .0) (d .0) (d .1) (a .hit) (c .1))))
+            (c .0, c .2, goes-on m t (ahead m w) (a .occurred) next (c .0) (within .1) (step-match m t (lastOf (a .last)) (a .place) w (c .0) (d .0) lt (d .1) (c .1) (omega arith) (omega arith) ∙ rw (z, last-some q (omega arith))) (byte-hits m t (a .last) (a .place) w lt (c .0) (d .0) (d .1) (a .occurred) (c .1))))
             (oc .past)
             (oc .within)
             (grows (Made k) oc)
@@ -372,7 +372,7 @@ module _ (s items kinds t b out marks ends : List ℕ) (a : At) (y : AtPlace s i
               let d = divided m i w x in
               let c = oc .comes m (d .0) (d .3) w x in
               let f = end-match m t (a .last) (a .place) w (omega arith) (c .0) (d .0) (d .1) (c .1) in
-              (c .0, c .2, is-over m t (ahead m w) (a .hit) (movedTo next k) (c .0) (omega arith) (f .0) (sym (ap (λ (u : Bool). a .hit || u) (f .1) ∙ or-true (a .hit)))))
+              (c .0, c .2, is-over m t (ahead m w) (a .occurred) (movedTo next k) (c .0) (omega arith) (f .0) (sym (ap (λ (u : Bool). a .occurred || u) (f .1) ∙ or-true (a .occurred)))))
               (oc .past)
               (oc .within)
               (grows (Made k) oc)
@@ -386,7 +386,7 @@ module _ (s items kinds t b out marks ends : List ℕ) (a : At) (y : AtPlace s i
               (λ m i w x.
               let d = divided m i w x in
               let c = oc .comes m (d .0) (d .3) w x in
-              (c .0, c .2, is-over m t (ahead m w) (a .hit) (refusedAt NewLineTooLong k) (c .0) (omega arith) (empty-full m t (a .last) (a .place) w (omega arith) (c .0) (d .0) (d .1) newLineTooLong (c .1) (d .2 ∙ z) (put-full _ (c .0) (let n = c .2 .size in omega arith))) tt))
+              (c .0, c .2, is-over m t (ahead m w) (a .occurred) (refusedAt NewLineTooLong k) (c .0) (omega arith) (empty-full m t (a .last) (a .place) w (omega arith) (c .0) (d .0) (d .1) newLineTooLong (c .1) (d .2 ∙ z) (put-full _ (c .0) (let n = c .2 .size in omega arith))) tt))
               (oc .past)
               (oc .within)
               (grows (Made k) oc)
@@ -405,19 +405,19 @@ module _ (s items kinds t b out marks ends : List ℕ) (a : At) (y : AtPlace s i
               let h = y .short in
               let lt : a .place < length t = omega arith in
               let f : outcome (ahead m w) ≡ outcome (walk m t 0 (some q) (suc q) (u .0) (drop (suc q) t)) = step-empty m t (lastOf (a .last)) (a .place) w (c .0) (u .0) (d .0) lt (d .1) (c .1) (d .2 ∙ z) p ∙ ap (λ (j : ℕ). outcome (walk m t 0 (some j) (suc j) (u .0) (drop (suc j) t))) (sym z) in
-              (u .0, u .2, goes-on m t (ahead m w) (a .hit) (movedTo next (k + 1)) (u .0) (omega arith) (f ∙ rw (add-one, last-some q (omega arith))) (byte-hits m t (a .last) (a .place) w lt (c .0) (d .0) (d .1) (a .hit) (c .1))))
+              (u .0, u .2, goes-on m t (ahead m w) (a .occurred) (movedTo next (k + 1)) (u .0) (omega arith) (f ∙ rw (add-one, last-some q (omega arith))) (byte-hits m t (a .last) (a .place) w lt (c .0) (d .0) (d .1) (a .occurred) (c .1))))
               (drop-set-lt (k + 1) out′ k (getD t q 0) (omega arith) ∙ drop-on out′ out k (k + 1) (oc .past) (omega arith))
               (omega arith)
               (omega arith)
               (omega arith)
               (λ j. refl)
 
-      go-made : length out′ ≡ mostLineBytes → (o : Outcome) → Occurs s ends′ t b b′ out out′ (a .size) o → (z : At) (l : List ℕ) → StepsOver t out′ l (a .place) (afterOf o q) z → Acted z l
+      go-made : length out′ ≡ mostLineBytes → (o : Outcome) → Occurs s ends′ t b b′ out out′ (a .size) o → (z : Moment) (l : List ℕ) → StepsOver t out′ l (a .place) (afterOf o q) z → Acted z l
       go-made lo (MadeRefused f k) oc z l c = let h = y .short in let p = y .place in both Acted z _ l _ (c .further (omega arith)) (act-refused f k oc)
       go-made lo (Made k) oc z l c =
           below-or (Acted z l) (a .place) q
           (λ g. both Acted z _ l _ (c .further g) (act-on k oc g))
           (λ g. let i = within in let e : q ≡ a .place = omega arith in copies-by Acted t out′ l (next k oc) z (c .still g) (empty-end k oc e) (empty-full-here k oc e) (empty-copied k oc e lo))
 
-    pub goes-acted : (b′ out′ marks″ seen′ : List ℕ) (o : Outcome) → Occurs s ends′ t b b′ out out′ (a .size) o → Renewed items b′ seen seen′ marks′ marks″ → length out′ ≡ mostLineBytes → (x : At) → x ≡ afterOf o q → GoesBy s items t b b′ out out′ marks marks″ seen′ ends′ a x
-    goes-acted b′ out′ marks″ seen′ o oc rn lo x h = record { copied = λ z l c. go-made b′ out′ marks″ seen′ rn lo o oc z l (subst (λ (u : At). StepsOver t out′ l (a .place) u z) h c) }
+    pub goes-acted : (b′ out′ marks″ seen′ : List ℕ) (o : Outcome) → Occurs s ends′ t b b′ out out′ (a .size) o → Renewed items b′ seen seen′ marks′ marks″ → length out′ ≡ mostLineBytes → (x : Moment) → x ≡ afterOf o q → GoesBy s items t b b′ out out′ marks marks″ seen′ ends′ a x
+    goes-acted b′ out′ marks″ seen′ o oc rn lo x h = record { copied = λ z l c. go-made b′ out′ marks″ seen′ rn lo o oc z l (subst (λ (u : Moment). StepsOver t out′ l (a .place) u z) h c) }

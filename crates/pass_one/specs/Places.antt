@@ -13,8 +13,8 @@ use Rattle.form_table.specs.Form.{bodyBytes}
 use Rattle.lines.specs.Matching.{Division}
 use Rattle.lines.specs.Replacing.{Work}
 use Rattle.lines.specs.Pass.{Walk, match, walk, occurred, outcome}
-use Rattle.pass_moment.specs.declared.At.{At}
-use Rattle.pass_moment.specs.declared.Fate.the-variants.{Well}
+use Rattle.pass_moment.specs.declared.Moment.{Moment}
+use Rattle.pass_moment.specs.declared.Refusal.the-variants.{NotRefused}
 use Rattle.pass_moment.specs.Moments.{passedOf, StepsOver}
 use Rattle.pass_replace.specs.Contract.{IsSlot, IsMoment}
 use Rattle.pass_one.specs.Contract.{marksBytes, doneOf, SaysOccurred}
@@ -41,7 +41,7 @@ pub record ItemsOf (s items : List ℕ) : Type 0 where
 -- GOING ON FROM A PLACE
 
 -- what the memories hold at the moment a, before its place is tried
-pub record AtPlace (s items kinds t b out marks ends : List ℕ) (a : At) : Type 0 where
+pub record AtPlace (s items kinds t b out marks ends : List ℕ) (a : Moment) : Type 0 where
   pub macro : (m : Macro) × IsSlot s m
   pub pattern : ItemsOf s items
   pub table : kinds ≡ kindTable
@@ -49,7 +49,7 @@ pub record AtPlace (s items kinds t b out marks ends : List ℕ) (a : At) : Type
   pub short : length t ≤ mostLineBytes
   pub place : a .place ≤ length t
   -- nothing was refused yet
-  pub well : a .fate ≡ Well
+  pub well : a .refusal ≡ NotRefused
   pub moment : (w : Work) × IsMoment out b (a .size) w
   pub room : length out ≡ mostLineBytes
   pub size : a .size ≤ mostLineBytes
@@ -58,20 +58,20 @@ pub record AtPlace (s items kinds t b out marks ends : List ℕ) (a : At) : Type
   pub count : length ends ≡ bodyBytes
   pub inside : (i : ℕ) → getD ends i 0 ≤ length t
 
--- the pass x, before which there was an occurrence if hit, is the pass from the moment a on, in which w holds; past the last place a says what x comes to
-pub record Onward (m : Macro) (t : List ℕ) (x : Walk) (hit : Bool) (a : At) (w : Work) : Type 0 where
-  pub on : a .place ≤ length t → (outcome x ≡ outcome (from m t (a .last) (a .place) w)) × (hit || occurred x ≡ a .hit || occurred (from m t (a .last) (a .place) w))
-  pub over : length t < a .place → (outcome x ≡ doneOf (passedOf a) w) × SaysOccurred (passedOf a) (hit || occurred x)
+-- the pass x, before which there was an occurrence if `had`, is the pass from the moment a on, in which w holds; past the last place a says what x comes to
+pub record Onward (m : Macro) (t : List ℕ) (x : Walk) (had : Bool) (a : Moment) (w : Work) : Type 0 where
+  pub on : a .place ≤ length t → (outcome x ≡ outcome (from m t (a .last) (a .place) w)) × (had || occurred x ≡ a .occurred || occurred (from m t (a .last) (a .place) w))
+  pub over : length t < a .place → (outcome x ≡ doneOf (passedOf a) w) × SaysOccurred (passedOf a) (had || occurred x)
 
 -- from the moment a, at whose place the macro is tried, the pass goes on at the moment r
-pub record Goes (s items t b b′ out out′ marks marks′ seen ends : List ℕ) (a r : At) : Type 0 where
-  pub comes : (m : Macro) → IsSlot s m → (w : Work) → IsMoment out b (a .size) w → (v : Work) × IsMoment out′ b′ (r .size) v × Onward m t (from m t (a .last) (a .place) w) (a .hit) r v
+pub record Goes (s items t b b′ out out′ marks marks′ seen ends : List ℕ) (a r : Moment) : Type 0 where
+  pub comes : (m : Macro) → IsSlot s m → (w : Work) → IsMoment out b (a .size) w → (v : Work) × IsMoment out′ b′ (r .size) v × Onward m t (from m t (a .last) (a .place) w) (a .occurred) r v
   pub past : drop (r .size) out′ ≡ drop (r .size) out
   pub size : r .size ≤ mostLineBytes
   pub grows : a .size ≤ r .size
   pub further : a .place < r .place
   -- after a refusal no place is left
-  pub well : r .place ≤ length t → r .fate ≡ Well
+  pub well : r .place ≤ length t → r .refusal ≡ NotRefused
   -- the marks and what is seen are those of the state now
   pub sound : Sound items b′ t marks′
   pub sees : Seen items seen b′
@@ -79,5 +79,5 @@ pub record Goes (s items t b b′ out out′ marks marks′ seen ends : List ℕ
   pub inside : (i : ℕ) → getD ends i 0 ≤ length t
 
 -- the same, once the byte at an empty match, or at a place without one, is copied
-pub record GoesBy (s items t b b′ out out′ marks marks′ seen ends : List ℕ) (a r : At) : Type 0 where
-  pub copied : (z : At) (l : List ℕ) → StepsOver t out′ l (a .place) r z → Goes s items t b b′ out l marks marks′ seen ends a z
+pub record GoesBy (s items t b b′ out out′ marks marks′ seen ends : List ℕ) (a r : Moment) : Type 0 where
+  pub copied : (z : Moment) (l : List ℕ) → StepsOver t out′ l (a .place) r z → Goes s items t b b′ out l marks marks′ seen ends a z

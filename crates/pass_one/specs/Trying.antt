@@ -11,9 +11,8 @@ use Rattle.macros.specs.Macro.{Closure, PatternUnit, Piece}
 use Rattle.macros.specs.Macro.Piece.{element}
 use Rattle.form_table.specs.Form.{bodyBytes, pieceItems}
 use Rattle.lines.specs.State.{State}
-use Rattle.lines.specs.Matching.{fits, width}
+use Rattle.lines.specs.Matching.{Division, stops, fits, width}
 use Rattle.lines.specs.Choosing.{chosen}
-use Rattle.lines.proofs.MoreLaws.{stopsOf}
 use Rattle.form_state.specs.Access.{IsState, OfState}
 use Rattle.pass_replace.specs.Contract.{EndsFrom}
 use Rattle.pass_one.specs.Contract.{marksBytes}
@@ -23,6 +22,11 @@ use Rattle.pass_one.specs.Pieces.{Stands, IsUnit, Wide}
 use Rattle.form_element.specs.declared.Unit.{Unit as CodeUnit}
 use Rattle.pass_one.specs.declared.Found.{Found}
 use Rattle.pass_one.specs.declared.Found.the-variants.{Matched, NoMatch}
+
+-- the end places of what is chosen
+abbrev pub stopsOf : Option Division → Option (List ℕ)
+stopsOf none = none
+stopsOf (some d) = some (stops d)
 
 -- the end places of the chosen division of the pieces es at p, and of more copies of u from q on and then es
 abbrev pub answer : State → List Piece → List ℕ → ℕ → Option (List ℕ)

@@ -33,6 +33,7 @@ pub(crate) fn has_calls(items: &[u8]) -> bool
     false
 }
 
+// Whether two texts are the same.
 fn same_text(a: &[u8], b: &[u8]) -> bool
     ensures { λ r. ⌜ WhenTrue r (now (a .entry) ≡ now (b .entry)) ⌝ }
 {
@@ -66,7 +67,7 @@ fn same_item(code: u8, i: u8, seen: &[u8], state: &[u8]) -> bool
     true
 }
 
-// Whether every call of a pattern does.
+// Whether every call of a pattern stands for the same in two states.
 fn same_calls(items: &[u8], seen: &[u8], state: &[u8]) -> bool
     requires { ⌜ Pairs LetterIn (now items) × (length (now items) ≤ 1016) × IsState (now seen) × IsState (now state) ⌝ }
     ensures { λ r. ⌜ WhenTrue r (Alike (now (items .entry)) (now (seen .entry)) (now (state .entry))) ⌝ }
@@ -82,6 +83,7 @@ fn same_calls(items: &[u8], seen: &[u8], state: &[u8]) -> bool
     true
 }
 
+// The state under which marks are made.
 pub(crate) fn copy_state(state: &[u8], seen: &mut [u8])
     requires { ⌜ length (now state) ≡ length (now seen) ⌝ }
     ensures { λ _. ⌜ now (seen .exit) ≡ now (state .entry) ⌝ }

@@ -53,7 +53,7 @@ fn items_of(slot: &[u8]) -> &[u8]
     &slot[8..end]
 }
 
-// Where they end.
+// Where the items of a slot's pattern end.
 fn pattern_end(slot: &[u8]) -> usize
     requires { ⌜ 3 < length (now slot) ⌝ }
     ensures { λ r. ⌜ r ≡ 8 + twoAt (now (slot .entry)) 2 ⌝ }

@@ -5,7 +5,7 @@ use crate::matcher::counted;
 use crate::matcher::differs;
 use crate::matcher::elements;
 use pass_marks::clear;
-use pass_moment::At;
+use pass_moment::Moment;
 use pass_moment::Passed;
 use pass_moment::after;
 use pass_moment::answer;
@@ -22,13 +22,13 @@ fn go_on(
     items: &[u8],
     kinds: &[u8; 256],
     line: &[u8],
-    at: At,
+    at: Moment,
     state: &mut [u8],
     out: &mut [u8],
     marks: &mut [u8],
     seen: &mut [u8],
     ends: &mut [u16],
-) -> At
+) -> Moment
     requires { ⌜ AtPlace (now slot) (now items) (now kinds) (now line) (now state) (now out) (now marks) (now ends) at × Seen (now items) (now seen) (now state) ⌝ }
     ensures { λ r. ⌜ GoesBy (now (slot .entry)) (now (items .entry)) (now (line .entry)) (now (state .entry)) (now (state .exit)) (now (out .entry)) (now (out .exit)) (now (marks .entry)) (now (marks .exit)) (now (seen .exit)) (now (ends .exit)) at r ⌝ }
 {

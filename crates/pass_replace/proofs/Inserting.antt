@@ -19,18 +19,23 @@ use Rattle.form_table.specs.ActionWalk.{figures}
 use Rattle.lines.specs.State.{State, counterOf, currentEntry, contents}
 use Rattle.lines.specs.Replacing.{Work, Done, _>>=_, puts, stores}
 use Rattle.lines.specs.Replacing.Done.{bad, good}
-use Rattle.form_state.specs.Access.{Holds, IsState}
+use Rattle.form_state.specs.Access.{Holds, IsState, OfState}
 use Rattle.form_table.specs.Actions.{numberIn, actionSize}
 use Rattle.form_table.proofs.Digits.{digits-few, digits-last}
 use Rattle.form_table.proofs.Actions.{some-size}
 use Rattle.pass_replace.specs.Contract.{sizeOf}
-use Rattle.pass_replace.specs.Tags.{tagIn}
+use Rattle.pass_replace.specs.Tags.{tagIn, Cut}
+use Rattle.pass_replace.specs.Texts.{Lends, Hands}
 use Rattle.pass_replace.specs.Acting.{taggedIn, movesIn, setsIn, actIn, contentsIn, insertsIn, storedIn, accessIn, actionIn, actsIn, Fit, Fits}
 use Rattle.pass_replace.specs.Acting.Fits.{none, next}
 use Rattle.pass_replace.specs.Moments.{Does, Inserts, Changes, Onward, Digits}
+use Rattle.pass_replace.specs.declared.tags.Span.{Span}
+use Rattle.pass_replace.specs.declared.texts.Text.{Text}
+use Rattle.pass_replace.specs.declared.texts.Text.the-variants.{Tag, Entry}
 use Rattle.refusals.specs.declared.Fault.{Fault}
 use Rattle.refusals.specs.declared.Outcome.{Outcome}
 use Rattle.refusals.specs.declared.Outcome.the-variants.{Made, Refused}
+use Rattle.pass_replace.proofs.Braces.{cut-is}
 use Rattle.pass_replace.proofs.Moving.{mark-counter, mark-stack}
 use Rattle.pass_replace.proofs.Stepping.{does-then, does-stop, does-by, does-none, does-onward, changes-does}
 
@@ -94,6 +99,21 @@ not-byte {c} e g z = let y = within-low 56 63 c (sym e ∙ g) in omega arith
 pub not-tag : {c : ℕ} {x : Bool} → x ≡ within 56 63 c → x ≡ true → c ≡ 41 → ⊥
 not-tag {c} e g z = let y = within-low 56 63 c (sym e ∙ g) in omega arith
 
+-- WHAT IS HANDED OUT
+
+module _ (line b : List ℕ) {whose : Text} where
+  pub lent-tag : {span : Span} → whose ≡ Tag span → Lends line b whose → Cut line (span .from) (span .to)
+  lent-tag e p = subst (λ (x : Text). Lends line b x) e p
+
+  pub lent-entry : {i : ℕ} → whose ≡ Entry i → Lends line b whose → IsState b × Letter i
+  lent-entry e p = subst (λ (x : Text). Lends line b x) e p
+
+  pub hands-tag : {span : Span} → whose ≡ Tag span → Lends line b whose → Hands line b whose (take (span .to - span .from) (drop (span .from) line))
+  hands-tag {span} e p = subst (λ (x : Text). Hands line b x (take (span .to - span .from) (drop (span .from) line))) (sym e) (cut-is (lent-tag e p))
+
+  pub hands-entry : {i : ℕ} {r : List ℕ} → whose ≡ Entry i → OfState b (λ st. r ≡ currentEntry st i) → Hands line b whose r
+  hands-entry {i} {r} e p = subst (λ (x : Text). Hands line b x r) (sym e) p
+
 -- WHAT IS INSERTED
 
 pub inserts-does : (tag t : List ℕ) {bytes out out₁ b : List ℕ} {k : ℕ} {r : Outcome} → Inserts bytes out k out₁ r → IsState b → ((st : State) → Holds b st → bytes ≡ contentsIn tag t st)
@@ -109,22 +129,18 @@ inserts-does tag t {b = b} p s e =
       past = q .past;
     }
 
-pub part-tag : (tag x : List ℕ) (c : ℕ) → c ≡ 41 → tag ≡ pick (eqb c 41) tag x
-unfolding pick
-part-tag tag x c e = rw (eq-eqb c 41 e)
-
-pub part-entry : (tag x r : List ℕ) (c : ℕ) → (c ≡ 41 → ⊥) → r ≡ x → r ≡ pick (eqb c 41) tag x
-unfolding pick
-part-entry tag x r c f e = rw (ne-eqb c 41 f) e
-
 module _ (tag t : List ℕ) where
   pub byte-is : 2 ≤ length t → getD t 0 0 ≡ 40 → (st : State) → take (2 - 1) (drop 1 t) ≡ contentsIn tag t st
   unfolding contentsIn pick
   byte-is h e st = rw (eq-eqb (getD t 0 0) 40 e) (ap (take 1) (drop-cons t 1 0 (omega arith)))
 
-  pub part-is : {x : Bool} {r : List ℕ} → (getD t 0 0 ≡ 40 → ⊥) → x ≡ within 56 63 (getD t 0 0) → x ≡ false → (st : State) → r ≡ pick (eqb (getD t 0 0) 41) tag (currentEntry st (getD t 1 0)) → r ≡ contentsIn tag t st
+  pub tag-is : getD t 0 0 ≡ 41 → (st : State) → tag ≡ contentsIn tag t st
+  unfolding contentsIn pick
+  tag-is e st = rw (ne-eqb (getD t 0 0) 40 (λ f. omega arith), eq-eqb (getD t 0 0) 41 e)
+
+  pub entry-is : {x : Bool} → (getD t 0 0 ≡ 40 → ⊥) → (getD t 0 0 ≡ 41 → ⊥) → x ≡ within 56 63 (getD t 0 0) → x ≡ false → (st : State) → currentEntry st (getD t 1 0) ≡ contentsIn tag t st
   unfolding contentsIn pick contents
-  part-is f e g st q = rw (ne-eqb (getD t 0 0) 40 f, ← mark-stack (getD t 0 0) e g) q
+  entry-is f g e h st = rw (ne-eqb (getD t 0 0) 40 f, ne-eqb (getD t 0 0) 41 g, ← mark-stack (getD t 0 0) e h)
 
   pub value-is : {x : Bool} {v : ℕ} → x ≡ within 56 63 (getD t 0 0) → x ≡ true → (st : State) → v ≡ counterOf st (getD t 1 0) .value → digits v ≡ contentsIn tag t st
   unfolding contentsIn pick contents

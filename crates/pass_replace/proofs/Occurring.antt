@@ -35,11 +35,11 @@ module _ (s : List ℕ) (m : Macro) (h : IsSlot s m) where
   abbrev C : List ℕ
   C = callsItems (m .commands)
 
-  small : length (body m) ≤ bodyBytes
+  small : length (body m) + 2 ≤ bodyBytes
   small = omega (arith, bodySize m, h .spellable .1)
 
   slot-long : length s ≡ slotBytes
-  slot-long = ap length (sym (h .form)) ∙ slot-length m small
+  slot-long = ap length (sym (h .form)) ∙ slot-length m (let z = small in omega arith)
 
   pattern-long : twoAt s 2 ≡ length P
   pattern-long = ap (λ (x : List ℕ). twoAt x 2) (sym (h .form)) ∙ pattern-at m
@@ -50,7 +50,7 @@ module _ (s : List ℕ) (m : Macro) (h : IsSlot s m) where
   commands-long : twoAt s 6 ≡ length C
   commands-long = ap (λ (x : List ℕ). twoAt x 6) (sym (h .form)) ∙ commands-at m
 
-  parts-short : twoAt s 2 + twoAt s 4 + twoAt s 6 ≤ bodyBytes
+  parts-short : twoAt s 2 + twoAt s 4 + twoAt s 6 + 2 ≤ bodyBytes
   parts-short = omega (arith, small, body-length m, pattern-long, replacement-long, commands-long)
 
   module _ {x : ℕ} (p : x ≡ twoAt s 2) where
@@ -89,7 +89,7 @@ module _ {s ends t b out : List ℕ} {size : ℕ} (h : Lent s ends t b out size)
   pub slot-size : length s ≡ slotBytes
   slot-size = slot-long s (h .divided .0) isSlot
 
-  pub parts-fit : twoAt s 2 + twoAt s 4 + twoAt s 6 ≤ bodyBytes
+  pub parts-fit : twoAt s 2 + twoAt s 4 + twoAt s 6 + 2 ≤ bodyBytes
   parts-fit = parts-short s (h .divided .0) isSlot
 
   module _ {x : ℕ} (p : x ≡ twoAt s 2) where

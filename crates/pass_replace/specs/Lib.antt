@@ -1,4 +1,5 @@
 pub mod Contract
 pub mod Tags
+pub mod Texts
 pub mod Acting
 pub mod Moments

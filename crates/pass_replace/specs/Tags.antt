@@ -1,5 +1,5 @@
 -- The text of a tag (01, part 3), from the items of the pattern and the end at each item's place.
-use Prim.Native.Nat.{ℕ, zero, suc, _≤_}
+use Prim.Native.Nat.{ℕ, zero, suc, _+_, _≤_}
 use mathlib.Core.Path.{_≡_}
 use mathlib.Core.Bool.{Bool, true, false}
 use mathlib.Core.List.{List, [], _∷_}
@@ -35,9 +35,9 @@ tagIn t n [] ends = []
 tagIn t n (c ∷ []) ends = []
 tagIn t n (c ∷ b ∷ l) ends = tagStep (eqb c 1) n (slice (getD ends 0 0) (closeIn 0 l (drop 2 ends)) t) (λ k. tagIn t k l (drop 2 ends))
 
--- the items of a pattern, and an end for each of their places
+-- the items of a pattern, an end for each of their places, and room for one more item's
 pub record Ended (pat ends : List ℕ) : Type 0 where
-  pub few : length pat ≤ bodyBytes
+  pub few : length pat + 2 ≤ bodyBytes
   pub count : length ends ≡ bodyBytes
 
 -- where the text stands that f takes from any line, not beyond the ends

@@ -5,8 +5,10 @@ use crate::calls::store;
 use crate::calls::text_in;
 use crate::tags::Span;
 use crate::tags::tag_of;
+use crate::texts::Text;
 use crate::texts::insert;
 use crate::texts::is_within;
+use crate::texts::part;
 use form_bytes::number_at;
 use form_items::action_size;
 use refusals::Outcome;
@@ -16,7 +18,7 @@ ghost use Rattle.pass_replace.specs.Tags.{Ended, Spans, Cut, Divided};
 ghost use Rattle.pass_replace.specs.Acting.{Fit, Fits, taggedIn, accessIn, actionIn, actsIn, actIn};
 ghost use Rattle.pass_replace.specs.Moments.{Room, Does};
 
-// An action without its moves: it inserts, stores or sets. Where it stores, the state is written, so that only the line's part is lent meanwhile.
+// An action without its moves: it inserts, stores or sets. While a tag is stored the state is not lent: a tag's text stands in the line.
 fn access(
     line: &[u8],
     span: Span,
@@ -34,9 +36,7 @@ fn access(
         return insert(line, span, t, state, out, size);
     }
     if code < 72 {
-        let from = span.from;
-        let to = span.to;
-        return store(state, i, &line[from..to], size);
+        return store(state, i, part(line, b"", Text::Tag(span)), size);
     }
     if code < 80 {
         return store(state, i, text_in(t), size);

@@ -65,7 +65,8 @@ pub(crate) fn tag_of(pat: &[u8], ends: &[u16], n: u8) -> Span
     while i + 1 < pat.len() {
         if pat[i] == 1 {
             if left < 2 {
-                let to = close_of(pat, ends, i + 2);
+                let inside = i + 2;
+                let to = close_of(pat, ends, inside);
                 let from = least(wide(ends[i]), to);
                 return Span { from, to };
             }

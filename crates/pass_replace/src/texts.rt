@@ -6,16 +6,14 @@ use refusals::Fault;
 use refusals::Outcome;
 ghost use mathlib.Core.Path.{_≡_};
 ghost use Prim.Native.Nat.{_+_, _≤_, _<_};
-ghost use lib.Dec.{eqb};
 ghost use lib.ListN.{length};
 ghost use lib.Seq.{paste, slice};
 ghost use Rattle.macros.specs.Bounds.{mostCounter};
-ghost use Rattle.macros.specs.Macro.{pick, within};
-ghost use Rattle.macros.specs.Formed.{Letter};
+ghost use Rattle.macros.specs.Macro.{within};
 ghost use Rattle.macros.specs.Write.{digits};
-ghost use Rattle.lines.specs.State.{currentEntry};
-ghost use Rattle.form_state.specs.Access.{IsState, OfState};
+ghost use Rattle.form_state.specs.Access.{IsState};
 ghost use Rattle.pass_replace.specs.Tags.{Cut};
+ghost use Rattle.pass_replace.specs.Texts.{Lends, Hands};
 ghost use Rattle.pass_replace.specs.Acting.{Fit, insertsIn};
 ghost use Rattle.pass_replace.specs.Moments.{Room, Inserts, Does, Digits};
 
@@ -80,17 +78,25 @@ fn put_value(v: u32, out: &mut [u8], size: usize) -> Outcome
     put(out, size, &figures[..n])
 }
 
+// Whose text: a tag's, with its span of the line, or that of the current entry of a stack, by its letter.
+pub(crate) enum Text {
+    Tag(Span),
+    Entry(u8),
+}
+
 // "The text of a tag or stack call is handed out as a part of the line or of the stack memory."
-fn part<'a>(line: &'a [u8], span: Span, state: &'a [u8], code: u8, i: u8) -> &'a [u8]
-    requires { ⌜ Cut (now line) (span .from) (span .to) × IsState (now state) × ((code ≡ 41 → ⊥) → Letter i) ⌝ }
-    ensures { λ r. ⌜ OfState (now (state .entry)) (λ st. now r ≡ pick (eqb code 41) (slice (span .from) (span .to) (now (line .entry))) (currentEntry st i)) ⌝ }
+pub(crate) fn part<'a>(line: &'a [u8], state: &'a [u8], whose: Text) -> &'a [u8]
+    requires { ⌜ Lends (now line) (now state) whose ⌝ }
+    ensures { λ r. ⌜ Hands (now (line .entry)) (now (state .entry)) whose (now r) ⌝ }
 {
-    if code == 41 {
-        let from = span.from;
-        let to = span.to;
-        return &line[from..to];
+    match whose {
+        Text::Tag(span) => {
+            let from = span.from;
+            let to = span.to;
+            &line[from..to]
+        }
+        Text::Entry(i) => entry(state, i),
     }
-    entry(state, i)
 }
 
 // A byte, `{n}`, `&(i)` or `#(i)`: what it stands for is inserted.
@@ -110,8 +116,11 @@ pub(crate) fn insert<'a>(
     if code == 40 {
         return put(out, size, &t[1..2]);
     }
+    if code == 41 {
+        return put(out, size, part(line, state, Text::Tag(span)));
+    }
     if is_within(56, 63, code) {
         return put_value(value(state, i), out, size);
     }
-    put(out, size, part(line, span, state, code, i))
+    put(out, size, part(line, state, Text::Entry(i)))
 }

@@ -5,14 +5,14 @@ use Rattle.pass_moment.proofs.answer.Tie as tie
 enum-told : tie.Need-enum-told
 enum-told c = search needs
 
-enum-known-fate : tie.Need-enum-known-fate
-enum-known-fate c = search needs
+enum-known-refusal : tie.Need-enum-known-refusal
+enum-known-refusal c = search needs
 
 returns : tie.Need-returns
 returns c = rw (c .enum-told .given .1)
 
 returns-2 : tie.Need-returns-2
-returns-2 c = rw (c .before .fate .given .1)
+returns-2 c = rw (c .before .refusal .given .1)
 
 pub answer-spec : {M : Type 1} → statement M
-answer-spec = tie.close (tie.spec enum-told enum-known-fate returns returns-2)
+answer-spec = tie.close (tie.spec enum-told enum-known-refusal returns returns-2)

@@ -20,7 +20,7 @@ shared-slice-read-out : tie.Need-shared-slice-read-out
 shared-slice-read-out c = search needs
 
 slice-write-out : tie.Need-slice-write-out
-slice-write-out c = search needs
+slice-write-out c = omega arith
 
 add-moved : tie.Need-add-moved
 add-moved c = search needs

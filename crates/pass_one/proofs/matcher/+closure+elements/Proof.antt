@@ -30,6 +30,7 @@ use Rattle.pass_one.proofs.unit.width_of.Reads as width-of-reads
 use Rattle.pass_one.proofs.matcher.+closure+elements.{statement}
 use Rattle.pass_one.proofs.matcher.+closure+elements.Tie.{close}
 
+-- "remaining elements falling first and untried repeats second": the bytes of items that are left, 2,048 each, and in `closure` the repeats still untried; `elements` counts as more than any
 abbrev μ-closure : Measures 6 closure-kinds.ps ℕ
 μ-closure κs a = (length (a .0 .now) - a .1 .1 .1 .1 .0) * 2048 + a .1 .1 .1 .1 .1 .1 .1 .1 .0
 

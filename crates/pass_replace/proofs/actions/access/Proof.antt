@@ -11,10 +11,10 @@ use Rattle.pass_replace.proofs.actions.access.Statement.{statement}
 use Rattle.pass_replace.proofs.actions.access.Tie as tie
 
 shared-slice-read-code : tie.Need-shared-slice-read-code
-shared-slice-read-code c = omega (arith, some-size (c .before .before .before .before .before .args .t .now), c .before .before .before .before .before .pre .1 .held)
+shared-slice-read-code c = let a = c .before .before .before .before .before in omega (arith, some-size (a .args .t .now), a .pre .1 .held)
 
 shared-slice-read-i : tie.Need-shared-slice-read-i
-shared-slice-read-i c = omega (arith, some-size (c .before .before .before .before .before .before .args .t .now), c .before .before .before .before .before .before .pre .1 .held)
+shared-slice-read-i c = let a = c .before .before .before .before .before .before in omega (arith, some-size (a .args .t .now), a .pre .1 .held)
 
 insert-requires : tie.Need-insert-requires
 insert-requires c κs = search needs
@@ -28,49 +28,59 @@ same-length-2 c = search needs
 returns : tie.Need-returns
 returns c = access-insert _ (c .before .before .before .before .before .before .before .before .before .before .before .before .args .t .now) (c .before .before .before .before .before .if1 .taken) (c .before .before .insert .ensures)
 
-sub-store : tie.Need-sub-store
-sub-store c = omega (arith, c .before .before .before .before .before .before .before .before .before .pre .0 .ordered)
+slice-aggregate-part : tie.Need-slice-aggregate-part
+slice-aggregate-part c = search needs
 
-part-store-start : tie.Need-part-store-start
-part-store-start c = omega (arith, c .before .before .before .before .before .before .before .before .before .pre .0 .ordered)
-
-part-store-end : tie.Need-part-store-end
-part-store-end c = omega (arith, c .before .before .before .before .before .before .before .before .before .pre .0 .inside)
+part-requires : tie.Need-part-requires
+part-requires c κs = search needs
 
 store-requires : tie.Need-store-requires
-store-requires c κs = (c .before .before .before .before .before .before .before .before .before .before .pre .2, letter-of (c .before .before .before .before .before .before .before .before .before .before .args .t .now) (c .before .before .before .before .before .before .before .before .before .before .pre .1) (omega (arith, c .before .before .before .if1 .left)), cut-bytes (c .before .before .before .before .before .before .before .before .before .before .pre .0))
+store-requires c κs =
+    let a = c .before .before .before .before .before .before .before .before .before .before .before in
+    (a .pre .2, letter-of (a .args .t .now) (a .pre .1) (omega (arith, c .before .before .before .before .if1 .left)), subst Bytes (cut-is (a .pre .0) ∙ sym (c .part .ensures)) (cut-bytes (a .pre .0)))
 
 same-length-3 : tie.Need-same-length-3
 same-length-3 c = search needs
 
 returns-2 : tie.Need-returns-2
-returns-2 c = access-store _ (c .before .before .before .before .before .before .before .before .before .before .before .before .before .args .t .now) _ (c .before .before .before .before .before .before .if1 .left) (omega (arith, c .before .before .before .before .before .if2 .taken)) (c .before .before .before .before .before .before .before .before .before .before .before .before .before .pre .3 .fits) (cut-is (c .before .before .before .before .before .before .before .before .before .before .before .before .before .pre .0) ∙ stored-tag _ (c .before .before .before .before .before .before .before .before .before .before .before .before .before .args .t .now) (c .before .before .before .before .before .if2 .taken)) (c .before .before .store .ensures)
+returns-2 c =
+    let a = c .before .before .before .before .before .before .before .before .before .before .before .before .before .before in
+    let t = a .args .t .now in
+    access-store _ t _ (c .before .before .before .before .before .before .before .if1 .left) (omega (arith, c .before .before .before .before .before .before .if2 .taken)) (a .pre .3 .fits) (c .before .before .before .part .ensures ∙ stored-tag _ t (c .before .before .before .before .before .before .if2 .taken)) (c .before .before .store .ensures)
 
 text-in-requires : tie.Need-text-in-requires
 text-in-requires c κs = search needs
 
 store-requires-2 : tie.Need-store-requires-2
-store-requires-2 c κs = (c .before .before .before .before .before .before .before .before .before .before .before .pre .2, letter-of (c .before .before .before .before .before .before .before .before .before .before .before .args .t .now) (c .before .before .before .before .before .before .before .before .before .before .before .pre .1) (omega (arith, c .before .before .before .before .if1 .left)), subst Bytes (sym (c .text-in .ensures)) (c .before .before .before .before .before .before .before .before .before .before .before .pre .1 .text (c .before .before .before .if2 .left) (c .before .before .if3 .taken)))
+store-requires-2 c κs =
+    let a = c .before .before .before .before .before .before .before .before .before .before .before in
+    (a .pre .2, letter-of (a .args .t .now) (a .pre .1) (omega (arith, c .before .before .before .before .if1 .left)), subst Bytes (sym (c .text-in .ensures)) (a .pre .1 .text (c .before .before .before .if2 .left) (c .before .before .if3 .taken)))
 
 same-length-4 : tie.Need-same-length-4
 same-length-4 c = search needs
 
 returns-3 : tie.Need-returns-3
-returns-3 c = access-store _ (c .before .before .before .before .before .before .before .before .before .before .before .before .before .before .args .t .now) _ (c .before .before .before .before .before .before .before .if1 .left) (c .before .before .before .before .before .if3 .taken) (c .before .before .before .before .before .before .before .before .before .before .before .before .before .before .pre .3 .fits) (c .before .before .before .text-in .ensures ∙ stored-text _ (c .before .before .before .before .before .before .before .before .before .before .before .before .before .before .args .t .now) (c .before .before .before .before .before .before .if2 .left)) (c .before .before .store2 .ensures)
+returns-3 c =
+    let a = c .before .before .before .before .before .before .before .before .before .before .before .before .before .before in
+    let t = a .args .t .now in
+    access-store _ t _ (c .before .before .before .before .before .before .before .if1 .left) (c .before .before .before .before .before .if3 .taken) (a .pre .3 .fits) (c .before .before .before .text-in .ensures ∙ stored-text _ t (c .before .before .before .before .before .before .if2 .left)) (c .before .before .store2 .ensures)
 
 number-at-requires : tie.Need-number-at-requires
-number-at-requires c κs = omega (arith, size-set (c .before .before .before .before .before .before .before .before .before .before .args .t .now) (c .before .if3 .left), c .before .before .before .before .before .before .before .before .before .before .pre .1 .held)
+number-at-requires c κs = let a = c .before .before .before .before .before .before .before .before .before .before in omega (arith, size-set (a .args .t .now) (c .before .if3 .left), a .pre .1 .held)
 
 set-requires : tie.Need-set-requires
 unfolding numberIn
-set-requires c κs = (c .before .before .before .before .before .before .before .before .before .before .before .pre .2, letter-of (c .before .before .before .before .before .before .before .before .before .before .before .args .t .now) (c .before .before .before .before .before .before .before .before .before .before .before .pre .1) (omega (arith, c .before .before .before .before .if1 .left)), λ h. rw (c .number-at .ensures) (c .before .before .before .before .before .before .before .before .before .before .before .pre .1 .pointer (c .before .before .if3 .left) h), λ h. rw (c .number-at .ensures) (c .before .before .before .before .before .before .before .before .before .before .before .pre .1 .number h))
+set-requires c κs =
+    let a = c .before .before .before .before .before .before .before .before .before .before .before in
+    let n = c .number-at .ensures in
+    (a .pre .2, letter-of (a .args .t .now) (a .pre .1) (omega (arith, c .before .before .before .before .if1 .left)), λ h. rw n (a .pre .1 .pointer (c .before .before .if3 .left) h), λ h. rw n (a .pre .1 .number h))
 
 same-length-5 : tie.Need-same-length-5
 same-length-5 c = search needs
 
 returns-4 : tie.Need-returns-4
 unfolding numberIn
-returns-4 c = access-set _ (c .before .before .before .before .before .before .before .before .before .before .before .before .before .before .args .t .now) (c .before .before .before .before .before .if3 .left) (c .before .before .before .before .before .before .before .before .before .before .before .before .before .before .pre .3 .fits) (c .before .before .before .number-at .ensures) (c .before .before .set .ensures)
+returns-4 c = let a = c .before .before .before .before .before .before .before .before .before .before .before .before .before .before in access-set _ (a .args .t .now) (c .before .before .before .before .before .if3 .left) (a .pre .3 .fits) (c .before .before .before .number-at .ensures) (c .before .before .set .ensures)
 
 pub access-spec : {M : Type 1} → statement M
 access-spec =
@@ -82,9 +92,8 @@ access-spec =
     same-length
     same-length-2
     returns
-    sub-store
-    part-store-start
-    part-store-end
+    slice-aggregate-part
+    part-requires
     store-requires
     same-length-3
     returns-2

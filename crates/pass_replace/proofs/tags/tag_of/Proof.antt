@@ -24,8 +24,8 @@ add-loop c = omega arith
 shared-slice-read-if1 : tie.Need-shared-slice-read-if1 Inv-loop μ-loop
 shared-slice-read-if1 c = omega arith
 
-add-close-of : tie.Need-add-close-of Inv-loop μ-loop
-add-close-of c = omega arith
+add-inside : tie.Need-add-inside Inv-loop μ-loop
+add-inside c = omega arith
 
 close-of-requires : tie.Need-close-of-requires Inv-loop μ-loop
 close-of-requires c κs = ((c .before .before .before .before .before .before .before .pre), omega arith)
@@ -78,7 +78,7 @@ tag-of-spec =
     loop-holds
     add-loop
     shared-slice-read-if1
-    add-close-of
+    add-inside
     close-of-requires
     mul-wide
     shared-slice-read-wide

@@ -1,36 +1,42 @@
-use mathlib.Core.Path.{_∙_}
 use native.Mathlib.Omega.{arith}
-use Rattle.lines.specs.State.{currentEntry}
-use Rattle.pass_replace.proofs.Braces.{cut-is}
-use Rattle.pass_replace.proofs.Inserting.{part-tag, part-entry}
+use borrow.Author.Needs.{needs}
+use Rattle.pass_replace.proofs.Inserting.{lent-tag, lent-entry, hands-tag, hands-entry}
 use Rattle.pass_replace.proofs.texts.part.Statement.{statement}
 use Rattle.pass_replace.proofs.texts.part.Tie as tie
 
+enum-known-whose : tie.Need-enum-known-whose
+enum-known-whose c = search needs
+
 sub-result : tie.Need-sub-result
-sub-result c = omega (arith, c .before .before .before .pre .0 .ordered)
+sub-result c = omega (arith, lent-tag (c .before .before .before .before .before .args .line .now) (c .before .before .before .before .before .args .state .now) (c .before .whose .given .1) (c .before .before .before .before .before .pre) .ordered)
 
 part-result-start : tie.Need-part-result-start
-part-result-start c = omega (arith, c .before .before .before .pre .0 .ordered)
+part-result-start c = omega (arith, lent-tag (c .before .before .before .before .before .args .line .now) (c .before .before .before .before .before .args .state .now) (c .before .whose .given .1) (c .before .before .before .before .before .pre) .ordered)
 
 part-result-end : tie.Need-part-result-end
-part-result-end c = omega (arith, c .before .before .before .pre .0 .inside)
+part-result-end c = omega (arith, lent-tag (c .before .before .before .before .before .args .line .now) (c .before .before .before .before .before .args .state .now) (c .before .whose .given .1) (c .before .before .before .before .before .pre) .inside)
 
-returns : tie.Need-returns
-returns c = λ st h. cut-is (c .before .before .before .before .pre .0) ∙ part-tag _ (currentEntry st (c .before .before .before .before .args .i)) (c .before .before .before .before .args .code) (c .before .if1 .taken)
+enum-known-whose-2 : tie.Need-enum-known-whose-2
+enum-known-whose-2 c = search needs
 
 entry-requires : tie.Need-entry-requires
-entry-requires c κs = (c .before .before .before .pre .1, c .before .before .before .pre .2 (c .if1 .left))
+entry-requires c κs = lent-entry (c .before .before .before .before .before .args .line .now) (c .before .before .before .before .before .args .state .now) (c .before .whose2 .given .1) (c .before .before .before .before .before .pre)
+
+returns : tie.Need-returns
+returns c = hands-tag (c .before .before .before .before .before .before .args .line .now) (c .before .before .before .before .before .before .args .state .now) (c .before .before .whose .given .1) (c .before .before .before .before .before .before .pre)
 
 returns-2 : tie.Need-returns-2
-returns-2 c = λ st h. part-entry _ (currentEntry st (c .before .before .before .before .args .i)) _ (c .before .before .before .before .args .code) (c .before .if1 .left) (c .entry .ensures st h)
+returns-2 c = hands-entry (c .before .before .before .before .before .before .args .line .now) (c .before .before .before .before .before .before .args .state .now) (c .before .before .whose2 .given .1) (c .entry .ensures)
 
 pub part-spec : {M : Type 1} → statement M
 part-spec =
     tie.close
     (tie.spec
+    enum-known-whose
     sub-result
     part-result-start
     part-result-end
-    returns
+    enum-known-whose-2
     entry-requires
+    returns
     returns-2)
