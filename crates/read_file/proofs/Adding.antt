@@ -16,7 +16,7 @@ use Rattle.macros.specs.Read.Read.{refusedAt}
 use Rattle.form_table.specs.Form.{slotBytes, body, slot, slots}
 use Rattle.form_items.specs.Items.{Wrote}
 use Rattle.form_table.proofs.Actions.{slot-length}
-use Rattle.read_file.specs.File.{Macroed, MacroFrom, usedBytes, slotOf, Seeks, Adds, AddsFrom, noQuote, noMacro}
+use Rattle.read_file.specs.File.{Macroed, MacroFrom, ReadsMacro, usedBytes, slotOf, Seeks, Adds, AddsFrom, noQuote, noMacro}
 use Rattle.read_scan.specs.declared.Fault.{Fault}
 use Rattle.read_scan.specs.declared.Fault.the-variants.{TooManyMacros}
 use Rattle.read_file.specs.declared.Head.{Head}
@@ -95,11 +95,14 @@ module _ (s : List ℕ) (c : ℕ) (old out : List ℕ) (n at : ℕ) (x : Adds s 
     pub adds-full : 96 ≤ n → AddsFrom s c old out (NotAll TooManyMacros q n)
     adds-full h = adds-then there (λ l i. full s q l (at-quote .1) (at-quote .2) (omega arith))
 
-    module _ (old₂ mid : List ℕ) {m : Built} (z : MacroFrom s q old₂ mid m) where
+    module _ (old₂ mid : List ℕ) {m : Built} (y₂ : ReadsMacro s q old₂ mid m) where
+      z : MacroFrom s q old₂ mid m
+      z = y₂ .from
+
       pub adds-fault : {f : Fault} {v : ℕ} {w : Added} → n < 96 → m ≡ NoMacro f v → w ≡ noMacro m n → AddsFrom s c old out w
       adds-fault {f} {v} h i j =
           let d : MacroFrom s q old₂ mid (NoMacro f v) = rw i at z in
-          rw (j ∙ ap (λ (b : Built). noMacro b n) i) (adds-then there (λ l k. d .1 l (omega arith)))
+          rw (j ∙ ap (λ (b : Built). noMacro b n) i) (adds-then there (λ l k. d .2 l (omega arith)))
 
       module _ {v : ℕ} {h : Head} (i : m ≡ Made v h) where
         pub one-more : Macroed s q v old₂ mid h

@@ -128,12 +128,12 @@ module _ {s : List ℕ} {a p b : ℕ} (old : List ℕ) (n k : ℕ) (x : Here s a
   command-text e g h i = (
     omega arith,
     does-skip old n k (p + 1) (reached-behind (x .stands))
-        (λ f l cs ms. here-on x ms (commands none f l cs) (commands none f l cs) (command-other f l cs b e g h i)),
+        (λ f l cs ms. here-on x ms (commands none f l cs) (commands none f l cs) (λ q o. refl) (command-other f l cs b e g h i)),
   )
 
 module _ {s : List ℕ} {a p : ℕ} (old out : List ℕ) (n k : ℕ) (c : Bool) (x : Here s a p (markByte (markOf c))) {r : Next} (y : Passes s a (p + 1) r) where
   lead : (f : Front) (l : List Action) (cs : List Call) (ms : List Macro) → run s a ms false p (commands none f l cs) ≡ run s a ms false (p + 1) (commands (some (markOf c)) f l cs)
-  lead f l cs ms = here-on x ms (commands none f l cs) (commands (some (markOf c)) f l cs) (command-mark (markOf c) f l cs)
+  lead f l cs ms = here-on x ms (commands none f l cs) (commands (some (markOf c)) f l cs) (λ q o. refl) (command-mark (markOf c) f l cs)
 
   pub command-none : {f : Fault} {q : ℕ} {w : Ended} → r ≡ NoByte f q → w ≡ nextEnd r → CommandFrom s a p old out n k w
   command-none {f} {q} e i =
@@ -149,7 +149,7 @@ module _ {s : List ℕ} {a p : ℕ} (old out : List ℕ) (n k : ℕ) (c : Bool) 
 
     begins : b ≡ 40 → (f : Front) (l : List Action) (cs : List Call) (ms : List Macro)
         → run s a ms false p (commands none f l cs) ≡ run s a ms false (q + 1) (calling (asCommand f l cs) (begun (markOf c)))
-    begins h f l cs ms = there f l cs ms ∙ here-on (command-byte .found .1) ms (commands (some (markOf c)) f l cs) (calling (asCommand f l cs) (begun (markOf c))) (mark-call (markOf c) f l cs b h)
+    begins h f l cs ms = there f l cs ms ∙ here-on (command-byte .found .1) ms (commands (some (markOf c)) f l cs) (calling (asCommand f l cs) (begun (markOf c))) (λ q o. refl) (mark-call (markOf c) f l cs b h)
 
     pub command-call : b ≡ 40 → (w : Ended) → CalledFrom s a (q + 1) old out n (markOf c) true k w → CommandFrom s a p old out n k w
     unfolding isCommand frontOf placed
@@ -164,7 +164,7 @@ module _ {s : List ℕ} {a p : ℕ} (old out : List ℕ) (n k : ℕ) (c : Bool) 
     command-plain h = (
       omega (arith, command-byte .found .0),
       does-skip old n k q (reached-at (command-byte .found .1 .stands))
-          (λ f l cs ms. there f l cs ms ∙ here-same (command-byte .found .1) ms (commands (some (markOf c)) f l cs) (commands none f l cs) (mark-other (markOf c) f l cs b h)),
+          (λ f l cs ms. there f l cs ms ∙ here-same (command-byte .found .1) ms (commands (some (markOf c)) f l cs) (commands none f l cs) (λ x q o. refl) (mark-other (markOf c) f l cs b h)),
     )
 
 -- ALL COMMANDS

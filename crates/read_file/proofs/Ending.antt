@@ -20,7 +20,7 @@ use Rattle.macros.specs.Read.{Part, Place, Phase, callByte, isCommand, frontOf,
 use Rattle.macros.specs.Read.Part.{calling, callText}
 use Rattle.macros.specs.Read.Phase.{begun, signed, named, equals, increment, tagged, comma, tagSigned, tagNamed, texted}
 use Rattle.macros.specs.Read.Turn.{into, textOf, closed, wrong}
-use Rattle.macros.specs.Read.Read.{refusedAt}
+use Rattle.read_scan.specs.Scan.MacroRead.{refusedAt}
 use Rattle.form_bytes.specs.Fours.{four}
 use Rattle.form_table.specs.Form.{callItems, moveCode}
 use Rattle.read_scan.specs.Scan.{run, Here, Calls, Reached, faultOf, wrongCall}
@@ -87,7 +87,7 @@ module _ (s : List ℕ) (a p : ℕ) (old out : List ℕ) (n x : ℕ) (cmd : Bool
           room = m;
           further = omega arith;
           reached = reached-behind (y .stands);
-          answer = λ pl u v ms. g pl u v ms ∙ here-on y ms (calling pl ph) (placed pl d) (turn-closed pl ph d c (rw u e) (rw v h));
+          answer = λ pl u v ms. g pl u v ms ∙ here-on y ms (calling pl ph) (placed pl d) (λ q o. refl) (turn-closed pl ph d c (rw u e) (rw v h));
         }
 
 -- NUMBERS

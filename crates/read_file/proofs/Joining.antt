@@ -7,23 +7,24 @@ use mathlib.Core.Option.{none}
 use Prim.Native.Nat.{ℕ, suc, _+_, _-_, _≤_, _<_}
 use native.Mathlib.Omega.{arith}
 use native.Mathlib.Numerals.{add-one}
-use lib.ListN.{length, getD, drop, length-append}
+use lib.ListN.{length, getD, drop, replicate, length-append, length-replicate}
 use borrow.Author.Tests.{lt-ltb, le-ltb}
 use Rattle.macros.specs.Refusals.FileRefusal.{macroTooLong}
 use Rattle.macros.specs.Macro.{Macro, Action, Call, pick, tags}
 use Rattle.macros.specs.Read.{Front, Reader, readFrom, step, skips, partByte, taken, count, commandsByte, commandsFresh}
+use Rattle.macros.specs.Read.Held.{nothing}
 use Rattle.macros.specs.Read.Part.{pattern, awaitSymbol, awaitQuote, replacement, commands}
 use Rattle.macros.specs.Read.Step.{done}
 use Rattle.macros.specs.Read.Reader.{between, inside}
 use Rattle.macros.specs.Read.Next.{go, refuse}
-use Rattle.macros.specs.Read.Read.{refusedAt}
+use Rattle.read_scan.specs.Scan.MacroRead.{refusedAt, patternTo, macroTo}
 use Rattle.form_table.specs.Form.{patternItems, replacementItems, callsItems, symbolCode, header, body}
 use Rattle.form_table.proofs.Order.{tags-reverse}
-use Rattle.read_scan.specs.Scan.{run, Here}
+use Rattle.read_scan.specs.Scan.{MacroRead, readMacro, after, faultOf, run, Here}
 use Rattle.form_items.specs.Items.{Wrote}
 use Rattle.read_pattern.specs.Pattern.{Begins, Patterned}
 use Rattle.read_file.specs.Action.{SymbolAt, QuoteAt, FrontAt, ReplacedFrom, Replaced, CommandsFrom, symbolOf}
-use Rattle.read_file.specs.File.{MacroFrom, PartsFrom, Parted, wholeOf, noPattern, noNext, noEnd}
+use Rattle.read_file.specs.File.{ended, macroAt, MacroFrom, ReadsMacro, PartsFrom, Parted, wholeOf, noPattern, noNext, noEnd}
 use Rattle.read_scan.specs.declared.Fault.{Fault}
 use Rattle.read_scan.specs.declared.Fault.the-variants.{MacroTooLong}
 use Rattle.read_scan.specs.declared.Next.{Next}
@@ -32,10 +33,11 @@ use Rattle.read_pattern.specs.declared.Whole.{Whole}
 use Rattle.read_pattern.specs.declared.Whole.the-variants.{Pattern, Refused as NoWhole}
 use Rattle.read_file.specs.declared.Ended.{Ended}
 use Rattle.read_file.specs.declared.Ended.the-variants.{Upto, Refused as NoEnd}
+use Rattle.read_file.specs.declared.Head.{Head}
 use Rattle.read_file.specs.declared.Built.{Built}
 use Rattle.read_file.specs.declared.Built.the-variants.{Made, Refused as NoMacro}
-use Rattle.read_scan.proofs.Laws.{read-go, read-refuse, run-here, reached-behind}
-use Rattle.form_items.proofs.Writing.{wrote-behind}
+use Rattle.read_scan.proofs.Laws.{out-of, macro-refuse, run-here, reached-behind}
+use Rattle.form_items.proofs.Writing.{wrote-behind, wrote-all}
 use Rattle.read_pattern.proofs.Insides.{macro-begins}
 
 -- AT THE `;`
@@ -57,16 +59,16 @@ unfolding count pick
 count-late n r h = simp (le-ltb _ _ h)
 
 module _ {s : List ℕ} {a q : ℕ} (x : Here s a q 59) (f : Front) (l : List Action) (cs : List Call) (ms : List Macro) where
-  first : run s a ms false q (commands none f l cs) ≡ readFrom q (inside false (q - a) (commands none f l cs) ms) (59 ∷ drop (suc q) s)
+  first : run s a ms false q (commands none f l cs) ≡ readMacro ms q false (q - a) (commands none f l cs) (59 ∷ drop (suc q) s)
   first = let t = x .stands in run-here s a ms false q (commands none f l cs) (t .there) (omega (arith, t .counted)) ∙ rw (t .byte) refl
 
   -- the macro is done
-  pub done-go : q - a < 512 → run s a ms false q (commands none f l cs) ≡ readFrom (suc q) (between false (wholeOf f l cs ∷ ms)) (drop (suc q) s)
-  done-go h = first ∙ read-go q _ (between false (wholeOf f l cs ∷ ms)) 59 _ (done-step (q - a) f l cs ms ∙ count-go (q - a) _ h)
+  pub done-go : q - a < 512 → run s a ms false q (commands none f l cs) ≡ macroTo (suc q) (wholeOf f l cs)
+  done-go h = first ∙ out-of ms q (q - a) false (commands none f l cs) 59 _ (wholeOf f l cs) (done-step (q - a) f l cs ms ∙ count-go (q - a) _ h)
 
   -- the `;` is its 513th byte
   pub done-late : 512 ≤ q - a → run s a ms false q (commands none f l cs) ≡ refusedAt macroTooLong q
-  done-late h = first ∙ read-refuse q macroTooLong _ 59 _ (done-step (q - a) f l cs ms ∙ count-late (q - a) _ h)
+  done-late h = first ∙ macro-refuse ms q (q - a) false (commands none f l cs) 59 _ macroTooLong (done-step (q - a) f l cs ms ∙ count-late (q - a) _ h)
 
 -- THE SYMBOL AND THE QUOTE
 
@@ -152,24 +154,38 @@ module _ (s : List ℕ) (a p : ℕ) (o₁ : List ℕ) (b i t : ℕ) (o₂ : List
 
 -- THE WHOLE MACRO
 
+module _ (s : List ℕ) (a : ℕ) (h : a < length s) (e : getD s a 0 ≡ 39) (old o₁ : List ℕ) where
+  -- a refusal in the pattern
+  macro-none : (f : Fault) (q : ℕ) → (q ≤ length s) × ((ms : List Macro) → run s a ms false (a + 1) (pattern nothing []) ≡ refusedAt (faultOf f) q) → MacroFrom s a old o₁ (NoMacro f q)
+  unfolding after ended macroAt
+  macro-none f q z = (z .0, ap ended (z .1 []), λ ms l. macro-begins s a ms h e l ∙ ap (after s ms) (z .1 ms))
+
 module _ (s : List ℕ) (a : ℕ) (h : a < length s) (e : getD s a 0 ≡ 39) (old o₁ : List ℕ) {r : Whole} (x : Begins s a old o₁ r) where
   pub macro-pattern-fault : {f : Fault} {q : ℕ} {w : Built} → r ≡ NoWhole f q → w ≡ noPattern r → MacroFrom s a old o₁ w
   macro-pattern-fault {f} {q} i j =
       let z : Begins s a old o₁ (NoWhole f q) = rw i at x in
-      rw (j ∙ ap noPattern i) (z .0, λ ms l. macro-begins s a ms h e l ∙ z .1 ms)
+      rw (j ∙ ap noPattern i) (macro-none s a h e old o₁ f q z)
 
   module _ {p t i : ℕ} (k : r ≡ Pattern p t i) where
     pub its-pattern : Patterned s a p t old o₁ i
     its-pattern = rw k at x
 
-    to-symbol : (ms : List Macro) → length ms < 96 → readFrom a (between false ms) (drop a s) ≡ run s a ms false p (awaitSymbol (its-pattern .pieces))
-    to-symbol ms l = macro-begins s a ms h e l ∙ its-pattern .answer ms
+    -- what follows the pattern
+    behind-it : {o : MacroRead} → ((ms : List Macro) → run s a ms false p (awaitSymbol (its-pattern .pieces)) ≡ o)
+        → (macroAt s a ≡ ended o) × ((ms : List Macro) → length ms < 96 → readFrom a (between false ms) (drop a s) ≡ after s ms o)
+    unfolding after ended macroAt
+    behind-it {o} f = (
+      ap ended (its-pattern .answer [] ∙ ap (patternTo p (its-pattern .pieces)) (f [])),
+      λ ms l. macro-begins s a ms h e l ∙ ap (after s ms) (its-pattern .answer ms ∙ ap (patternTo p (its-pattern .pieces)) (f ms)),
+    )
 
     module _ {n : Next} (y : FrontAt s a p n) where
       pub macro-front-fault : {f : Fault} {q : ℕ} {w : Built} → n ≡ NoByte f q → w ≡ noNext n → MacroFrom s a old o₁ w
+      unfolding after ended
       macro-front-fault {f} {q} i j =
           let z : FrontAt s a p (NoByte f q) = rw i at y in
-          rw (j ∙ ap noNext i) (z .0, λ ms l. to-symbol ms l ∙ z .1 (its-pattern .pieces) ms)
+          let w = behind-it (λ ms. z .1 (its-pattern .pieces) ms) in
+          rw (j ∙ ap noNext i) (z .0, w .0, w .1)
 
       module _ {b v : ℕ} (k₂ : n ≡ Byte b v) where
         pub its-front : FrontAt s a p (Byte b v)
@@ -178,15 +194,17 @@ module _ (s : List ℕ) (a : ℕ) (h : a < length s) (e : getD s a 0 ≡ 39) (ol
         abbrev front : Front
         front = record { pieces = its-pattern .pieces; symbol = symbolOf b }
 
-        to-replacement : (ms : List Macro) → length ms < 96 → readFrom a (between false ms) (drop a s) ≡ run s a ms false (v + 1) (replacement none front [])
-        to-replacement ms l = to-symbol ms l ∙ its-front .2 (its-pattern .pieces) ms
+        to-replacement : (ms : List Macro) → run s a ms false p (awaitSymbol (its-pattern .pieces)) ≡ run s a ms false (v + 1) (replacement none front [])
+        to-replacement ms = its-front .2 (its-pattern .pieces) ms
 
         pub macro-whole : (o₂ : List ℕ) (w : Built) → PartsFrom s a (v + 1) o₁ o₂ b i t w → MacroFrom s a old o₂ w
-        unfolding header body
+        unfolding header body after ended
         macro-whole o₂ (Made q g) z =
             let first : length (patternItems (reverse (its-pattern .pieces))) ≡ g .pattern = sym (its-pattern .used) ∙ sym (z .first) in
+            let w = behind-it (λ ms. to-replacement ms ∙ z .answer front (its-pattern .tagged) ms) in
             record {
               itself = wholeOf front (z .actions) (z .calls);
+              exact = w .0;
               head = rw (first, ← z .second, ← z .third, tags-reverse (its-pattern .pieces), its-pattern .tagged, ← z .tagged, ← z .symbol) refl;
               size = rw (length-append, length-append, first, ← z .second, ← z .third) (omega arith);
               few = omega (arith, its-pattern .few, z .tagged);
@@ -194,6 +212,19 @@ module _ (s : List ℕ) (a : ℕ) (h : a < length s) (e : getD s a 0 ≡ 39) (ol
               wrote = wrote-behind (its-pattern .wrote) (omega (arith, its-pattern .used)) (z .wrote);
               further = omega (arith, z .further, its-front .0, its-pattern .reached .0);
               reached = z .reached;
-              answer = λ ms l. to-replacement ms l ∙ z .answer front (its-pattern .tagged) ms;
+              answer = w .1;
             }
-        macro-whole o₂ (NoMacro f q) z = (z .0, λ ms l. to-replacement ms l ∙ z .1 front (its-pattern .tagged) ms)
+        macro-whole o₂ (NoMacro f q) z =
+            let w = behind-it (λ ms. to-replacement ms ∙ z .1 front (its-pattern .tagged) ms) in
+            (z .0, w .0, w .1)
+
+-- ALL LENT BYTES
+
+module _ {s : List ℕ} {a : ℕ} {old out : List ℕ} {r : Built} (x : MacroFrom s a old out r) where
+  pub reads-made : {q : ℕ} {h : Head} → r ≡ Made q h → ReadsMacro s a old out (Made q h)
+  reads-made e = record { from = rw e at x; zeros = tt }
+
+  pub reads-none : {f : Fault} {q : ℕ} → r ≡ NoMacro f q → {fin : List ℕ} {k : ℕ} → Wrote out fin 0 (replicate k 0) → k ≡ length fin → length fin ≡ length old → ReadsMacro s a old fin (NoMacro f q)
+  reads-none {f} {q} e {fin} {k} w g h =
+      let d : MacroFrom s a old out (NoMacro f q) = rw e at x in
+      record { from = d; zeros = wrote-all w (length-replicate {A = ℕ} k 0 ∙ g) ∙ ap (λ (n : ℕ). replicate {A = ℕ} n 0) (g ∙ h) }

@@ -224,7 +224,7 @@ module _ (s : List ℕ) (a p : ℕ) (old out : List ℕ) (n : ℕ) (cmd : Bool) 
         let h : Asks mk cmd sg c m Text = rw e at x in
         ends-from s a p (u + 1) old out n 0 4 cmd k (λ pl. calling pl (begun mk)) (λ pl. callText pl i (t .move) []) w
         (omega (arith, t .further)) (omega (arith, t .further))
-        (λ pl z v ms. mark-named t k pl z v ms ∙ here-on (t .here) ms _ _ (turn-text pl (named mk i (t .move)) i (t .move) c (rw z (h i (t .move) (t .code)))))
+        (λ pl z v ms. mark-named t k pl z v ms ∙ here-on (t .here) ms _ _ (λ q o. refl) (turn-text pl (named mk i (t .move)) i (t .move) c (rw z (h i (t .move) (t .code)))))
         (y (t .move) (t .code) cmd k)
 
     pub mark-insert : {code : ℕ} → r ≡ Insert code → Wrote old out n (code ∷ i ∷ []) → NamedFrom s a p old out n mk cmd (Upto (u + 1) (n + 2))

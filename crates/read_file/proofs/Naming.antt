@@ -16,7 +16,7 @@ use Rattle.macros.specs.Read.{Part, Place, Phase, partByte, skips, turned, call
 use Rattle.macros.specs.Read.Part.{calling, callText}
 use Rattle.macros.specs.Read.Step.{on, stop}
 use Rattle.macros.specs.Read.Turn.{into, textOf, closed, wrong}
-use Rattle.macros.specs.Read.Read.{refusedAt}
+use Rattle.read_scan.specs.Scan.MacroRead.{refusedAt}
 use Rattle.form_table.specs.Form.{moveCode}
 use Rattle.read_scan.specs.Scan.{run, Here, Calls, faultOf, wrongCall}
 use Rattle.read_file.specs.Call.{Names, Letter, Naming, signCode, nextName}
@@ -65,7 +65,7 @@ module _ {s : List ℕ} {a p : ℕ} (pl : Place) (ph : Phase) (ms : List Macro) 
     here-wrong f g e h = here-stop x ms (calling pl ph) _ (wrong-call pl ph b e g) ∙ rw h refl
 
     pub here-into : (ph′ : Phase) → callByte (isCommand pl) ph b ≡ into ph′ → run s a ms false p (calling pl ph) ≡ run s a ms false (p + 1) (calling pl ph′)
-    here-into ph′ e = here-on x ms (calling pl ph) (calling pl ph′) (turn-on pl ph ph′ b e)
+    here-into ph′ e = here-on x ms (calling pl ph) (calling pl ph′) (λ q o. refl) (turn-on pl ph ph′ b e)
 
 -- CODES
 

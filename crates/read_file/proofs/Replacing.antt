@@ -19,7 +19,7 @@ use Rattle.macros.specs.Read.Part.{replacement, replacementEscape, tagNumber, c
 use Rattle.macros.specs.Read.Place.{inReplacement}
 use Rattle.macros.specs.Read.Phase.{begun}
 use Rattle.macros.specs.Read.Step.{on, stop}
-use Rattle.macros.specs.Read.Read.{refusedAt}
+use Rattle.read_scan.specs.Scan.MacroRead.{refusedAt}
 use Rattle.form_table.specs.Form.{replacementItems, actionItems}
 use Rattle.read_scan.specs.Scan.{run, At, Here, Passes, Stays, Reached, faultOf}
 use Rattle.read_number.specs.Number.{Counts, Digits, Kept, most}
@@ -158,7 +158,7 @@ module _ {s : List ℕ} {a p b : ℕ} (old out : List ℕ) (n k : ℕ) (x : Here
   action-literal g h i j m w = (
     omega arith,
     acts-one (text b) (rw (text-items b) w) (rw (text-items b) refl) (omega arith) (reached-behind (x .stands))
-        (λ f l u ms. here-on x ms (replacement none f l) (replacement none f (text b ∷ l)) (part-literal f l b e g h i j m)),
+        (λ f l u ms. here-on x ms (replacement none f l) (replacement none f (text b ∷ l)) (λ q o. refl) (part-literal f l b e g h i j m)),
   )
 
 -- AN ESCAPE
@@ -166,13 +166,13 @@ module _ {s : List ℕ} {a p b : ℕ} (old out : List ℕ) (n k : ℕ) (x : Here
 escape-on : {s : List ℕ} {a p d : ℕ} → At s a p d → (f : Front) (l : List Action) (ms : List Macro)
     → run s a ms false p (replacementEscape f l) ≡ run s a ms false (p + 1) (replacement none f (text (escaped d) ∷ l))
 unfolding partByte skips
-escape-on {s} {a} {p} {d} x f l ms = at-on x ms (replacementEscape f l) (replacement none f (text (escaped d) ∷ l)) refl refl
+escape-on {s} {a} {p} {d} x f l ms = at-on x ms (replacementEscape f l) (replacement none f (text (escaped d) ∷ l)) (λ q o. refl) refl refl
 
 module _ {s : List ℕ} {a p : ℕ} (old out : List ℕ) (n : ℕ) (x : Here s a p 92) {r : Next} (y : Stays s a (p + 1) r) where
   pub escape-none : {f : Fault} {q : ℕ} {w : Ended} → r ≡ NoByte f q → w ≡ nextEnd r → EscapeFrom s a p old out n w
   escape-none {f} {q} e i =
       let z : Stays s a (p + 1) (NoByte f q) = rw e at y in
-      rw (i ∙ ap nextEnd e) (λ k. (z .found, λ g l u ms. here-on x ms (replacement none g l) (replacementEscape g l) (part-escape g l) ∙ z .answer (replacementEscape g l) ms))
+      rw (i ∙ ap nextEnd e) (λ k. (z .found, λ g l u ms. here-on x ms (replacement none g l) (replacementEscape g l) (λ q o. refl) (part-escape g l) ∙ z .answer (replacementEscape g l) ms))
 
   module _ {d q : ℕ} (e : r ≡ Byte d q) where
     pub escape-byte : Stays s a (p + 1) (Byte d q)
@@ -184,14 +184,14 @@ module _ {s : List ℕ} {a p : ℕ} (old out : List ℕ) (n : ℕ) (x : Here s a
         let there = escape-byte .found .1 in (
           omega arith,
           acts-one (text (escaped d)) (rw (text-items (escaped d), ← i) w) (rw (text-items (escaped d)) refl) (omega arith) (rw same (reached-behind there))
-              (λ f l u ms. here-on x ms (replacement none f l) (replacementEscape f l) (part-escape f l) ∙ rw same (escape-on there f l ms)),
+              (λ f l u ms. here-on x ms (replacement none f l) (replacementEscape f l) (λ q o. refl) (part-escape f l) ∙ rw same (escape-on there f l ms)),
         )
 
 -- `&` AND `#`
 
 module _ {s : List ℕ} {a p : ℕ} (old out : List ℕ) (n k : ℕ) (c : Bool) (x : Here s a p (markByte (markOf c))) {r : Next} (y : Passes s a (p + 1) r) where
   lead : (f : Front) (l : List Action) (ms : List Macro) → run s a ms false p (replacement none f l) ≡ run s a ms false (p + 1) (replacement (some (markOf c)) f l)
-  lead f l ms = here-on x ms (replacement none f l) (replacement (some (markOf c)) f l) (part-mark (markOf c) f l)
+  lead f l ms = here-on x ms (replacement none f l) (replacement (some (markOf c)) f l) (λ q o. refl) (part-mark (markOf c) f l)
 
   pub marked-none : {f : Fault} {q : ℕ} {w : Ended} → r ≡ NoByte f q → w ≡ nextEnd r → ActionFrom s a p old out n k w
   marked-none {f} {q} e i =
@@ -206,7 +206,7 @@ module _ {s : List ℕ} {a p : ℕ} (old out : List ℕ) (n k : ℕ) (c : Bool) 
     there f l ms = lead f l ms ∙ marked-byte .answer (replacement (some (markOf c)) f l) ms (part-skips (some (markOf c)) f l)
 
     begins : b ≡ 40 → (f : Front) (l : List Action) (ms : List Macro) → run s a ms false p (replacement none f l) ≡ run s a ms false (q + 1) (calling (inReplacement f l) (begun (markOf c)))
-    begins h f l ms = there f l ms ∙ here-on (marked-byte .found .1) ms (replacement (some (markOf c)) f l) (calling (inReplacement f l) (begun (markOf c))) (mark-call (markOf c) f l b h)
+    begins h f l ms = there f l ms ∙ here-on (marked-byte .found .1) ms (replacement (some (markOf c)) f l) (calling (inReplacement f l) (begun (markOf c))) (λ q o. refl) (mark-call (markOf c) f l b h)
 
     pub marked-call : b ≡ 40 → (w : Ended) → CalledFrom s a (q + 1) old out n (markOf c) false k w → ActionFrom s a p old out n k w
     unfolding isCommand frontOf placed actionItems
@@ -223,7 +223,7 @@ module _ {s : List ℕ} {a p : ℕ} (old out : List ℕ) (n k : ℕ) (c : Bool) 
       acts-one (text (markByte (markOf c))) (rw (text-items (markByte (markOf c)), ← i) w) (rw (text-items (markByte (markOf c))) refl)
           (omega (arith, marked-byte .found .0)) (reached-at (marked-byte .found .1 .stands))
           (λ f l u ms. there f l ms
-          ∙ here-same (marked-byte .found .1) ms (replacement (some (markOf c)) f l) (replacement none f (text (markByte (markOf c)) ∷ l)) (mark-other (markOf c) f l b h)),
+          ∙ here-same (marked-byte .found .1) ms (replacement (some (markOf c)) f l) (replacement none f (text (markByte (markOf c)) ∷ l)) (λ x q o. refl) (mark-other (markOf c) f l b h)),
     )
 
 -- `{n}`
@@ -262,7 +262,7 @@ counted-at s a p y e = rw e at y
 
 module _ (s : List ℕ) (a p : ℕ) (old out : List ℕ) (n k : ℕ) (x : Here s a p 123) where
   opens : (f : Front) (l : List Action) (ms : List Macro) → run s a ms false p (replacement none f l) ≡ run s a ms false (p + 1) (tagNumber none f l)
-  opens f l ms = here-on x ms (replacement none f l) (tagNumber none f l) (part-tag f l)
+  opens f l ms = here-on x ms (replacement none f l) (tagNumber none f l) (λ q o. refl) (part-tag f l)
 
   pub brace-none : {r : Number} {f : Fault} {q : ℕ} {w : Ended} → Counts s a (p + 1) false r → r ≡ NoNumber f q → w ≡ numberEnd r → ActionFrom s a p old out n k w
   brace-none {r} {f} {q} y e i =
@@ -312,7 +312,7 @@ module _ (s : List ℕ) (a p : ℕ) (old out : List ℕ) (n k : ℕ) (x : Here s
                   omega (arith, y .0),
                   acts-one (tag w) (rw (tag-items w, same) c) (rw (tag-items w) refl) (omega (arith, y .0)) (reached-behind (at-brace .stands))
                       (λ f l u ms. g f l ms
-                      ∙ here-on at-brace ms (tagNumber (some w) f l) (replacement none f (tag w ∷ l)) (tag-yes w f l (rw u (within-yes k w (omega arith) (omega arith))))),
+                      ∙ here-on at-brace ms (tagNumber (some w) f l) (replacement none f (tag w ∷ l)) (λ q o. refl) (tag-yes w f l (rw u (within-yes k w (omega arith) (omega arith))))),
                 )
 
     -- the `}` of a number out of range is a wrong byte too
@@ -367,7 +367,7 @@ module _ (s : List ℕ) (a p : ℕ) (old out : List ℕ) (n k : ℕ) {v e : ℕ}
           further = omega (arith, acts-byte .found .0);
           reached = reached-behind (acts-byte .found .1 .stands);
           answer = λ f u ms. rw (append-nil (z .actions)) at (z .answer f [] u ms)
-              ∙ here-on (acts-byte .found .1) ms (replacement none f (z .actions)) (commands none f (z .actions) []) (part-quote f (z .actions) b h);
+              ∙ here-on (acts-byte .found .1) ms (replacement none f (z .actions)) (commands none f (z .actions) []) (λ q o. refl) (part-quote f (z .actions) b h);
         }
 
     pub acts-fault-2 : (mid : List ℕ) {w : Ended} {f : Fault} {z : ℕ} → ActionFrom s a q out mid e k w → w ≡ NoEnd f z → ReplacedFrom s a p old mid n k w

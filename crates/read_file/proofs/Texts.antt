@@ -17,7 +17,7 @@ use Rattle.macros.specs.Read.Part.{calling, callText, callTextEscape}
 use Rattle.macros.specs.Read.Phase.{texted}
 use Rattle.macros.specs.Read.Step.{on, stop}
 use Rattle.macros.specs.Read.Turn.{closed, wrong}
-use Rattle.macros.specs.Read.Read.{refusedAt}
+use Rattle.read_scan.specs.Scan.MacroRead.{refusedAt}
 use Rattle.form_table.specs.Form.{callItems, moveCode, evened}
 use Rattle.read_scan.specs.Scan.{run, At, Here, Passes, Stays, Calls, Reached, faultOf, wrongCall}
 use Rattle.form_items.specs.Items.{Wrote}
@@ -64,7 +64,7 @@ module _ (pl : Place) (i : ℕ) (v : Move) (t : List ℕ) (b : ℕ) (h : b ≡ 5
 byte-escaped : {s : List ℕ} {a p d : ℕ} → At s a p d → (pl : Place) (i : ℕ) (v : Move) (t : List ℕ) (ms : List Macro)
     → run s a ms false p (callTextEscape pl i v t) ≡ run s a ms false (p + 1) (callText pl i v (escaped d ∷ t))
 unfolding partByte skips
-byte-escaped {s} {a} {p} {d} x pl i v t ms = at-on x ms (callTextEscape pl i v t) (callText pl i v (escaped d ∷ t)) refl refl
+byte-escaped {s} {a} {p} {d} x pl i v t ms = at-on x ms (callTextEscape pl i v t) (callText pl i v (escaped d ∷ t)) (λ q o. refl) refl refl
 
 module _ {s : List ℕ} {a p b : ℕ} (x : Here s a p b) (h : b ≡ 58 → ⊥) (k : ℕ) where
   within-file : p ≤ length s
@@ -80,11 +80,11 @@ module _ {s : List ℕ} {a p b : ℕ} (x : Here s a p b) (h : b ≡ 58 → ⊥) 
     pub text-plain : k < 50 → (b ≡ 92 → ⊥) → Texting s a p k (Byte b p)
     text-plain j e =
         let y = x .stands in
-        (omega arith, y .there, y .counted, j, λ pl i v t l ms. here-on x ms (callText pl i v t) (callText pl i v (b ∷ t)) (byte-plain pl i v t b h g (omega (arith, l)) e))
+        (omega arith, y .there, y .counted, j, λ pl i v t l ms. here-on x ms (callText pl i v t) (callText pl i v (b ∷ t)) (λ q o. refl) (byte-plain pl i v t b h g (omega (arith, l)) e))
 
     module _ (j : k < 50) (e : b ≡ 92) {r : Next} (y : Stays s a (p + 1) r) where
       escape : (pl : Place) (i : ℕ) (v : Move) (t : List ℕ) → length t ≡ k → (ms : List Macro) → run s a ms false p (callText pl i v t) ≡ run s a ms false (p + 1) (callTextEscape pl i v t)
-      escape pl i v t l ms = here-on x ms (callText pl i v t) (callTextEscape pl i v t) (byte-escape pl i v t b h g (omega (arith, l)) e)
+      escape pl i v t l ms = here-on x ms (callText pl i v t) (callTextEscape pl i v t) (λ q o. refl) (byte-escape pl i v t b h g (omega (arith, l)) e)
 
       pub text-none : {f : Fault} {q : ℕ} → r ≡ NoByte f q → Texting s a p k r
       text-none {f} {q} i =
@@ -145,7 +145,7 @@ module _ {s : List ℕ} {a p : ℕ} {old out : List ℕ} {n at k : ℕ} (g : Rea
           short = omega (arith, g .size, g .short);
           room = omega (arith, g .size, g .room, reading-byte .found .0);
           reached = reached-behind (reading-byte .found .1 .stands);
-          answer = λ pl i v ms. there pl i v ms ∙ here-on (reading-byte .found .1) ms (callText pl i v (g .text)) (calling pl (texted i v (g .text))) (text-colon pl i v (g .text) b h);
+          answer = λ pl i v ms. there pl i v ms ∙ here-on (reading-byte .found .1) ms (callText pl i v (g .text)) (calling pl (texted i v (g .text))) (λ q o. refl) (text-colon pl i v (g .text) b h);
         }
 
     module _ {r′ : Next} (x : Texting s a q k r′) where

@@ -66,7 +66,7 @@ module _ (s : List ℕ) (a p v : ℕ) (g : Waits s a awaitSymbol p v) (l : p ≤
     there ps ms = g ps ms ∙ symbol-byte .answer (awaitSymbol ps) ms (symbol-skips ps)
 
     got : ((ps : List Piece) → partByte (awaitSymbol ps) b ≡ on (awaitQuote (record { pieces = ps; symbol = symbolOf b }))) → SymbolAt s a p (Byte b q)
-    got h = (omega (arith, symbol-byte .found .0), symbol-byte .found .1, λ ps ms. there ps ms ∙ here-on (symbol-byte .found .1) ms (awaitSymbol ps) _ (h ps))
+    got h = (omega (arith, symbol-byte .found .0), symbol-byte .found .1, λ ps ms. there ps ms ∙ here-on (symbol-byte .found .1) ms (awaitSymbol ps) _ (λ q o. refl) (h ps))
 
     lost : ((ps : List Piece) → partByte (awaitSymbol ps) b ≡ stop incomplete) → SymbolAt s a p (NoByte Incomplete q)
     lost h =
@@ -86,7 +86,7 @@ module _ (s : List ℕ) (a p v : ℕ) (g : Waits s a awaitSymbol p v) (l : p ≤
     symbol-59 h = lost (λ ps. symbol-end ps b h)
 
     pub symbol-on : (b ≡ 61 → ⊥) → (b ≡ 60 → ⊥) → (b ≡ 39 → ⊥) → (b ≡ 59 → ⊥) → Waits s a awaitSymbol p (q + 1)
-    symbol-on h i j k ps ms = there ps ms ∙ here-on (symbol-byte .found .1) ms (awaitSymbol ps) (awaitSymbol ps) (symbol-other ps b h i j k)
+    symbol-on h i j k ps ms = there ps ms ∙ here-on (symbol-byte .found .1) ms (awaitSymbol ps) (awaitSymbol ps) (λ q o. refl) (symbol-other ps b h i j k)
 
 -- THE QUOTE
 
@@ -121,7 +121,7 @@ module _ (s : List ℕ) (a p v : ℕ) (g : Waits s a awaitQuote p v) (l : p ≤ 
 
     pub quote-39 : b ≡ 39 → QuoteAt s a p (Byte b q)
     quote-39 h =
-        (omega (arith, quote-byte .found .0), quote-byte .found .1, λ f ms. quoted f ms ∙ here-on (quote-byte .found .1) ms (awaitQuote f) (replacement none f []) (quote-quote f b h))
+        (omega (arith, quote-byte .found .0), quote-byte .found .1, λ f ms. quoted f ms ∙ here-on (quote-byte .found .1) ms (awaitQuote f) (replacement none f []) (λ q o. refl) (quote-quote f b h))
 
     pub quote-59 : b ≡ 59 → QuoteAt s a p (NoByte Incomplete q)
     quote-59 h =
@@ -129,4 +129,4 @@ module _ (s : List ℕ) (a p v : ℕ) (g : Waits s a awaitQuote p v) (l : p ≤ 
         (omega (arith, t .there), λ f ms. quoted f ms ∙ here-stop (quote-byte .found .1) ms (awaitQuote f) incomplete (quote-end f b h))
 
     pub quote-on : (b ≡ 39 → ⊥) → (b ≡ 59 → ⊥) → Waits s a awaitQuote p (q + 1)
-    quote-on h i f ms = quoted f ms ∙ here-on (quote-byte .found .1) ms (awaitQuote f) (awaitQuote f) (quote-other f b h i)
+    quote-on h i f ms = quoted f ms ∙ here-on (quote-byte .found .1) ms (awaitQuote f) (awaitQuote f) (λ q o. refl) (quote-other f b h i)

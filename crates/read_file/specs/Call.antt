@@ -16,7 +16,7 @@ use Rattle.macros.specs.Read.{Part, Place, Phase, Turn, callByte, isCommand, fr
 use Rattle.macros.specs.Read.Part.{calling, callText}
 use Rattle.macros.specs.Read.Phase.{begun, named, tagged, tagNamed, texted}
 use Rattle.macros.specs.Read.Turn.{into, textOf, closed, wrong}
-use Rattle.macros.specs.Read.Read.{refusedAt}
+use Rattle.read_scan.specs.Scan.MacroRead.{refusedAt}
 use Rattle.form_bytes.specs.Fours.{four}
 use Rattle.form_table.specs.Form.{callItems, moveCode}
 use Rattle.read_scan.specs.Scan.{faultOf, run, Reached, Here}

@@ -10,12 +10,14 @@ use Rattle.macros.specs.Bounds.{mostMacros, mostTags}
 use Rattle.macros.specs.Refusals.FileRefusal.{incomplete}
 use Rattle.macros.specs.Macro.{Macro, Table, Action, Call, pick, tags}
 use Rattle.macros.specs.Read.{Read, Front, readFrom, firstZero, readOnto}
-use Rattle.macros.specs.Read.Part.{replacement as parting}
+use Rattle.macros.specs.Read.Held.{nothing}
+use Rattle.macros.specs.Read.Part.{pattern as patterning, replacement as parting}
 use Rattle.macros.specs.Read.Reader.{between}
 use Rattle.macros.specs.Read.Read.{refusedAt, table}
 use Rattle.macros.specs.Accepted.{Accepted}
 use Rattle.form_table.specs.Form.{slotBytes, bodyBytes, two, symbolCode, replacementItems, callsItems, header, body, slots, form}
-use Rattle.read_scan.specs.Scan.{faultOf, run}
+use Rattle.read_scan.specs.Scan.{MacroRead, faultOf, run}
+use Rattle.read_scan.specs.Scan.MacroRead.{refusedAt as noneAt, patternTo, macroTo}
 use Rattle.form_items.specs.Items.{Wrote}
 use Rattle.read_file.specs.Action.{symbolOf}
 use Rattle.read_scan.specs.declared.Fault.the-variants.{Incomplete}
@@ -45,9 +47,20 @@ headBytes h = h .symbol ∷ h .tags ∷ (two (h .pattern) ++ (two (h .replacemen
 abbrev pub usedBytes : Head → ℕ
 usedBytes h = h .pattern + h .replacement + h .commands
 
+-- reading one macro, without where its pattern ends
+unfoldable pub ended : MacroRead → MacroRead
+ended (noneAt c q) = noneAt c q
+ended (patternTo q ps o) = ended o
+ended (macroTo q m) = macroTo q m
+
+-- the macro whose first quote stands at a, and the place behind its `;`; or the refusal with its place
+unfoldable pub macroAt : List ℕ → ℕ → MacroRead
+macroAt s a = ended (run s a [] false (a + 1) (patterning nothing []))
+
 -- the macro whose first quote stands at a, read up to q, behind its `;`; its items are written from 0 on
 pub record Macroed (s : List ℕ) (a q : ℕ) (old out : List ℕ) (h : Head) : Type 0 where
   pub itself : Macro
+  pub exact : macroAt s a ≡ macroTo q itself
   pub head : header itself ≡ headBytes h
   pub size : length (body itself) ≡ usedBytes h
   pub few : h .tags ≤ mostTags
@@ -60,7 +73,19 @@ pub record Macroed (s : List ℕ) (a q : ℕ) (old out : List ℕ) (h : Head) : 
 -- what reading a macro says
 abbrev pub MacroFrom : List ℕ → ℕ → List ℕ → List ℕ → Built → Type 0
 MacroFrom s a old out (Made q h) = Macroed s a q old out h
-MacroFrom s a old out (NoMacro f q) = (q ≤ length s) × ((ms : List Macro) → length ms < mostMacros → readFrom a (between false ms) (drop a s) ≡ refusedAt (faultOf f) q)
+MacroFrom s a old out (NoMacro f q) =
+    (q ≤ length s) × (macroAt s a ≡ noneAt (faultOf f) q)
+    × ((ms : List Macro) → length ms < mostMacros → readFrom a (between false ms) (drop a s) ≡ refusedAt (faultOf f) q)
+
+-- that a refusal leaves zeros
+abbrev pub NoMacroZeros : List ℕ → List ℕ → Built → Type 0
+NoMacroZeros old out (Made q h) = Unit {0}
+NoMacroZeros old out (NoMacro f q) = out ≡ replicate (length old) 0
+
+-- what reading a macro says of the answer and of all lent bytes
+pub record ReadsMacro (s : List ℕ) (a : ℕ) (old out : List ℕ) (r : Built) : Type 0 where
+  pub from : MacroFrom s a old out r
+  pub zeros : NoMacroZeros old out r
 
 -- what was read
 abbrev pub wholeOf : Front → List Action → List Call → Macro
@@ -81,12 +106,12 @@ pub record Parted (s : List ℕ) (a p : ℕ) (old out : List ℕ) (b i k q : ℕ
   pub further : p < q
   pub reached : q ≤ length s
   pub counted : q ≤ a + 512
-  pub answer : (f : Front) → tags (f .pieces) ≡ k → (ms : List Macro) → run s a ms false p (parting none f []) ≡ readFrom q (between false (wholeOf f actions calls ∷ ms)) (drop q s)
+  pub answer : (f : Front) → tags (f .pieces) ≡ k → (ms : List Macro) → run s a ms false p (parting none f []) ≡ macroTo q (wholeOf f actions calls)
 
 -- what reading them says
 abbrev pub PartsFrom : List ℕ → ℕ → ℕ → List ℕ → List ℕ → ℕ → ℕ → ℕ → Built → Type 0
 PartsFrom s a p old out b i k (Made q h) = Parted s a p old out b i k q h
-PartsFrom s a p old out b i k (NoMacro f q) = (q ≤ length s) × ((g : Front) → tags (g .pieces) ≡ k → (ms : List Macro) → run s a ms false p (parting none g []) ≡ refusedAt (faultOf f) q)
+PartsFrom s a p old out b i k (NoMacro f q) = (q ≤ length s) × ((g : Front) → tags (g .pieces) ≡ k → (ms : List Macro) → run s a ms false p (parting none g []) ≡ noneAt (faultOf f) q)
 
 -- the slot of a head and the bytes that the items are in
 abbrev pub slotOf : Head → List ℕ → List ℕ

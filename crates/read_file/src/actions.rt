@@ -4,6 +4,8 @@ use crate::calls::call;
 use crate::calls::next_end;
 use crate::calls::number_end;
 use crate::calls::unclosed;
+use form_items::codes::TAG;
+use form_items::codes::TEXT;
 use form_items::put_item;
 use read_bytes::escaped_byte;
 use read_bytes::is_break;
@@ -131,7 +133,7 @@ fn marked(
     if b == b'(' {
         return call(s, out, a, q + 1, n, counter, false, tags);
     }
-    put_item(out, n, 40, mark_byte(counter));
+    put_item(out, n, TEXT, mark_byte(counter));
     Ended::Upto(q, n + 2)
 }
 
@@ -160,7 +162,7 @@ fn tag_part(s: &[u8], out: &mut [u8], a: usize, at: usize, n: usize, tags: usize
     if unclosed(b, b'}', some, v, tags as u64) {
         return Ended::Refused(tag_fault(b), q);
     }
-    put_item(out, n, 41, v as u8);
+    put_item(out, n, TAG, v as u8);
     Ended::Upto(q + 1, n + 2)
 }
 
@@ -173,7 +175,7 @@ fn escape_part(s: &[u8], out: &mut [u8], a: usize, at: usize, n: usize) -> Ended
     let Next::Byte(e, z) = raw else {
         return next_end(raw);
     };
-    put_item(out, n, 40, escaped_byte(e));
+    put_item(out, n, TEXT, escaped_byte(e));
     Ended::Upto(z + 1, n + 2)
 }
 
@@ -194,7 +196,7 @@ fn action(s: &[u8], out: &mut [u8], a: usize, at: usize, b: u8, n: usize, tags: 
     if is_break(b) {
         return Ended::Refused(Fault::Incomplete, at);
     }
-    put_item(out, n, 40, b);
+    put_item(out, n, TEXT, b);
     Ended::Upto(at + 1, n + 2)
 }
 

@@ -1,8 +1,24 @@
 // Calls of a replacement and of commands, from behind their `&(` or `#(` to behind their `)`.
 use crate::Ended;
+use crate::MOST_COUNTER;
+use crate::MOST_ENTRIES;
+use crate::MOST_ENTRY_BYTES;
 use crate::Name;
 use crate::Tail;
 use form_bytes::put_number;
+use form_items::codes::BEHIND;
+use form_items::codes::INSERT_ENTRY;
+use form_items::codes::INSERT_VALUE;
+use form_items::codes::MINUS;
+use form_items::codes::PLUS;
+use form_items::codes::SET_INCREMENT;
+use form_items::codes::SET_POINTER;
+use form_items::codes::SET_VALUE;
+use form_items::codes::STILL;
+use form_items::codes::STORE_TAG;
+use form_items::codes::STORE_TEXT;
+use form_items::codes::STORED_SIZE;
+use form_items::codes::STORED_TAG;
 use form_items::put_item;
 use read_bytes::escaped_byte;
 use read_bytes::is_break;
@@ -84,9 +100,9 @@ fn sign_code(b: u8) -> u8
     ensures { λ r. ⌜ r ≡ signCode b ⌝ }
 {
     if b == b'+' {
-        return 1;
+        return PLUS;
     }
-    2
+    MINUS
 }
 
 // A letter behind the sign b.
@@ -124,13 +140,13 @@ fn name(s: &[u8], a: usize, at: usize, b: u8, signs: bool) -> Name
         return next_name(next);
     };
     if !takes_sign(c, signs) {
-        return Name::Got(b, 0, c, q);
+        return Name::Got(b, STILL, c, q);
     }
     let last = call_byte(s, a, q + 1);
     let Next::Byte(d, z) = last else {
         return next_name(last);
     };
-    Name::Got(b, 2 + sign_code(c), d, z)
+    Name::Got(b, BEHIND + sign_code(c), d, z)
 }
 
 // NUMBERS
@@ -216,8 +232,8 @@ fn tag_call(
     if unclosed(d, b')', true, v, tags as u64) {
         return Ended::Refused(wrong_byte(d), z);
     }
-    put_item(out, n, 64 + m, i);
-    put_item(out, n + 2, 42, v as u8);
+    put_item(out, n, STORE_TAG + m, i);
+    put_item(out, n + 2, STORED_TAG, v as u8);
     Ended::Upto(z + 1, n + 4)
 }
 
@@ -231,7 +247,7 @@ fn text_byte(s: &[u8], a: usize, at: usize, b: u8, k: usize) -> Next
     if is_break(b) {
         return Next::Refused(Fault::Incomplete, at);
     }
-    if 50 <= k {
+    if MOST_ENTRY_BYTES <= k {
         return Next::Refused(Fault::BadCall, at);
     }
     if b != b'\\' {
@@ -287,8 +303,8 @@ fn put_store(out: &mut [u8], n: usize, e: usize, i: u8, m: u8) -> usize
     ensures { λ r. ⌜ PutStore (now (out .entry)) (now (out .exit)) n e i m r ⌝ }
 {
     let end = pad(out, n + 4, e);
-    put_item(out, n + 2, 43, (e - (n + 4)) as u8);
-    put_item(out, n, 72 + m, i);
+    put_item(out, n + 2, STORED_SIZE, (e - (n + 4)) as u8);
+    put_item(out, n, STORE_TEXT + m, i);
     end
 }
 
@@ -326,7 +342,7 @@ fn stack_tail(c: u8, m: u8, cmd: bool) -> Tail
         if 0 < m {
             return Tail::Wrong;
         }
-        return Tail::Set(80, 20);
+        return Tail::Set(SET_POINTER, MOST_ENTRIES);
     }
     if c != b')' {
         return Tail::Wrong;
@@ -334,10 +350,10 @@ fn stack_tail(c: u8, m: u8, cmd: bool) -> Tail
     if cmd {
         return Tail::Wrong;
     }
-    Tail::Insert(48 + m)
+    Tail::Insert(INSERT_ENTRY + m)
 }
 
-// The same in `#(..)`.
+// What the byte c behind a letter with the move m asks for in `#(..)`.
 fn counter_tail(c: u8, m: u8, cmd: bool) -> Tail
     requires { ⌜ m ≤ 4 ⌝ }
     ensures { λ r. ⌜ Asks (markOf true) cmd (signsIn true cmd) c m r ⌝ }
@@ -346,13 +362,13 @@ fn counter_tail(c: u8, m: u8, cmd: bool) -> Tail
         if 0 < m {
             return Tail::Wrong;
         }
-        return Tail::Set(96, 999999999);
+        return Tail::Set(SET_INCREMENT, MOST_COUNTER);
     }
     if c == b'=' {
         if 0 < m {
             return Tail::Wrong;
         }
-        return Tail::Set(88, 999999999);
+        return Tail::Set(SET_VALUE, MOST_COUNTER);
     }
     if c != b')' {
         return Tail::Wrong;
@@ -360,7 +376,7 @@ fn counter_tail(c: u8, m: u8, cmd: bool) -> Tail
     if cmd {
         return Tail::Wrong;
     }
-    Tail::Insert(56 + m)
+    Tail::Insert(INSERT_VALUE + m)
 }
 
 fn tail(c: u8, m: u8, counter: bool, cmd: bool) -> Tail

@@ -25,7 +25,7 @@ ghost use Rattle.macros.specs.Bounds.{mostMacros, mostTags};
 ghost use Rattle.form_table.specs.Form.{slotBytes, tableBytes, symbolCode};
 ghost use Rattle.read_scan.specs.Scan.{Reached};
 ghost use Rattle.read_file.specs.Action.{symbolOf};
-ghost use Rattle.read_file.specs.File.{MacroFrom, PartsFrom, noPattern, noNext, noEnd, opens, turned, Seeks, ZeroAt, AddsFrom, noQuote, noMacro, macrosBy, tableOf, Lent, Onto};
+ghost use Rattle.read_file.specs.File.{MacroFrom, ReadsMacro, PartsFrom, noPattern, noNext, noEnd, opens, turned, Seeks, ZeroAt, AddsFrom, noQuote, noMacro, macrosBy, tableOf, Lent, Onto};
 
 fn symbol_code(b: u8) -> u8
     ensures { λ r. ⌜ r ≡ symbolCode (symbolOf b) ⌝ }
@@ -76,6 +76,20 @@ fn one_macro(s: &[u8], out: &mut [u8], a: usize) -> Built
         return no_next(quote);
     };
     parts(s, out, a, z + 1, b, i, tags)
+}
+
+// Reads the macro whose first quote stands at a; a refusal leaves zeros in the lent bytes.
+pub fn read_macro(s: &[u8], out: &mut [u8], a: usize) -> Built
+    requires { ⌜ (a < length (now s)) × (getD (now s) a 0 ≡ 39) × (slotBytes ≤ length (now out)) ⌝ }
+    ensures { λ r. ⌜ ReadsMacro (now (s .entry)) a (now (out .entry)) (now (out .exit)) r ⌝ }
+{
+    let built = one_macro(s, out, a);
+    let Built::Made(q, head) = built else {
+        let size = out.len();
+        clear(out, 0, size);
+        return built;
+    };
+    Built::Made(q, head)
 }
 
 // BETWEEN MACROS: "Before a pattern only `'` and `/` count."
@@ -151,7 +165,7 @@ fn add_macros(file: &[u8], table: &mut [u8], scratch: &mut [u8], count: usize) -
         if MOST_MACROS <= n {
             return Added::Refused(Fault::TooManyMacros, q, n);
         }
-        let built = one_macro(file, scratch, q);
+        let built = read_macro(file, scratch, q);
         let Built::Made(z, head) = built else {
             return no_macro(built, n);
         };

@@ -14,6 +14,13 @@ pub(crate) const MOST_MACROS: usize = 96;
 
 pub(crate) const SLOT_BYTES: usize = 1024;
 
+// The entries of a stack, the bytes of an entry, and the largest counter.
+pub(crate) const MOST_ENTRIES: u64 = 20;
+
+pub(crate) const MOST_ENTRY_BYTES: usize = 50;
+
+pub(crate) const MOST_COUNTER: u64 = 999_999_999;
+
 // CALLS, REPLACEMENT AND COMMANDS
 
 // A letter, its move's code, and the byte behind them with its place; or a refusal with its place.
@@ -39,16 +46,16 @@ pub(crate) enum Ended {
 // A MACRO AND A FILE
 
 // What a slot's first bytes say: the symbol's code, the tags, and the bytes of the three parts.
-pub(crate) struct Head {
-    pub(crate) symbol: u8,
-    pub(crate) tags: usize,
-    pub(crate) pattern: usize,
-    pub(crate) replacement: usize,
-    pub(crate) commands: usize,
+pub struct Head {
+    pub symbol: u8,
+    pub tags: usize,
+    pub pattern: usize,
+    pub replacement: usize,
+    pub commands: usize,
 }
 
 // The place behind a macro's `;`, and its head; or a refusal with its place.
-pub(crate) enum Built {
+pub enum Built {
     Made(usize, Head),
     Refused(Fault, usize),
 }

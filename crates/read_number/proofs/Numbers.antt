@@ -16,7 +16,7 @@ use Rattle.macros.specs.Read.Part.{tagNumber, calling}
 use Rattle.macros.specs.Read.Phase.{equals, increment, begun, tagged}
 use Rattle.read_scan.specs.Bytes.{Placed, with?, seen, nextByte, spaceless}
 use Rattle.read_scan.specs.Bytes.Placed.{byteAt}
-use Rattle.read_scan.specs.Scan.{run, Passes}
+use Rattle.read_scan.specs.Scan.{MacroRead, noted, run, Passes}
 use Rattle.read_number.specs.Number.{Eats, most, numberFault, counting, leading, behind, valueFrom, any?, numbered, numberFrom, Kept, Digits, Behind, Counts}
 use Rattle.read_scan.specs.declared.Fault.{Fault}
 use Rattle.read_scan.specs.declared.Next.{Next}
@@ -68,15 +68,15 @@ digit-high {b} e = leb-true _ _ (and-right (leb 48 b) _ e)
 -- `{n}` and the calls take digits
 pub eats-tag : (f : Front) (xs : List Action) → Eats false (λ o. tagNumber o f xs)
 unfolding partByte skips tagByte pick
-eats-tag f xs = record { skipping = λ o. refl; digits = λ o b e. simp e; spaces = λ o e. absurd (true≢false (sym e)) }
+eats-tag f xs = record { skipping = λ o. refl; digits = λ o b e. simp e; spaces = λ o e. absurd (true≢false (sym e)); within = λ o u q r. refl }
 
 pub eats-equals : (pl : Place) (m : Mark) (i : ℕ) → Eats true (λ o. calling pl (equals m i o))
 unfolding partByte skips pick turned callByte otherwise digit within
-eats-equals pl m i = record { skipping = λ o. refl; digits = λ o b e. simp e; spaces = λ o e. refl }
+eats-equals pl m i = record { skipping = λ o. refl; digits = λ o b e. simp e; spaces = λ o e. refl; within = λ o u q r. refl }
 
 pub eats-increment : (pl : Place) (i : ℕ) → Eats true (λ o. calling pl (increment i o))
 unfolding partByte skips pick turned callByte otherwise digit within
-eats-increment pl i = record { skipping = λ o. refl; digits = λ o b e. simp e; spaces = λ o e. refl }
+eats-increment pl i = record { skipping = λ o. refl; digits = λ o b e. simp e; spaces = λ o e. refl; within = λ o u q r. refl }
 
 -- behind `&(`, the number of a tag
 abbrev pub tagState : Place → Option ℕ → Part
@@ -85,7 +85,7 @@ tagState pl (some n) = calling pl (tagged n)
 
 pub eats-tagged : (pl : Place) → Eats true (tagState pl)
 unfolding partByte skips pick turned callByte otherwise digit within isSign lower andDigit
-eats-tagged pl = record { skipping = skipped; digits = took; spaces = spaced }
+eats-tagged pl = record { skipping = skipped; digits = took; spaces = spaced; within = inner }
   where
     skipped : (o : Option ℕ) → skips (tagState pl o) ≡ true
     skipped none = refl
@@ -98,6 +98,10 @@ eats-tagged pl = record { skipping = skipped; digits = took; spaces = spaced }
     spaced : (o : Option ℕ) → true ≡ true → partByte (tagState pl o) 32 ≡ on (tagState pl o)
     spaced none e = refl
     spaced (some n) e = refl
+
+    inner : (o u : Option ℕ) (q : ℕ) (r : MacroRead) → noted (tagState pl o) (tagState pl u) q r ≡ r
+    inner none u q r = refl
+    inner (some n) u q r = refl
 
 -- BYTES OF A NUMBER
 
@@ -188,7 +192,7 @@ module _ {s : List ℕ} {a p : ℕ} {sp : Bool} {v n : ℕ} {m : Bool} (g : Sofa
           machine = record {
             value = g .machine .value;
             kept = g .machine .kept;
-            answer = λ F x ms. there F x ms ∙ here-on (byte-found .found .1) ms _ _ (rw f (x .spaces (g .machine .value) h));
+            answer = λ F x ms. there F x ms ∙ here-on (byte-found .found .1) ms _ _ (x .within _ _) (rw f (x .spaces (g .machine .value) h));
           };
           value = g .value;
           kept = g .kept;
@@ -205,7 +209,7 @@ module _ {s : List ℕ} {a p : ℕ} {sp : Bool} {v n : ℕ} {m : Bool} (g : Sofa
           machine = record {
             value = some (andDigit (g .machine .value) b);
             kept = rw h (kept-next (g .machine .value) n b m (g .machine .kept));
-            answer = λ F x ms. there F x ms ∙ here-on (byte-found .found .1) ms _ _ (x .digits (g .machine .value) b f);
+            answer = λ F x ms. there F x ms ∙ here-on (byte-found .found .1) ms _ _ (x .within _ _) (x .digits (g .machine .value) b f);
           };
           value = g .value * 10 + (b - 48);
           kept = h ∙ rw (g .kept) (most-next (g .value) (b - 48));

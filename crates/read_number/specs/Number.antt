@@ -10,10 +10,10 @@ use Rattle.macros.specs.Bounds.{mostCounter}
 use Rattle.macros.specs.Macro.{Macro, pick, digit}
 use Rattle.macros.specs.Read.{Part, partByte, skips, andDigit}
 use Rattle.macros.specs.Read.Step.{on}
-use Rattle.macros.specs.Read.Read.{refusedAt}
 use Rattle.read_scan.specs.Bytes.{Placed, seen, spaceless, unended}
 use Rattle.read_scan.specs.Bytes.Placed.{byteAt}
-use Rattle.read_scan.specs.Scan.{faultOf, run, Here}
+use Rattle.read_scan.specs.Scan.{MacroRead, faultOf, noted, run, Here}
+use Rattle.read_scan.specs.Scan.MacroRead.{refusedAt}
 use Rattle.read_scan.specs.declared.Fault.the-variants.{Incomplete}
 use Rattle.read_scan.specs.declared.Next.{Next}
 use Rattle.read_scan.specs.declared.Next.the-variants.{Byte, Refused as NoByte}
@@ -25,6 +25,7 @@ pub record Eats (sp : Bool) (F : Option ℕ → Part) : Type 0 where
   pub skipping : (o : Option ℕ) → skips (F o) ≡ true
   pub digits : (o : Option ℕ) (b : ℕ) → digit b ≡ true → partByte (F o) b ≡ on (F (some (andDigit o b)))
   pub spaces : (o : Option ℕ) → sp ≡ true → partByte (F o) 32 ≡ on (F o)
+  pub within : (o u : Option ℕ) (q : ℕ) (r : MacroRead) → noted (F o) (F u) q r ≡ r
 
 -- what is kept of a number: no number is asked for above the largest counter
 unfoldable pub most : ℕ → ℕ

@@ -18,7 +18,7 @@ use Rattle.macros.specs.Read.Held.{unit}
 use Rattle.macros.specs.Read.Last.{free, member, dash}
 use Rattle.macros.specs.Read.Part.{pattern, members, membersEscape}
 use Rattle.macros.specs.Read.Step.{on, stop}
-use Rattle.macros.specs.Read.Read.{refusedAt}
+use Rattle.read_scan.specs.Scan.MacroRead.{refusedAt}
 use Rattle.form_table.specs.Form.{memberItems, membersItems}
 use Rattle.read_scan.specs.Scan.{run, At, Reached, Stays}
 use Rattle.form_items.specs.Items.{Wrote, memberBytes}
@@ -47,7 +47,7 @@ no-bracket f e = true≢false (sym f ∙ ap breaks e)
 module _ {s : List ℕ} {a p b : ℕ} (x : At s a p b) (ps : List Piece) (neg : Bool) (l : Last) (xs : List Member) (ms : List Macro) where
   pub member-on : (st : Part) → membersByte ps neg l xs b ≡ on st → run s a ms false p (members ps neg l xs) ≡ run s a ms false (p + 1) st
   unfolding partByte skips
-  member-on st e = at-on x ms (members ps neg l xs) st refl e
+  member-on st e = at-on x ms (members ps neg l xs) st (λ q o. refl) refl e
 
   pub member-stop : (k : FileRefusal) → membersByte ps neg l xs b ≡ stop k → run s a ms false p (members ps neg l xs) ≡ refusedAt k p
   unfolding partByte skips
@@ -55,7 +55,7 @@ module _ {s : List ℕ} {a p b : ℕ} (x : At s a p b) (ps : List Piece) (neg : 
 
   escaped-on : (st : Part) → newMember ps neg l xs (escaped b) ≡ on st → run s a ms false p (membersEscape ps neg l xs) ≡ run s a ms false (p + 1) st
   unfolding partByte skips
-  escaped-on st e = at-on x ms (membersEscape ps neg l xs) st refl e
+  escaped-on st e = at-on x ms (membersEscape ps neg l xs) st (λ q o. refl) refl e
 
   escaped-stop : (k : FileRefusal) → newMember ps neg l xs (escaped b) ≡ stop k → run s a ms false p (membersEscape ps neg l xs) ≡ refusedAt k p
   unfolding partByte skips

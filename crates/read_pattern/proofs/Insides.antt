@@ -16,11 +16,11 @@ use Rattle.macros.specs.Read.Held.{nothing}
 use Rattle.macros.specs.Read.Part.{pattern}
 use Rattle.macros.specs.Read.Reader.{between, inside}
 use Rattle.form_table.specs.Form.{pieceItems, patternItems}
-use Rattle.read_scan.specs.Scan.{run, Here, Passes}
+use Rattle.read_scan.specs.Scan.{after, run, Here, Passes}
 use Rattle.form_items.specs.Items.{Wrote, itemsOf}
 use Rattle.read_pattern.specs.Pattern.{IsElement, Pieced, Pieces, Fits, Grown, Ends, Reads, Begins, Starts, behindLeft, behindRight, behindElement, insideFault, pieceFault, innerFault, wholeFault}
 use Rattle.read_scan.specs.declared.Fault.{Fault}
-use Rattle.read_scan.specs.declared.Fault.the-variants.{BadBrace, NoElement}
+use Rattle.read_scan.specs.declared.Fault.the-variants.{BadBrace, NoElement, MacroTooLong}
 use Rattle.read_scan.specs.declared.Next.{Next}
 use Rattle.read_scan.specs.declared.Next.the-variants.{Byte, Refused as NoByte}
 use Rattle.read_pattern.specs.declared.Put.{Put}
@@ -30,9 +30,9 @@ use Rattle.read_pattern.specs.declared.Inside.{Inside}
 use Rattle.read_pattern.specs.declared.Inside.the-variants.{Closed, Quote, Refused as NoInside}
 use Rattle.read_pattern.specs.declared.Whole.{Whole}
 use Rattle.read_pattern.specs.declared.Whole.the-variants.{Pattern, Refused as NoWhole}
-use Rattle.read_scan.proofs.Laws.{read-go, run-now, reached-behind}
+use Rattle.read_scan.proofs.Laws.{read-go, read-after, run-now, reached-behind}
 use Rattle.form_items.proofs.Writing.{wrote-none, wrote-more, wrote-all}
-use Rattle.read_pattern.proofs.Signs.{at-left, at-full, at-right, at-unmatched, at-unclosed, at-empty, at-quote}
+use Rattle.read_pattern.proofs.Signs.{at-left, at-full, at-right, at-unmatched, at-unclosed, at-empty, at-quote, at-late-quote}
 
 -- ITEMS
 
@@ -244,12 +244,13 @@ module _ {s : List ℕ} {a p v : ℕ} {f g : Far} {x y : List ℕ} (k : Grown s 
 
 -- the first quote of a macro
 pub macro-begins : (s : List ℕ) (a : ℕ) (ms : List Macro) → a < length s → getD s a 0 ≡ 39 → length ms < 96
-    → readFrom a (between false ms) (drop a s) ≡ run s a ms false (a + 1) (pattern nothing [])
+    → readFrom a (between false ms) (drop a s) ≡ after s ms (run s a ms false (a + 1) (pattern nothing []))
 unfolding step pick
 macro-begins s a ms h e l =
     let n : a + 1 - a ≡ 1 = omega arith in
     rw (drop-cons s a 0 h) (read-go a (between false ms) (inside false 1 (pattern nothing []) ms) (getD s a 0) (drop (suc a) s) (simp (e, lt-ltb _ _ l))
-    ∙ sym (run-now s a ms false (a + 1) (pattern nothing []) (omega arith) ∙ rw (n, add-one) refl))
+    ∙ (read-after s ms (suc a) false 1 (pattern nothing []) (drop (suc a) s) refl
+    ∙ ap (after s ms) (sym (run-now s a ms false (a + 1) (pattern nothing []) (omega arith) ∙ rw (n, add-one) refl))))
 
 abbrev pub noneYet : Far
 noneYet = record { tags = 0; some = false; used = 0 }
@@ -281,9 +282,17 @@ module _ {s : List ℕ} {a : ℕ} {x y : List ℕ} {r : Inside} (z : Reads s a (
           λ ms. d .grown .answer [] blank ms ∙ at-empty (d .here) ms _ refl (d .grown .level []) (d .grown .fits [] blank .1 ∙ f),
         )
 
-    pub whole-pattern : g .some ≡ true → Begins s a x y (Pattern (q + 1) (g .tags) (g .used))
+    pub whole-late : g .some ≡ true → 512 ≤ q - a → Begins s a x y (NoWhole MacroTooLong q)
     unfolding depth
-    whole-pattern f =
+    whole-late f l =
+        let d = at-its-quote in (
+          omega (arith, d .here .stands .there),
+          λ ms. d .grown .answer [] blank ms ∙ at-late-quote (d .here) ms _ l refl (d .grown .level []) (d .grown .fits [] blank .1 ∙ f),
+        )
+
+    pub whole-pattern : g .some ≡ true → q - a < 512 → Begins s a x y (Pattern (q + 1) (g .tags) (g .used))
+    unfolding depth
+    whole-pattern f l =
         let d = at-its-quote in
         let e = append-nil (d .grown .pieces) in
         record {
@@ -291,7 +300,7 @@ module _ {s : List ℕ} {a : ℕ} {x y : List ℕ} {r : Inside} (z : Reads s a (
           reached = reached-behind (d .here .stands);
           tagged = d .grown .fits [] blank .0;
           few = d .tagged;
-          answer = λ ms. d .grown .answer [] blank ms ∙ at-quote (d .here) ms _ refl (d .grown .level []) (d .grown .fits [] blank .1 ∙ f);
+          answer = λ ms. d .grown .answer [] blank ms ∙ at-quote (d .here) ms _ l refl (d .grown .level []) (d .grown .fits [] blank .1 ∙ f);
           wrote = rw (e, form-items (d .grown .pieces)) (d .grown .wrote);
           used = rw (e, form-items (d .grown .pieces)) (omega (arith, d .grown .used));
           room = omega (arith, d .room, d .further);

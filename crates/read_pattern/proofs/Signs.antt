@@ -7,7 +7,7 @@ use Prim.Native.Nat.{ℕ, _+_, _-_, _≤_, _<_}
 use native.Mathlib.Omega.{arith}
 use lib.Dec.{eqb, ltb}
 use borrow.Author.Tests.{ne-eqb, le-ltb, lt-ltb}
-use Rattle.macros.specs.Refusals.FileRefusal.{incomplete, noUnit, badBrace, noElement}
+use Rattle.macros.specs.Refusals.FileRefusal.{incomplete, noUnit, badBrace, noElement, macroTooLong}
 use Rattle.macros.specs.Macro.{Mark, PatternUnit, Piece, Macro, pick, among, within, lower, markByte, tags, depth, elements}
 use Rattle.macros.specs.Macro.Closure.{once, oneOrMore, zeroOrMore}
 use Rattle.macros.specs.Macro.PatternUnit.{literal, kind, callOf}
@@ -17,10 +17,10 @@ use Rattle.macros.specs.Read.Held.{nothing, unit, starred, query, marked}
 use Rattle.macros.specs.Read.Last.{free}
 use Rattle.macros.specs.Read.Part.{pattern, patternEscape, opened, members, patternCall, patternCalled, awaitSymbol}
 use Rattle.macros.specs.Read.Step.{on}
-use Rattle.macros.specs.Read.Read.{refusedAt}
+use Rattle.read_scan.specs.Scan.MacroRead.{refusedAt, patternTo}
 use Rattle.read_scan.specs.Scan.{run, At, Here, wrongCall}
 use Rattle.read_pattern.specs.Pattern.{markAt}
-use Rattle.read_scan.proofs.Laws.{at-on, at-same, here-on, here-stop, here-same, otherwise-wrong}
+use Rattle.read_scan.proofs.Laws.{here-noted, here-late, at-on, at-same, here-on, here-stop, here-same, otherwise-wrong}
 
 or-more : (x y z r : Bool) → (x || (y || (z || false))) ≡ true → (x || (y || (z || r))) ≡ true
 or-more true y z r e = refl
@@ -37,7 +37,7 @@ module _ {s : List ℕ} {a p b : ℕ} (x : Here s a p b) (ms : List Macro) (ps :
 
   pub at-left : b ≡ 123 → tags ps < 99 → run s a ms false p (pattern nothing ps) ≡ run s a ms false (p + 1) (pattern nothing (left ∷ ps))
   unfolding partByte patternByte fresh among signs sign breaks pick
-  at-left e h = here-on x ms _ _ (simp (e, lt-ltb _ _ h))
+  at-left e h = here-on x ms _ _ (λ q o. refl) (simp (e, lt-ltb _ _ h))
 
   pub at-full : b ≡ 123 → 99 ≤ tags ps → run s a ms false p (pattern nothing ps) ≡ refusedAt badBrace p
   unfolding partByte patternByte fresh among signs sign breaks pick
@@ -45,7 +45,7 @@ module _ {s : List ℕ} {a p b : ℕ} (x : Here s a p b) (ms : List Macro) (ps :
 
   pub at-right : b ≡ 125 → 0 < depth ps → run s a ms false p (pattern nothing ps) ≡ run s a ms false (p + 1) (pattern nothing (right ∷ ps))
   unfolding partByte patternByte fresh among signs sign breaks pick
-  at-right e h = here-on x ms _ _ (simp (e, lt-ltb _ _ h))
+  at-right e h = here-on x ms _ _ (λ q o. refl) (simp (e, lt-ltb _ _ h))
 
   pub at-unmatched : b ≡ 125 → depth ps ≡ 0 → run s a ms false p (pattern nothing ps) ≡ refusedAt badBrace p
   unfolding partByte patternByte fresh among signs sign breaks pick
@@ -59,17 +59,21 @@ module _ {s : List ℕ} {a p b : ℕ} (x : Here s a p b) (ms : List Macro) (ps :
   unfolding partByte patternByte fresh among signs sign breaks patternEnd pick
   at-empty e h f = here-stop x ms _ noElement (simp (e, h, f))
 
-  pub at-quote : b ≡ 39 → depth ps ≡ 0 → ltb 0 (elements ps) ≡ true → run s a ms false p (pattern nothing ps) ≡ run s a ms false (p + 1) (awaitSymbol ps)
+  pub at-quote : p - a < 512 → b ≡ 39 → depth ps ≡ 0 → ltb 0 (elements ps) ≡ true → run s a ms false p (pattern nothing ps) ≡ patternTo (p + 1) ps (run s a ms false (p + 1) (awaitSymbol ps))
   unfolding partByte patternByte fresh among signs sign breaks patternEnd pick
-  at-quote e h f = here-on x ms _ _ (simp (e, h, f))
+  at-quote l e h f = here-noted x ms (pattern nothing ps) (awaitSymbol ps) l (simp (e, h, f))
+
+  pub at-late-quote : 512 ≤ p - a → b ≡ 39 → depth ps ≡ 0 → ltb 0 (elements ps) ≡ true → run s a ms false p (pattern nothing ps) ≡ refusedAt macroTooLong p
+  unfolding partByte patternByte fresh among signs sign breaks patternEnd pick
+  at-late-quote l e h f = here-late x ms (pattern nothing ps) (awaitSymbol ps) l (simp (e, h, f))
 
   pub at-start : b ≡ 94 → run s a ms false p (pattern nothing ps) ≡ run s a ms false (p + 1) (pattern nothing (start ∷ ps))
   unfolding partByte patternByte fresh among signs sign breaks pick
-  at-start e = here-on x ms _ _ (simp e)
+  at-start e = here-on x ms _ _ (λ q o. refl) (simp e)
 
   pub at-end : b ≡ 36 → run s a ms false p (pattern nothing ps) ≡ run s a ms false (p + 1) (pattern nothing (end ∷ ps))
   unfolding partByte patternByte fresh among signs sign breaks pick
-  at-end e = here-on x ms _ _ (simp e)
+  at-end e = here-on x ms _ _ (λ q o. refl) (simp e)
 
   pub at-star : b ≡ 42 → run s a ms false p (pattern nothing ps) ≡ refusedAt noUnit p
   unfolding partByte patternByte fresh among signs sign breaks pick
@@ -81,52 +85,52 @@ module _ {s : List ℕ} {a p b : ℕ} (x : Here s a p b) (ms : List Macro) (ps :
 
   pub at-escape : b ≡ 92 → run s a ms false p (pattern nothing ps) ≡ run s a ms false (p + 1) (patternEscape ps)
   unfolding partByte patternByte fresh among signs sign breaks pick
-  at-escape e = here-on x ms _ _ (simp e)
+  at-escape e = here-on x ms _ _ (λ q o. refl) (simp e)
 
   pub at-bracket : b ≡ 91 → run s a ms false p (pattern nothing ps) ≡ run s a ms false (p + 1) (opened ps)
   unfolding partByte patternByte fresh among signs sign breaks pick
-  at-bracket e = here-on x ms _ _ (simp e)
+  at-bracket e = here-on x ms _ _ (λ q o. refl) (simp e)
 
   pub at-query : b ≡ 63 → run s a ms false p (pattern nothing ps) ≡ run s a ms false (p + 1) (pattern query ps)
   unfolding partByte patternByte fresh among signs hold pick
-  at-query e = here-on x ms _ _ (simp e)
+  at-query e = here-on x ms _ _ (λ q o. refl) (simp e)
 
   pub at-stack : b ≡ 38 → run s a ms false p (pattern nothing ps) ≡ run s a ms false (p + 1) (pattern (marked (markAt b)) ps)
   unfolding partByte patternByte fresh among signs hold pick
-  at-stack e = here-on x ms _ _ (simp e)
+  at-stack e = here-on x ms _ _ (λ q o. refl) (simp e)
 
   pub at-counter : b ≡ 35 → run s a ms false p (pattern nothing ps) ≡ run s a ms false (p + 1) (pattern (marked (markAt b)) ps)
   unfolding partByte patternByte fresh among signs hold pick
-  at-counter e = here-on x ms _ _ (simp e)
+  at-counter e = here-on x ms _ _ (λ q o. refl) (simp e)
 
   -- a byte that is no sign, nor `?`, `&` or `#`
   pub at-literal : among signs b ≡ false → (b ≡ 63 → ⊥) → (b ≡ 38 → ⊥) → (b ≡ 35 → ⊥)
       → run s a ms false p (pattern nothing ps) ≡ run s a ms false (p + 1) (pattern (unit (literal b)) ps)
   unfolding partByte patternByte fresh hold pick
-  at-literal f g h i = here-on x ms _ _ (simp (f, ne-eqb _ _ g, ne-eqb _ _ h, ne-eqb _ _ i))
+  at-literal f g h i = here-on x ms _ _ (λ q o. refl) (simp (f, ne-eqb _ _ g, ne-eqb _ _ h, ne-eqb _ _ i))
 
   -- BEHIND WHAT THE BYTE MAY JOIN
 
   pub query-digit : kindDigit b ≡ true → run s a ms false p (pattern query ps) ≡ run s a ms false (p + 1) (pattern (unit (kind (b - 48))) ps)
   unfolding partByte patternByte pick
-  query-digit e = here-on x ms _ _ (simp e)
+  query-digit e = here-on x ms _ _ (λ q o. refl) (simp e)
 
   pub query-literal : kindDigit b ≡ false → run s a ms false p (pattern query ps) ≡ run s a ms false p (pattern (unit (literal 63)) ps)
   unfolding partByte patternByte pick
-  query-literal e = here-same x ms _ _ (simp e)
+  query-literal e = here-same x ms _ _ (λ x q o. refl) (simp e)
 
   module _ (m : Mark) where
     pub mark-call : b ≡ 40 → run s a ms false p (pattern (marked m) ps) ≡ run s a ms false (p + 1) (patternCall m ps)
     unfolding partByte patternByte pick
-    mark-call e = here-on x ms _ _ (simp e)
+    mark-call e = here-on x ms _ _ (λ q o. refl) (simp e)
 
     pub mark-literal : (b ≡ 40 → ⊥) → run s a ms false p (pattern (marked m) ps) ≡ run s a ms false p (pattern (unit (literal (markByte m))) ps)
     unfolding partByte patternByte pick
-    mark-literal e = here-same x ms _ _ (simp (ne-eqb _ _ e))
+    mark-literal e = here-same x ms _ _ (λ x q o. refl) (simp (ne-eqb _ _ e))
 
     pub call-letter : lower b ≡ true → run s a ms false p (patternCall m ps) ≡ run s a ms false (p + 1) (patternCalled m ps b)
     unfolding partByte pick
-    call-letter e = here-on x ms _ _ (simp e)
+    call-letter e = here-on x ms _ _ (λ q o. refl) (simp e)
 
     pub call-wrong : lower b ≡ false → (b ≡ 32 → ⊥) → run s a ms false p (patternCall m ps) ≡ refusedAt (wrongCall b) p
     unfolding partByte pick
@@ -134,7 +138,7 @@ module _ {s : List ℕ} {a p b : ℕ} (x : Here s a p b) (ms : List Macro) (ps :
 
     pub called-end : (i : ℕ) → b ≡ 41 → run s a ms false p (patternCalled m ps i) ≡ run s a ms false (p + 1) (pattern (unit (callOf m i)) ps)
     unfolding partByte pick
-    called-end i e = here-on x ms _ _ (simp e)
+    called-end i e = here-on x ms _ _ (λ q o. refl) (simp e)
 
     pub called-wrong : (i : ℕ) → (b ≡ 41 → ⊥) → (b ≡ 32 → ⊥) → run s a ms false p (patternCalled m ps i) ≡ refusedAt (wrongCall b) p
     unfolding partByte pick
@@ -143,33 +147,33 @@ module _ {s : List ℕ} {a p b : ℕ} (x : Here s a p b) (ms : List Macro) (ps :
   module _ (u : PatternUnit) where
     pub unit-star : b ≡ 42 → run s a ms false p (pattern (unit u) ps) ≡ run s a ms false (p + 1) (pattern (starred u) ps)
     unfolding partByte patternByte closes pick
-    unit-star e = here-on x ms _ _ (simp e)
+    unit-star e = here-on x ms _ _ (λ q o. refl) (simp e)
 
     pub unit-once : (b ≡ 42 → ⊥) → run s a ms false p (pattern (unit u) ps) ≡ run s a ms false p (pattern nothing (element u once ∷ ps))
     unfolding partByte patternByte closes pick
-    unit-once e = here-same x ms _ _ (simp (ne-eqb _ _ e))
+    unit-once e = here-same x ms _ _ (λ x q o. refl) (simp (ne-eqb _ _ e))
 
     pub star-dash : b ≡ 45 → run s a ms false p (pattern (starred u) ps) ≡ run s a ms false (p + 1) (pattern nothing (element u zeroOrMore ∷ ps))
     unfolding partByte patternByte pick
-    star-dash e = here-on x ms _ _ (simp e)
+    star-dash e = here-on x ms _ _ (λ q o. refl) (simp e)
 
     pub star-more : (b ≡ 45 → ⊥) → run s a ms false p (pattern (starred u) ps) ≡ run s a ms false p (pattern nothing (element u oneOrMore ∷ ps))
     unfolding partByte patternByte pick
-    star-more e = here-same x ms _ _ (simp (ne-eqb _ _ e))
+    star-more e = here-same x ms _ _ (λ x q o. refl) (simp (ne-eqb _ _ e))
 
 -- a byte where no skip begins
 module _ {s : List ℕ} {a p b : ℕ} (x : At s a p b) (ms : List Macro) (ps : List Piece) where
   pub escape-on : run s a ms false p (patternEscape ps) ≡ run s a ms false (p + 1) (pattern (unit (literal (escaped b))) ps)
   unfolding partByte skips
-  escape-on = at-on x ms (patternEscape ps) _ refl refl
+  escape-on = at-on x ms (patternEscape ps) _ (λ q o. refl) refl refl
 
   pub opened-not : b ≡ 126 → run s a ms false p (opened ps) ≡ run s a ms false (p + 1) (members ps true free [])
   unfolding partByte skips openedByte pick
-  opened-not e = at-on x ms (opened ps) _ refl (rw e refl)
+  opened-not e = at-on x ms (opened ps) _ (λ q o. refl) refl (rw e refl)
 
   pub opened-plain : (b ≡ 126 → ⊥) → run s a ms false p (opened ps) ≡ run s a ms false p (members ps false free [])
   unfolding partByte skips openedByte pick
-  opened-plain e = at-same x ms (opened ps) (members ps false free []) refl refl (simp (ne-eqb _ _ e))
+  opened-plain e = at-same x ms (opened ps) (members ps false free []) (λ x q o. refl) refl refl (simp (ne-eqb _ _ e))
 
 -- a call in a pattern passes over spaces
 pub space-letter : (m : Mark) (ps : List Piece) → partByte (patternCall m ps) 32 ≡ on (patternCall m ps)

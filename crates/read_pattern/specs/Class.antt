@@ -14,7 +14,7 @@ use Rattle.macros.specs.Read.Held.{unit}
 use Rattle.macros.specs.Read.Last.{free, member, dash}
 use Rattle.macros.specs.Read.Part.{pattern, members}
 use Rattle.macros.specs.Read.Step.{on, stop}
-use Rattle.macros.specs.Read.Read.{refusedAt}
+use Rattle.read_scan.specs.Scan.MacroRead.{refusedAt}
 use Rattle.form_table.specs.Form.{membersItems}
 use Rattle.read_scan.specs.Scan.{faultOf, run, Reached}
 use Rattle.form_items.specs.Items.{Wrote, memberBytes}

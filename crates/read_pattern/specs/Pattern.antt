@@ -14,7 +14,7 @@ use Rattle.macros.specs.Read.{Part}
 use Rattle.macros.specs.Read.Held.{nothing, unit, query, marked}
 use Rattle.macros.specs.Read.Last.{free}
 use Rattle.macros.specs.Read.Part.{pattern, members, patternCall, awaitSymbol}
-use Rattle.macros.specs.Read.Read.{refusedAt}
+use Rattle.read_scan.specs.Scan.MacroRead.{refusedAt, patternTo}
 use Rattle.form_table.specs.Form.{unitRest, pieceItems, patternItems}
 use Rattle.form_element.specs.Element.{unitOf, codeClosure, elementOf}
 use Rattle.read_scan.specs.Scan.{faultOf, run, Here, Reached}
@@ -193,13 +193,13 @@ ReadsBy s a p f old out (NoInside k q) =
 pub record Reads (s : List ℕ) (a p : ℕ) (f : Far) (old out : List ℕ) (r : Inside) : Type 0 where
   pub is : ReadsBy s a p f old out r
 
--- the pieces of a pattern that began at a, newest first, up to behind its quote at q, with their items written from 0 up to j
+-- the pieces of the pattern of the macro that began at a, newest first, as the machine has them behind the closing quote, at q; their items are written from 0 up to j
 pub record Patterned (s : List ℕ) (a q t : ℕ) (old out : List ℕ) (j : ℕ) : Type 0 where
   pub pieces : List Piece
   pub reached : Reached s a q
   pub tagged : tags pieces ≡ t
   pub few : t ≤ mostTags
-  pub answer : (ms : List Macro) → run s a ms false (a + 1) (pattern nothing []) ≡ run s a ms false q (awaitSymbol pieces)
+  pub answer : (ms : List Macro) → run s a ms false (a + 1) (pattern nothing []) ≡ patternTo q pieces (run s a ms false q (awaitSymbol pieces))
   pub wrote : Wrote old out 0 (patternItems (reverse pieces))
   pub used : j ≡ length (patternItems (reverse pieces))
   pub room : j + 4 ≤ 2 * (q - a)

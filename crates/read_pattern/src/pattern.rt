@@ -23,6 +23,7 @@ use read_bytes::is_break;
 use read_bytes::is_digit;
 use read_bytes::is_lower;
 use read_scan::Fault;
+use read_scan::MOST_MACRO_BYTES;
 use read_scan::Next;
 use read_scan::scan::any_byte;
 use read_scan::scan::call_byte;
@@ -447,6 +448,9 @@ fn pieces(s: &[u8], out: &mut [u8], a: usize) -> Whole
         return whole_fault(read);
     };
     if far.some {
+        if MOST_MACRO_BYTES <= q - a {
+            return Whole::Refused(Fault::MacroTooLong, q);
+        }
         return Whole::Pattern(q + 1, far.tags, far.used);
     }
     Whole::Refused(Fault::NoElement, q)

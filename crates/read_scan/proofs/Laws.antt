@@ -2,25 +2,27 @@
 -- Assumes nothing.
 use mathlib.Core.Path.{_≡_, refl, ap, sym, _∙_}
 use mathlib.Core.Bool.{Bool, true, false, not, _&&_, and-false}
-use mathlib.Core.List.{List, _∷_}
+use mathlib.Core.List.{List, [], _∷_}
 use Prim.Native.Nat.{ℕ, suc, _+_, _-_, _≤_, _<_}
 use native.Mathlib.Omega.{arith}
 use native.Mathlib.Numerals.{add-one}
 use lib.ListN.{length, getD, drop, drop-of-length-le}
-use lib.Seq.{drop-cons}
+use lib.Seq.{drop-cons, drop-drop}
 use lib.Dec.{eqb, ltb}
 use borrow.Author.Tests.{ne-eqb, le-ltb, lt-ltb, ltb-true, ltb-false}
 use Rattle.macros.specs.Refusals.{FileRefusal}
 use Rattle.macros.specs.Refusals.FileRefusal.{incomplete, badCall, macroTooLong}
 use Rattle.macros.specs.Macro.{Macro, pick}
-use Rattle.macros.specs.Read.{Part, Reader, readFrom, step, partByte, taken, count, skips, atEnd, breaks, otherwise}
-use Rattle.macros.specs.Read.Step.{on, stop}
-use Rattle.macros.specs.Read.Reader.{inside}
+use Rattle.macros.specs.Read.{Part, Step, Reader, Next as Stepped, readFrom, step, partByte, taken, count, skips, atEnd, breaks, otherwise}
+use Rattle.macros.specs.Read.Part.{pattern, patternEscape, opened, members, membersEscape, patternCall, patternCalled, awaitSymbol, awaitQuote, replacement, replacementEscape, tagNumber, calling, callText, callTextEscape, commands}
+use Rattle.macros.specs.Read.Step.{on, done, stop}
+use Rattle.macros.specs.Read.Reader.{between, inside}
 use Rattle.macros.specs.Read.Next.{go, refuse}
-use Rattle.macros.specs.Read.Read.{refusedAt}
+use Rattle.macros.specs.Read.Read.{refusedAt as fileRefusedAt}
 use Rattle.read_scan.specs.Bytes.{seen, spaceless}
 use Rattle.read_scan.proofs.Bytes.{in-call-none, in-call-here, in-call-space}
-use Rattle.read_scan.specs.Scan.{run, At, Here, Reached, Passes, Calls, wrongCall}
+use Rattle.read_scan.specs.Scan.{MacroRead, atSymbol, noted, goOn, readMacro, after, run, At, Here, Reached, Passes, Calls, wrongCall}
+use Rattle.read_scan.specs.Scan.MacroRead.{refusedAt, patternTo, macroTo}
 use Rattle.read_scan.specs.declared.Fault.{Fault}
 use Rattle.read_scan.specs.declared.Next.{Next as CodeNext}
 use Rattle.read_scan.specs.declared.Next.the-variants.{Byte, Refused as NoByte}
@@ -29,13 +31,147 @@ pub read-go : (p : ℕ) (r r′ : Reader) (b : ℕ) (bs : List ℕ) → step r b
 unfolding readFrom
 read-go p r r′ b bs e = rw (e, readFrom)
 
-pub read-refuse : (p : ℕ) (k : FileRefusal) (r : Reader) (b : ℕ) (bs : List ℕ) → step r b ≡ refuse k → readFrom p r (b ∷ bs) ≡ refusedAt k p
+pub read-refuse : (p : ℕ) (k : FileRefusal) (r : Reader) (b : ℕ) (bs : List ℕ) → step r b ≡ refuse k → readFrom p r (b ∷ bs) ≡ fileRefusedAt k p
 unfolding readFrom
 read-refuse p k r b bs e = rw (e, readFrom)
 
-read-same : (p : ℕ) (r r′ : Reader) (b : ℕ) (bs : List ℕ) → step r b ≡ step r′ b → readFrom p r (b ∷ bs) ≡ readFrom p r′ (b ∷ bs)
-unfolding readFrom
-read-same p r r′ b bs e = rw (e, readFrom) refl
+-- from a part to itself
+pub noted-same : (st : Part) (q : ℕ) (o : MacroRead) → noted st st q o ≡ o
+noted-same (pattern h ps) q o = refl
+noted-same (patternEscape ps) q o = refl
+noted-same (opened ps) q o = refl
+noted-same (members ps neg l xs) q o = refl
+noted-same (membersEscape ps neg l xs) q o = refl
+noted-same (patternCall m ps) q o = refl
+noted-same (patternCalled m ps i) q o = refl
+noted-same (awaitSymbol ps) q o = refl
+noted-same (awaitQuote f) q o = refl
+noted-same (replacement a f l) q o = refl
+noted-same (replacementEscape f l) q o = refl
+noted-same (tagNumber n f l) q o = refl
+noted-same (calling pl ph) q o = refl
+noted-same (callText pl i v t) q o = refl
+noted-same (callTextEscape pl i v t) q o = refl
+noted-same (commands a f l cs) q o = refl
+
+-- ONE BYTE OF A MACRO
+
+module _ (ms : List Macro) (p n : ℕ) (k : Bool) (st : Part) (b : ℕ) (bs : List ℕ) where
+  on-in : (k′ : Bool) (n′ : ℕ) (st′ : Part) → step (inside k n st ms) b ≡ go (inside k′ n′ st′ ms)
+      → readMacro ms p k n st (b ∷ bs) ≡ noted st st′ (suc p) (readMacro ms (suc p) k′ n′ st′ bs)
+  unfolding readMacro
+  on-in k′ n′ st′ e = ap (λ (x : Stepped). goOn st p (λ i j z. readMacro ms (suc p) i j z bs) x) e
+
+  pub out-of : (m : Macro) → step (inside k n st ms) b ≡ go (between false (m ∷ ms)) → readMacro ms p k n st (b ∷ bs) ≡ macroTo (suc p) m
+  unfolding readMacro
+  out-of m e = ap (λ (x : Stepped). goOn st p (λ i j z. readMacro ms (suc p) i j z bs) x) e
+
+  pub macro-refuse : (c : FileRefusal) → step (inside k n st ms) b ≡ refuse c → readMacro ms p k n st (b ∷ bs) ≡ refusedAt c p
+  unfolding readMacro
+  macro-refuse c e = ap (λ (x : Stepped). goOn st p (λ i j z. readMacro ms (suc p) i j z bs) x) e
+
+-- two parts that are noted alike
+go-same : (st st′ : Part) (p : ℕ) (f : Bool → ℕ → Part → MacroRead) → ((x : Part) (q : ℕ) (o : MacroRead) → noted st x q o ≡ noted st′ x q o) → (x : Stepped) → goOn st p f x ≡ goOn st′ p f x
+go-same st st′ p f h (go (inside k n z ms)) = h z (suc p) (f k n z)
+go-same st st′ p f h (go (between k [])) = refl
+go-same st st′ p f h (go (between k (m ∷ ms))) = refl
+go-same st st′ p f h (refuse c) = refl
+
+macro-same : (ms : List Macro) (p n : ℕ) (st st′ : Part) (b : ℕ) (bs : List ℕ) → ((x : Part) (q : ℕ) (o : MacroRead) → noted st x q o ≡ noted st′ x q o)
+    → step (inside false n st ms) b ≡ step (inside false n st′ ms) b → readMacro ms p false n st (b ∷ bs) ≡ readMacro ms p false n st′ (b ∷ bs)
+unfolding readMacro
+macro-same ms p n st st′ b bs h e =
+    ap (λ (x : Stepped). goOn st p (λ i j z. readMacro ms (suc p) i j z bs) x) e
+    ∙ go-same st st′ p (λ i j z. readMacro ms (suc p) i j z bs) h (step (inside false n st′ ms) b)
+
+-- READING A FILE GOES ON BEHIND EACH MACRO
+
+-- a step in a macro keeps the macros before it, and leaves it by one macro more
+abbrev Shape : List Macro → Stepped → Type 0
+Shape ms (go (inside k n st ks)) = ks ≡ ms
+Shape ms (go (between k [])) = ⊥
+Shape ms (go (between k (m ∷ ks))) = (k ≡ false) × (ks ≡ ms)
+Shape ms (refuse c) = Unit {0}
+
+pick-shape : (ms : List Macro) (y : Bool) (u v : Stepped) → Shape ms u → Shape ms v → Shape ms (pick y u v)
+unfolding pick
+pick-shape ms true u v f g = f
+pick-shape ms false u v f g = g
+
+count-shape : (ms : List Macro) (n : ℕ) (r : Reader) → Shape ms (go r) → Shape ms (count n r)
+unfolding count
+count-shape ms n r f = pick-shape ms (ltb n 512) (go r) (refuse macroTooLong) f tt
+
+taken-shape : (ms : List Macro) (n : ℕ) (x : Step) → Shape ms (taken n ms x)
+unfolding taken
+taken-shape ms n (on st) = count-shape ms n (inside false (suc n) st ms) refl
+taken-shape ms n (done m) = count-shape ms n (between false (m ∷ ms)) (refl, refl)
+taken-shape ms n (stop c) = tt
+
+step-shape : (ms : List Macro) (k : Bool) (n : ℕ) (st : Part) (b : ℕ) → Shape ms (step (inside k n st ms) b)
+unfolding step
+step-shape ms k n st b =
+    pick-shape ms (skips st && eqb b 47) (count n (inside (not k) (suc n) st ms)) (pick k (count n (inside true (suc n) st ms)) (taken n ms (partByte st b)))
+    (count-shape ms n (inside (not k) (suc n) st ms) refl)
+    (pick-shape ms k (count n (inside true (suc n) st ms)) (taken n ms (partByte st b)) (count-shape ms n (inside true (suc n) st ms) refl) (taken-shape ms n (partByte st b)))
+
+at-symbol-after : (s : List ℕ) (ms : List Macro) (st : Part) (q : ℕ) (o : MacroRead) → after s ms (atSymbol st q o) ≡ after s ms o
+unfolding after
+at-symbol-after s ms (pattern h ps) q o = refl
+at-symbol-after s ms (patternEscape ps) q o = refl
+at-symbol-after s ms (opened ps) q o = refl
+at-symbol-after s ms (members ps neg l xs) q o = refl
+at-symbol-after s ms (membersEscape ps neg l xs) q o = refl
+at-symbol-after s ms (patternCall m ps) q o = refl
+at-symbol-after s ms (patternCalled m ps i) q o = refl
+at-symbol-after s ms (awaitSymbol ps) q o = refl
+at-symbol-after s ms (awaitQuote f) q o = refl
+at-symbol-after s ms (replacement a f l) q o = refl
+at-symbol-after s ms (replacementEscape f l) q o = refl
+at-symbol-after s ms (tagNumber n f l) q o = refl
+at-symbol-after s ms (calling pl ph) q o = refl
+at-symbol-after s ms (callText pl i v t) q o = refl
+at-symbol-after s ms (callTextEscape pl i v t) q o = refl
+at-symbol-after s ms (commands a f l cs) q o = refl
+
+noted-after : (s : List ℕ) (ms : List Macro) (st st′ : Part) (q : ℕ) (o : MacroRead) → after s ms (noted st st′ q o) ≡ after s ms o
+noted-after s ms (pattern h ps) st′ q o = at-symbol-after s ms st′ q o
+noted-after s ms (patternEscape ps) st′ q o = refl
+noted-after s ms (opened ps) st′ q o = refl
+noted-after s ms (members ps neg l xs) st′ q o = refl
+noted-after s ms (membersEscape ps neg l xs) st′ q o = refl
+noted-after s ms (patternCall m ps) st′ q o = refl
+noted-after s ms (patternCalled m ps i) st′ q o = refl
+noted-after s ms (awaitSymbol ps) st′ q o = refl
+noted-after s ms (awaitQuote f) st′ q o = refl
+noted-after s ms (replacement a f l) st′ q o = refl
+noted-after s ms (replacementEscape f l) st′ q o = refl
+noted-after s ms (tagNumber n f l) st′ q o = refl
+noted-after s ms (calling pl ph) st′ q o = refl
+noted-after s ms (callText pl i v t) st′ q o = refl
+noted-after s ms (callTextEscape pl i v t) st′ q o = refl
+noted-after s ms (commands a f l cs) st′ q o = refl
+
+-- the byte's step, and what reading on from there comes to
+behind-byte : (s : List ℕ) (ms : List Macro) (p : ℕ) (k : Bool) (n : ℕ) (st : Part) (b : ℕ) (bs : List ℕ) → bs ≡ drop (suc p) s
+    → ((i : Bool) (j : ℕ) (z : Part) → readFrom (suc p) (inside i j z ms) bs ≡ after s ms (readMacro ms (suc p) i j z bs))
+    → (x : Stepped) → Shape ms x → step (inside k n st ms) b ≡ x → readFrom p (inside k n st ms) (b ∷ bs) ≡ after s ms (readMacro ms p k n st (b ∷ bs))
+unfolding after
+behind-byte s ms p k n st b bs e f (go (inside i j z ks)) h g =
+    let g′ : step (inside k n st ms) b ≡ go (inside i j z ms) = g ∙ rw h refl in
+    read-go p _ _ b bs g′ ∙ (f i j z ∙ sym (ap (after s ms) (on-in ms p n k st b bs i j z g′) ∙ noted-after s ms st z (suc p) _))
+behind-byte s ms p k n st b bs e f (go (between i [])) h g = absurd h
+behind-byte s ms p k n st b bs e f (go (between i (m ∷ ks))) h g =
+    let g′ : step (inside k n st ms) b ≡ go (between false (m ∷ ms)) = g ∙ rw (h .0, h .1) refl in
+    read-go p _ _ b bs g′ ∙ sym (ap (after s ms) (out-of ms p n k st b bs m g′) ∙ rw (← e) refl)
+behind-byte s ms p k n st b bs e f (refuse c) h g = read-refuse p c _ b bs g ∙ sym (ap (after s ms) (macro-refuse ms p n k st b bs c g))
+
+pub read-after : (s : List ℕ) (ms : List Macro) (p : ℕ) (k : Bool) (n : ℕ) (st : Part) (bs : List ℕ) → bs ≡ drop p s → readFrom p (inside k n st ms) bs ≡ after s ms (readMacro ms p k n st bs)
+unfolding readFrom atEnd readMacro after
+read-after s ms p k n st [] e = refl
+read-after s ms p k n st (b ∷ bs) e =
+    let e′ : bs ≡ drop (suc p) s = ap (drop 1) e ∙ (drop-drop 1 p s ∙ ap (λ (j : ℕ). drop j s) (add-one p)) in
+    behind-byte s ms p k n st b bs e′ (λ i j z. read-after s ms (suc p) i j z bs e′) (step (inside k n st ms) b) (step-shape ms k n st b) refl
 
 module _ (s : List ℕ) (a : ℕ) (ms : List Macro) where
   -- behind the 513th byte
@@ -43,29 +179,29 @@ module _ (s : List ℕ) (a : ℕ) (ms : List Macro) where
   unfolding run pick
   run-late k p st h = simp (lt-ltb _ _ h)
 
-  pub run-now : (k : Bool) (p : ℕ) (st : Part) → p - a ≤ 512 → run s a ms k p st ≡ readFrom p (inside k (p - a) st ms) (drop p s)
+  pub run-now : (k : Bool) (p : ℕ) (st : Part) → p - a ≤ 512 → run s a ms k p st ≡ readMacro ms p k (p - a) st (drop p s)
   unfolding run pick
   run-now k p st h = simp (le-ltb _ _ h)
 
   pub run-here : (k : Bool) (p : ℕ) (st : Part) → p < length s → p - a ≤ 512
-      → run s a ms k p st ≡ readFrom p (inside k (p - a) st ms) (getD s p 0 ∷ drop (suc p) s)
+      → run s a ms k p st ≡ readMacro ms p k (p - a) st (getD s p 0 ∷ drop (suc p) s)
   run-here k p st l h = run-now k p st h ∙ rw (drop-cons s p 0 l) refl
 
   -- the file's end
   pub run-end : (k : Bool) (p : ℕ) (st : Part) → length s ≤ p → p - a ≤ 512 → run s a ms k p st ≡ refusedAt incomplete p
-  unfolding readFrom atEnd
+  unfolding readMacro
   run-end k p st e h = run-now k p st h ∙ rw (drop-of-length-le s {i = p} e) refl
 
 module _ {s : List ℕ} {a p b : ℕ} (x : At s a p b) (ms : List Macro) where
-  byte-first : (k : Bool) (st : Part) → run s a ms k p st ≡ readFrom p (inside k (p - a) st ms) (b ∷ drop (suc p) s)
+  byte-first : (k : Bool) (st : Part) → run s a ms k p st ≡ readMacro ms p k (p - a) st (b ∷ drop (suc p) s)
   byte-first k st = run-here s a ms k p st (x .there) (omega (arith, x .counted)) ∙ rw (x .byte) refl
 
   -- one byte: on to a reader in the macro, if it is counted
-  counted : (k j : Bool) (st st′ : Part)
+  counted : (k j : Bool) (st st′ : Part) → ((q : ℕ) (o : MacroRead) → noted st st′ q o ≡ o)
       → step (inside k (p - a) st ms) b ≡ count (p - a) (inside j (suc (p - a)) st′ ms)
       → run s a ms k p st ≡ run s a ms j (p + 1) st′
   unfolding pick count
-  counted k j st st′ e = byte-first k st ∙ by (ltb (p - a) 512) refl
+  counted k j st st′ g e = byte-first k st ∙ by (ltb (p - a) 512) refl
     where
       n : p + 1 - a ≡ suc (p - a)
       n = omega (arith, x .behind)
@@ -73,57 +209,76 @@ module _ {s : List ℕ} {a p b : ℕ} (x : At s a p b) (ms : List Macro) where
       z : p + 1 - 1 ≡ p
       z = omega arith
 
-      by : (y : Bool) → ltb (p - a) 512 ≡ y → readFrom p (inside k (p - a) st ms) (b ∷ drop (suc p) s) ≡ run s a ms j (p + 1) st′
+      by : (y : Bool) → ltb (p - a) 512 ≡ y → readMacro ms p k (p - a) st (b ∷ drop (suc p) s) ≡ run s a ms j (p + 1) st′
       by true f =
-          read-go p _ (inside j (suc (p - a)) st′ ms) _ _ (e ∙ rw f refl)
-          ∙ sym (run-now s a ms j (p + 1) st′ (omega (arith, ltb-true (p - a) 512 f)) ∙ rw (n, add-one) refl)
+          on-in ms p (p - a) k st b _ j (suc (p - a)) st′ (e ∙ rw f refl)
+          ∙ (g (suc p) _ ∙ sym (run-now s a ms j (p + 1) st′ (omega (arith, ltb-true (p - a) 512 f)) ∙ rw (n, add-one) refl))
       by false f =
-          read-refuse p macroTooLong _ _ _ (e ∙ rw f refl)
+          macro-refuse ms p (p - a) k st b _ macroTooLong (e ∙ rw f refl)
           ∙ sym (run-late s a ms j (p + 1) st′ (omega (arith, x .behind, ltb-false (p - a) 512 f)) ∙ ap (refusedAt macroTooLong) z)
 
   stops : (k : Bool) (st : Part) (c : FileRefusal) → step (inside k (p - a) st ms) b ≡ refuse c → run s a ms k p st ≡ refusedAt c p
-  stops k st c e = byte-first k st ∙ read-refuse p c _ _ _ e
+  stops k st c e = byte-first k st ∙ macro-refuse ms p (p - a) k st b _ c e
 
   -- a slash, in a state that has skips
   pub at-slash : (k : Bool) (st : Part) → skips st ≡ true → b ≡ 47 → run s a ms k p st ≡ run s a ms (not k) (p + 1) st
   unfolding step pick
-  at-slash k st f e = counted k (not k) st st (simp (f, e))
+  at-slash k st f e = counted k (not k) st st (noted-same st) (simp (f, e))
 
   -- any other byte in a skip
   pub at-within : (st : Part) → (b ≡ 47 → ⊥) → run s a ms true p st ≡ run s a ms true (p + 1) st
   unfolding step pick
-  at-within st e = counted true true st st (simp (ne-eqb _ _ e, and-false))
+  at-within st e = counted true true st st (noted-same st) (simp (ne-eqb _ _ e, and-false))
 
   -- a byte outside of a skip, in a state where it begins none
-  pub at-on : (st st′ : Part) → (skips st && eqb b 47) ≡ false → partByte st b ≡ on st′ → run s a ms false p st ≡ run s a ms false (p + 1) st′
+  pub at-on : (st st′ : Part) → ((q : ℕ) (o : MacroRead) → noted st st′ q o ≡ o) → (skips st && eqb b 47) ≡ false → partByte st b ≡ on st′ → run s a ms false p st ≡ run s a ms false (p + 1) st′
   unfolding step pick taken
-  at-on st st′ f e = counted false false st st′ (simp (f, e))
+  at-on st st′ g f e = counted false false st st′ g (simp (f, e))
+
+  -- such a byte, with what is noted behind it, and as the 513th
+  pub at-noted : (st st′ : Part) → p - a < 512 → (skips st && eqb b 47) ≡ false → partByte st b ≡ on st′ → run s a ms false p st ≡ noted st st′ (p + 1) (run s a ms false (p + 1) st′)
+  unfolding step pick taken count
+  at-noted st st′ h f e =
+      let n : p + 1 - a ≡ suc (p - a) = omega (arith, x .behind) in
+      byte-first false st
+      ∙ (on-in ms p (p - a) false st b _ false (suc (p - a)) st′ (simp (f, e, lt-ltb _ _ h))
+      ∙ sym (rw (run-now s a ms false (p + 1) st′ (omega arith), n, add-one) refl))
+
+  pub at-late : (st st′ : Part) → 512 ≤ p - a → (skips st && eqb b 47) ≡ false → partByte st b ≡ on st′ → run s a ms false p st ≡ refusedAt macroTooLong p
+  unfolding step pick taken count
+  at-late st st′ h f e = stops false st macroTooLong (simp (f, e, le-ltb _ _ h))
 
   pub at-stop : (st : Part) (c : FileRefusal) → (skips st && eqb b 47) ≡ false → partByte st b ≡ stop c → run s a ms false p st ≡ refusedAt c p
   unfolding step pick taken
   at-stop st c f e = stops false st c (simp (f, e))
 
   -- two states that do the same with the byte
-  pub at-same : (st st′ : Part) → (skips st && eqb b 47) ≡ false → (skips st′ && eqb b 47) ≡ false → partByte st b ≡ partByte st′ b
+  pub at-same : (st st′ : Part) → ((x : Part) (q : ℕ) (o : MacroRead) → noted st x q o ≡ noted st′ x q o) → (skips st && eqb b 47) ≡ false → (skips st′ && eqb b 47) ≡ false → partByte st b ≡ partByte st′ b
       → run s a ms false p st ≡ run s a ms false p st′
   unfolding step pick
-  at-same st st′ f f′ e =
+  at-same st st′ h f f′ e =
       byte-first false st
-      ∙ (read-same p (inside false (p - a) st ms) (inside false (p - a) st′ ms) _ _ (simp (f, f′, e)) ∙ sym (byte-first false st′))
+      ∙ (macro-same ms p (p - a) st st′ b _ h (simp (f, f′, e)) ∙ sym (byte-first false st′))
 
 -- a byte that begins no skip, in any state
 module _ {s : List ℕ} {a p b : ℕ} (x : Here s a p b) (ms : List Macro) where
   unslashed : (st : Part) → (skips st && eqb b 47) ≡ false
   unslashed st = simp (ne-eqb _ _ (x .plain), and-false)
 
-  pub here-on : (st st′ : Part) → partByte st b ≡ on st′ → run s a ms false p st ≡ run s a ms false (p + 1) st′
-  here-on st st′ e = at-on (x .stands) ms st st′ (unslashed st) e
+  pub here-on : (st st′ : Part) → ((q : ℕ) (o : MacroRead) → noted st st′ q o ≡ o) → partByte st b ≡ on st′ → run s a ms false p st ≡ run s a ms false (p + 1) st′
+  here-on st st′ g e = at-on (x .stands) ms st st′ g (unslashed st) e
+
+  pub here-noted : (st st′ : Part) → p - a < 512 → partByte st b ≡ on st′ → run s a ms false p st ≡ noted st st′ (p + 1) (run s a ms false (p + 1) st′)
+  here-noted st st′ h e = at-noted (x .stands) ms st st′ h (unslashed st) e
+
+  pub here-late : (st st′ : Part) → 512 ≤ p - a → partByte st b ≡ on st′ → run s a ms false p st ≡ refusedAt macroTooLong p
+  here-late st st′ h e = at-late (x .stands) ms st st′ h (unslashed st) e
 
   pub here-stop : (st : Part) (c : FileRefusal) → partByte st b ≡ stop c → run s a ms false p st ≡ refusedAt c p
   here-stop st c e = at-stop (x .stands) ms st c (unslashed st) e
 
-  pub here-same : (st st′ : Part) → partByte st b ≡ partByte st′ b → run s a ms false p st ≡ run s a ms false p st′
-  here-same st st′ e = at-same (x .stands) ms st st′ (unslashed st) (unslashed st′) e
+  pub here-same : (st st′ : Part) → ((x : Part) (q : ℕ) (o : MacroRead) → noted st x q o ≡ noted st′ x q o) → partByte st b ≡ partByte st′ b → run s a ms false p st ≡ run s a ms false p st′
+  here-same st st′ g e = at-same (x .stands) ms st st′ g (unslashed st) (unslashed st′) e
 
 -- the place behind a byte
 pub reached-behind : {s : List ℕ} {a p b : ℕ} → At s a p b → Reached s a (p + 1)
@@ -179,5 +334,5 @@ module _ {s : List ℕ} {a p v : ℕ} (g : Spaces s a p v) (l : p ≤ v) {r : Co
     calls-space f =
         record {
           same = in-call-space s a p v (g .same) (in-call .exact) f;
-          comes = λ st ms i j. g .comes st ms i j ∙ (in-call .answer st ms i ∙ here-on (in-call .found .1) ms st st (rw f j));
+          comes = λ st ms i j. g .comes st ms i j ∙ (in-call .answer st ms i ∙ here-on (in-call .found .1) ms st st (noted-same st) (rw f j));
         }

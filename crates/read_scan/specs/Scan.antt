@@ -1,18 +1,20 @@
 -- What the machine does from a place on, and what the answers about single bytes say of it.
-use Prim.Native.Nat.{ℕ, _+_, _-_, _≤_, _<_}
+use Prim.Native.Nat.{ℕ, suc, _+_, _-_, _≤_, _<_}
 use mathlib.Core.Path.{_≡_}
 use mathlib.Core.Bool.{Bool, true, false}
-use mathlib.Core.List.{List}
+use mathlib.Core.List.{List, [], _∷_}
 use lib.Dec.{ltb}
 use lib.ListN.{length, getD, drop}
 use Rattle.macros.specs.Bounds.{mostMacroBytes}
 use Rattle.macros.specs.Refusals.{FileRefusal}
 use Rattle.macros.specs.Refusals.FileRefusal.{fileTooLong, zeroByte, incomplete, badClass, noUnit, badBrace, badCall, noElement, macroTooLong, tooManyMacros}
-use Rattle.macros.specs.Macro.{Macro, pick}
-use Rattle.macros.specs.Read.{Part, Read, readFrom, skips, breaks, partByte}
-use Rattle.macros.specs.Read.Reader.{inside}
+use Rattle.macros.specs.Macro.{Piece, Macro, pick}
+use Rattle.macros.specs.Read.{Part, Read, Next as Stepped, readFrom, step, skips, breaks, partByte}
+use Rattle.macros.specs.Read.Part.{pattern, patternEscape, opened, members, membersEscape, patternCall, patternCalled, awaitSymbol, awaitQuote, replacement, replacementEscape, tagNumber, calling, callText, callTextEscape, commands}
+use Rattle.macros.specs.Read.Reader.{between, inside}
+use Rattle.macros.specs.Read.Next.{go, refuse}
 use Rattle.macros.specs.Read.Step.{on}
-use Rattle.macros.specs.Read.Read.{refusedAt}
+use Rattle.macros.specs.Read.Read.{refusedAt as fileRefusedAt}
 use Rattle.read_scan.specs.Bytes.{byteHere, nextByte, nextInCall}
 use Rattle.read_scan.specs.declared.Fault.{Fault}
 use Rattle.read_scan.specs.declared.Fault.the-variants.{FileTooLong, ZeroByte, Incomplete, BadClass, NoUnit, BadBrace, BadCall, NoElement, MacroTooLong, TooManyMacros}
@@ -32,9 +34,73 @@ faultOf NoElement = noElement
 faultOf MacroTooLong = macroTooLong
 faultOf TooManyMacros = tooManyMacros
 
--- the machine's answer from place p of the file s on, in a macro that began at a, in a skip or not; 18 shows one byte later than in readFrom, behind the 513th byte
-unfoldable pub run : List ℕ → ℕ → List Macro → Bool → ℕ → Part → Read
-run s a ms k p st = pick (ltb mostMacroBytes (p - a)) (refusedAt macroTooLong (p - 1)) (readFrom p (inside k (p - a) st ms) (drop p s))
+-- READING ONE MACRO
+
+-- what it comes to: a refusal with its place; the pieces of a pattern, newest first, that ends before a place, and what follows; the macro, that ends before a place
+pub data MacroRead : Type 0 where
+  refusedAt : FileRefusal → ℕ → MacroRead
+  patternTo : ℕ → List Piece → MacroRead → MacroRead
+  macroTo : ℕ → Macro → MacroRead
+
+-- at the wait for the symbol a pattern is complete
+abbrev pub atSymbol : Part → ℕ → MacroRead → MacroRead
+atSymbol (awaitSymbol ps) p o = patternTo p ps o
+atSymbol (pattern h ps) p o = o
+atSymbol (patternEscape ps) p o = o
+atSymbol (opened ps) p o = o
+atSymbol (members ps neg l xs) p o = o
+atSymbol (membersEscape ps neg l xs) p o = o
+atSymbol (patternCall m ps) p o = o
+atSymbol (patternCalled m ps i) p o = o
+atSymbol (awaitQuote f) p o = o
+atSymbol (replacement a f l) p o = o
+atSymbol (replacementEscape f l) p o = o
+atSymbol (tagNumber n f l) p o = o
+atSymbol (calling pl ph) p o = o
+atSymbol (callText pl i v t) p o = o
+atSymbol (callTextEscape pl i v t) p o = o
+atSymbol (commands a f l cs) p o = o
+
+-- from one part to the next: behind a pattern, with it
+abbrev pub noted : Part → Part → ℕ → MacroRead → MacroRead
+noted (pattern h ps) st p o = atSymbol st p o
+noted (patternEscape ps) st p o = o
+noted (opened ps) st p o = o
+noted (members ps neg l xs) st p o = o
+noted (membersEscape ps neg l xs) st p o = o
+noted (patternCall m ps) st p o = o
+noted (patternCalled m ps i) st p o = o
+noted (awaitSymbol ps) st p o = o
+noted (awaitQuote f) st p o = o
+noted (replacement a f l) st p o = o
+noted (replacementEscape f l) st p o = o
+noted (tagNumber n f l) st p o = o
+noted (calling pl ph) st p o = o
+noted (callText pl i v t) st p o = o
+noted (callTextEscape pl i v t) st p o = o
+noted (commands a f l cs) st p o = o
+
+-- behind the byte at place p of the part st: on in the macro, by f, to its end, or refused; no byte leads out of a macro without one
+abbrev pub goOn : Part → ℕ → (Bool → ℕ → Part → MacroRead) → Stepped → MacroRead
+goOn st p f (go (inside k n st′ ms)) = noted st st′ (suc p) (f k n st′)
+goOn st p f (go (between k [])) = refusedAt incomplete p
+goOn st p f (go (between k (m ∷ ms))) = macroTo (suc p) m
+goOn st p f (refuse c) = refusedAt c p
+
+-- the bytes from place p on, in the part st of a macro of n bytes so far, in a skip or not
+unfoldable pub readMacro : List Macro → ℕ → Bool → ℕ → Part → List ℕ → MacroRead
+readMacro ms p k n st [] = refusedAt incomplete p
+readMacro ms p k n st (b ∷ bs) = goOn st p (λ k′ n′ st′. readMacro ms (suc p) k′ n′ st′ bs) (step (inside k n st ms) b)
+
+-- what follows a macro in the file s: the macros behind it
+unfoldable pub after : List ℕ → List Macro → MacroRead → Read
+after s ms (refusedAt c q) = fileRefusedAt c q
+after s ms (patternTo q ps o) = after s ms o
+after s ms (macroTo q m) = readFrom q (between false (m ∷ ms)) (drop q s)
+
+-- the machine's answer on the macro that began at a, from place p of the file s on, in a skip or not; 18 shows one byte later than in readMacro, behind the 513th byte
+unfoldable pub run : List ℕ → ℕ → List Macro → Bool → ℕ → Part → MacroRead
+run s a ms k p st = pick (ltb mostMacroBytes (p - a)) (refusedAt macroTooLong (p - 1)) (readMacro ms p k (p - a) st (drop p s))
 
 -- a place that reading may have reached in the macro that began at a
 abbrev pub Reached : List ℕ → ℕ → ℕ → Type 0
@@ -53,7 +119,7 @@ pub record Here (s : List ℕ) (a p b : ℕ) : Type 0 where
   pub plain : b ≡ 47 → ⊥
 
 -- what the machine answers in the state st at the byte found, or the refusal found
-abbrev pub passed : List ℕ → ℕ → List Macro → Part → Next → Read
+abbrev pub passed : List ℕ → ℕ → List Macro → Part → Next → MacroRead
 passed s a ms st (Byte b q) = run s a ms false q st
 passed s a ms st (Refused f q) = refusedAt (faultOf f) q
 

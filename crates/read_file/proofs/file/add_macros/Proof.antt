@@ -67,8 +67,8 @@ returns-2 c =
     let next-quote = c .before .before .before .before .next-quote in
     adds-full (now (args .file)) (args .count) (now (args .table)) (loop .table) (loop .n) (loop .at) (loop .inv .3) (next-quote .result) (next-quote .ensures) (c .before .before .seek .given .1) (c .if1 .taken)
 
-one-macro-requires : tie.Need-one-macro-requires Inv-loop μ-loop
-one-macro-requires c κs =
+read-macro-requires : tie.Need-read-macro-requires Inv-loop μ-loop
+read-macro-requires c κs =
     let args = c .before .before .before .before .before .before .before .before .before .before .args in
     let loop = c .before .before .before .before .before .before .loop in
     let next-quote = c .before .before .before .before .before .next-quote in
@@ -88,15 +88,15 @@ same-length-5 : tie.Need-same-length-5 Inv-loop μ-loop
 same-length-5 c = c .before .before .before .before .before .before .before .before .before .before .before .before .loop .inv .1
 
 same-length-6 : tie.Need-same-length-6 Inv-loop μ-loop
-same-length-6 c = c .before .before .before .before .before .one-macro .kept .1 .0 ∙ c .before .before .before .before .before .before .before .before .before .before .before .before .loop .inv .2
+same-length-6 c = c .before .before .before .before .before .read-macro .kept .1 .0 ∙ c .before .before .before .before .before .before .before .before .before .before .before .before .loop .inv .2
 
 returns-3 : tie.Need-returns-3 Inv-loop μ-loop
 returns-3 c =
     let args = c .before .before .before .before .before .before .before .before .before .before .before .before .before .before .before .before .args in
     let loop = c .before .before .before .before .before .before .before .before .before .before .before .before .loop in
     let next-quote = c .before .before .before .before .before .before .before .before .before .before .before .next-quote in
-    let one-macro = c .before .before .before .before .before .one-macro in
-    adds-fault (now (args .file)) (args .count) (now (args .table)) (loop .table) (loop .n) (loop .at) (loop .inv .3) (next-quote .result) (next-quote .ensures) (c .before .before .before .before .before .before .before .before .before .seek .given .1) (loop .scratch) (one-macro .last .1 .0) (one-macro .ensures) (omega (arith, c .before .before .before .before .before .before .before .if1 .left)) (c .before .enum-told .given .1) (c .no-macro .ensures)
+    let read-macro = c .before .before .before .before .before .read-macro in
+    adds-fault (now (args .file)) (args .count) (now (args .table)) (loop .table) (loop .n) (loop .at) (loop .inv .3) (next-quote .result) (next-quote .ensures) (c .before .before .before .before .before .before .before .before .before .seek .given .1) (loop .scratch) (read-macro .last .1 .0) (read-macro .ensures) (omega (arith, c .before .before .before .before .before .before .before .if1 .left)) (c .before .enum-told .given .1) (c .no-macro .ensures)
 
 mul-store : tie.Need-mul-store Inv-loop μ-loop
 mul-store c = omega (arith, c .before .before .before .before .before .before .before .before .if1 .left)
@@ -106,10 +106,10 @@ store-requires c κs =
     let args = c .before .before .before .before .before .before .before .before .before .before .before .before .before .before .before .before .before .before .args in
     let loop = c .before .before .before .before .before .before .before .before .before .before .before .before .before .before .loop in
     let next-quote = c .before .before .before .before .before .before .before .before .before .before .before .before .before .next-quote in
-    let one-macro = c .before .before .before .before .before .before .before .one-macro in
+    let read-macro = c .before .before .before .before .before .before .before .read-macro in
     let pre = c .before .before .before .before .before .before .before .before .before .before .before .before .before .before .before .before .before .before .pre in
-    let m = one-more (now (args .file)) (args .count) (now (args .table)) (loop .table) (loop .n) (loop .at) (loop .inv .3) (next-quote .result) (next-quote .ensures) (c .before .before .before .before .before .before .before .before .before .before .before .seek .given .1) (loop .scratch) (one-macro .last .1 .0) (one-macro .ensures) (c .before .before .before .built .given .1) in
-    (omega (arith, c .before .before .before .before .before .before .before .before .before .if1 .left, loop .inv .1, pre .0), omega (arith, m .fits, one-macro .kept .1 .0, loop .inv .2, pre .1), m .fits, m .few)
+    let m = one-more (now (args .file)) (args .count) (now (args .table)) (loop .table) (loop .n) (loop .at) (loop .inv .3) (next-quote .result) (next-quote .ensures) (c .before .before .before .before .before .before .before .before .before .before .before .seek .given .1) (loop .scratch) (read-macro .last .1 .0) (read-macro .ensures) (c .before .before .before .built .given .1) in
+    (omega (arith, c .before .before .before .before .before .before .before .before .before .if1 .left, loop .inv .1, pre .0), omega (arith, m .fits, read-macro .kept .1 .0, loop .inv .2, pre .1), m .fits, m .few)
 
 add-n : tie.Need-add-n Inv-loop μ-loop
 add-n c = omega (arith, c .before .before .before .before .before .before .before .before .before .before .before .before .if1 .left)
@@ -120,9 +120,9 @@ loop-less c =
     let loop = c .before .before .before .before .before .before .before .before .before .before .before .before .before .before .before .before .before .loop in
     let next-quote = c .before .before .before .before .before .before .before .before .before .before .before .before .before .before .before .before .next-quote in
     let seek = c .before .before .before .before .before .before .before .before .before .before .before .before .before .before .seek in
-    let one-macro = c .before .before .before .before .before .before .before .before .before .before .one-macro in
+    let read-macro = c .before .before .before .before .before .before .before .before .before .before .read-macro in
     let f = at-quote (now (args .file)) (args .count) (now (args .table)) (loop .table) (loop .n) (loop .at) (loop .inv .3) (next-quote .result) (next-quote .ensures) (seek .given .1) in
-    let m = one-more (now (args .file)) (args .count) (now (args .table)) (loop .table) (loop .n) (loop .at) (loop .inv .3) (next-quote .result) (next-quote .ensures) (seek .given .1) (loop .scratch) (one-macro .last .1 .0) (one-macro .ensures) (c .before .before .before .before .before .before .built .given .1) in
+    let m = one-more (now (args .file)) (args .count) (now (args .table)) (loop .table) (loop .n) (loop .at) (loop .inv .3) (next-quote .result) (next-quote .ensures) (seek .given .1) (loop .scratch) (read-macro .last .1 .0) (read-macro .ensures) (c .before .before .before .before .before .before .built .given .1) in
     omega (arith, f .0, m .further, m .reached)
 
 loop-again : tie.Need-loop-again Inv-loop μ-loop
@@ -131,11 +131,11 @@ loop-again c =
     let loop = c .before .before .before .before .before .before .before .before .before .before .before .before .before .before .before .before .before .loop in
     let next-quote = c .before .before .before .before .before .before .before .before .before .before .before .before .before .before .before .before .next-quote in
     let seek = c .before .before .before .before .before .before .before .before .before .before .before .before .before .before .seek in
-    let one-macro = c .before .before .before .before .before .before .before .before .before .before .one-macro in
+    let read-macro = c .before .before .before .before .before .before .before .before .before .before .read-macro in
     let built = c .before .before .before .before .before .before .built in
     let store = c .before .before .store in
-    let m = one-more (now (args .file)) (args .count) (now (args .table)) (loop .table) (loop .n) (loop .at) (loop .inv .3) (next-quote .result) (next-quote .ensures) (seek .given .1) (loop .scratch) (one-macro .last .1 .0) (one-macro .ensures) (built .given .1) in
-    (m .reached, store .kept .0 ∙ loop .inv .1, one-macro .kept .1 .0 ∙ loop .inv .2, adds-more (now (args .file)) (args .count) (now (args .table)) (loop .table) (loop .n) (loop .at) (loop .inv .3) (next-quote .result) (next-quote .ensures) (seek .given .1) (loop .scratch) (one-macro .last .1 .0) (one-macro .ensures) (built .given .1) (store .last .0) (omega (arith, c .before .before .before .before .before .before .before .before .before .before .before .before .if1 .left)) (store .ensures))
+    let m = one-more (now (args .file)) (args .count) (now (args .table)) (loop .table) (loop .n) (loop .at) (loop .inv .3) (next-quote .result) (next-quote .ensures) (seek .given .1) (loop .scratch) (read-macro .last .1 .0) (read-macro .ensures) (built .given .1) in
+    (m .reached, store .kept .0 ∙ loop .inv .1, read-macro .kept .1 .0 ∙ loop .inv .2, adds-more (now (args .file)) (args .count) (now (args .table)) (loop .table) (loop .n) (loop .at) (loop .inv .3) (next-quote .result) (next-quote .ensures) (seek .given .1) (loop .scratch) (read-macro .last .1 .0) (read-macro .ensures) (built .given .1) (store .last .0) (omega (arith, c .before .before .before .before .before .before .before .before .before .before .before .before .if1 .left)) (store .ensures))
 
 pub add-macros-spec : {M : Type 1} → statement M
 add-macros-spec =
@@ -153,7 +153,7 @@ add-macros-spec =
     same-length-3
     same-length-4
     returns-2
-    one-macro-requires
+    read-macro-requires
     enum-known-built
     enum-told
     no-macro-requires

@@ -6,7 +6,7 @@ use types.Run.{OneOf}
 use Rattle.read_pattern.specs.declared.Inside.{Inside}
 use Rattle.read_pattern.specs.declared.Inside.the-variants.{Closed, Quote, Refused as NoInside}
 use Rattle.read_pattern.proofs.Inside.{the-type}
-use Rattle.read_pattern.proofs.Insides.{Unquoted, whole-fault, at-its-quote, whole-empty, whole-pattern}
+use Rattle.read_pattern.proofs.Insides.{Unquoted, whole-fault, at-its-quote, whole-empty, whole-late, whole-pattern}
 use borrow.Author.Needs.{needs}
 use Rattle.read_pattern.proofs.pattern.pieces.Statement.{statement}
 use Rattle.read_pattern.proofs.pattern.pieces.Tie as tie
@@ -36,22 +36,33 @@ returns c =
     let inside = c .before .before .before .before .inside in
     rw (c .whole-fault .ensures) (whole-fault (inside .ensures) (unquoted (inside .result) (c .before .match .keys2)))
 
-add-t12 : tie.Need-add-t12
-add-t12 c =
+sub-if2 : tie.Need-sub-if2
+sub-if2 c =
     let d = at-its-quote (c .before .before .before .before .before .before .inside .ensures) (c .before .before .read .given .1) in
-    omega (arith, d .here .stands .there, (c .before .before .before .before .before .before .before .before .before .before))
+    omega (arith, d .here .stands .behind)
 
 same-length-2 : tie.Need-same-length-2
 same-length-2 c = search needs
 
 returns-2 : tie.Need-returns-2
-returns-2 c = whole-pattern (c .before .before .before .before .before .before .inside .ensures) (c .before .before .read .given .1) (c .if1 .taken)
+returns-2 c = whole-late (c .before .before .before .before .before .before .before .inside .ensures) (c .before .before .before .read .given .1) (c .before .if1 .taken) (c .if2 .taken)
+
+add-t12 : tie.Need-add-t12
+add-t12 c =
+    let d = at-its-quote (c .before .before .before .before .before .before .before .inside .ensures) (c .before .before .before .read .given .1) in
+    omega (arith, d .here .stands .there, (c .before .before .before .before .before .before .before .before .before .before .before))
 
 same-length-3 : tie.Need-same-length-3
 same-length-3 c = search needs
 
 returns-3 : tie.Need-returns-3
-returns-3 c = whole-empty (c .before .before .before .before .before .before .inside .ensures) (c .before .before .read .given .1) (c .if1 .left)
+returns-3 c = whole-pattern (c .before .before .before .before .before .before .before .inside .ensures) (c .before .before .before .read .given .1) (c .before .if1 .taken) (c .if2 .left)
+
+same-length-4 : tie.Need-same-length-4
+same-length-4 c = search needs
+
+returns-4 : tie.Need-returns-4
+returns-4 c = whole-empty (c .before .before .before .before .before .before .inside .ensures) (c .before .before .read .given .1) (c .if1 .left)
 
 pub pieces-spec : {M : Type 1} → statement M
 pieces-spec =
@@ -63,8 +74,11 @@ pieces-spec =
     whole-fault-requires
     same-length
     returns
-    add-t12
+    sub-if2
     same-length-2
     returns-2
+    add-t12
     same-length-3
-    returns-3)
+    returns-3
+    same-length-4
+    returns-4)
