@@ -15,7 +15,7 @@ use Rattle.macros.specs.Refusals.Refusal.{ofWork}
 use Rattle.macros.specs.Macro.{Table}
 use Rattle.macros.specs.Formed.{Bytes}
 use Rattle.lines.specs.State.{State}
-use Rattle.lines.specs.Line.{Ending, Line, passesOf, hadOccurrence, ending, lineOf}
+use Rattle.lines.specs.Line.{Sent, Ending, Line, passesOf, hadOccurrence, ending, lineOf}
 use Rattle.lines.specs.Line.Ending.{done}
 use Rattle.lines.specs.Feeding.{Kind, Answer, orderOf, kindOfDone, refusal, outputOf, ofOrder, answered, answer, hasBadByte}
 use Rattle.lines.specs.Feeding.{feed as fed}
@@ -23,7 +23,7 @@ use Rattle.lines.specs.Feeding.Kind.{out, withheld}
 use Rattle.lines.specs.Feeding.Order.{wrong}
 use Rattle.lines.proofs.KeepBytes.{bytes-append}
 use Rattle.form_state.specs.Access.{Holds, OfState}
-use Rattle.line_memory.specs.Memory.{IsTable, Counted, padded}
+use Rattle.line_memory.specs.Memory.{Memories, Feeding, IsTable, Counted, padded}
 use Rattle.line_memory.proofs.Copying.{padded-whole}
 use Rattle.line_control.specs.Contract.{Orders}
 use Rattle.line_control.specs.Contract.{refusalOf as controlRefusal}
@@ -31,7 +31,7 @@ use Rattle.line_control.specs.declared.Why.{Why as ControlWhy}
 use Rattle.line_control.specs.declared.Why.the-variants.{BadControl, InMacro}
 use Rattle.line_control.specs.declared.Order.{Order as Obeyed}
 use Rattle.line_control.specs.declared.Order.the-variants.{Taken, Wrong}
-use Rattle.line_passes.specs.Contract.{Started, Comes, Left, LineLeft, Runs}
+use Rattle.line_passes.specs.Contract.{Run, Left, Started, Comes, Lies, LineLeft, Runs}
 use Rattle.line_passes.specs.Contract.{refusalOf as workRefusal}
 use Rattle.line_passes.specs.declared.Why.{Why as WorkWhy}
 use Rattle.line_passes.specs.declared.Why.the-variants.{BudgetUsedUp, AtWork}
@@ -150,78 +150,91 @@ why-work (AtWork f) = refl
 
 -- CONTROL LINES
 
-module _ {tb tb′ : List ℕ} {count : ℕ} {b z z′ t : List ℕ} {r : Obeyed} (x : Orders tb tb′ z z′ count t r) where
-  pub rule-taken : r ≡ Taken → {b′ o o′ : List ℕ} → b′ ≡ keptBy r z′ b → length o ≡ mostLineBytes → o′ ≡ padded (take 0 t) (length o) → (p : ℕ)
-      → Rules tb tb′ count b b′ o o′ z t p (Control p)
+module _ {m : Memories} {tb′ : List ℕ} {count : ℕ} {left : Left} {z′ : List ℕ} {r : Obeyed} (x : Orders (m .table) tb′ (left .state) z′ count (left .text) r) where
+  pub rule-taken : r ≡ Taken → {b′ o′ : List ℕ} → b′ ≡ keptBy r z′ (m .state) → length (m .output) ≡ mostLineBytes → o′ ≡ padded (take 0 (left .text)) (length (m .output)) → (p : ℕ)
+      → Rules m (record { table = tb′; state = b′; output = o′ }) count left p (Control p)
   unfolding ofOrder laidOut outputOf
-  rule-taken e {b′} {o} {o′} d m f p =
-      let x₂ : Orders tb tb′ z z′ count t Taken = rw e at x in
+  rule-taken e {b′} {o′} d y f p =
+      let x₂ : Orders (m .table) tb′ (left .state) z′ count (left .text) Taken = rw e at x in
       record {
         answers = λ ms h c old st ho hs.
             let v = x₂ .obeys ms h c st hs in
-            subst (λ (a : Answer). Answers a tb′ b′ o o′ (Control p)) (sym (ap (ofOrder ms old p) (v .2)))
-            (record { kind = refl; passes = refl; size = refl; table = v .3; state = subst (λ (j : List ℕ). Holds j (v .1)) (sym (d ∙ ap (λ (j : Obeyed). keptBy j z′ b) e)) (v .4); output = no-output t o o′ m f });
+            subst (λ (a : Answer). Answers a m (record { table = tb′; state = b′; output = o′ }) (Control p)) (sym (ap (ofOrder ms old p) (v .2)))
+            (record {
+              kind = refl;
+              passes = refl;
+              size = refl;
+              table = v .3;
+              state = subst (λ (j : List ℕ). Holds j (v .1)) (sym (d ∙ ap (λ (j : Obeyed). keptBy j z′ (m .state)) e)) (v .4);
+              output = no-output (left .text) (m .output) o′ y f;
+            });
       }
 
-  pub rule-wrong : {w : ControlWhy} → r ≡ Wrong w → {v : Why} → v ≡ controlWhy w → {b′ : List ℕ} → b′ ≡ keptBy r z′ b → (o : List ℕ) (p : ℕ) → Rules tb tb′ count b b′ o o z t p (Refused v p)
+  pub rule-wrong : {w : ControlWhy} → r ≡ Wrong w → {v : Why} → v ≡ controlWhy w → {b′ : List ℕ} → b′ ≡ keptBy r z′ (m .state) → (p : ℕ)
+      → Rules m (record { table = tb′; state = b′; output = m .output }) count left p (Refused v p)
   unfolding ofOrder refusal laidOut outputOf
-  rule-wrong {w} e {v} g {b′} d o p =
-      let x₂ : Orders tb tb′ z z′ count t (Wrong w) = rw e at x in
+  rule-wrong {w} e {v} g {b′} d p =
+      let x₂ : Orders (m .table) tb′ (left .state) z′ count (left .text) (Wrong w) = rw e at x in
       let q : controlRefusal w ≡ refusalOf v = sym (why-control w) ∙ ap refusalOf (sym g) in
       record {
         answers = λ ms h c old st ho hs.
             let u = x₂ .obeys ms h c st hs in
-            subst (λ (a : Answer). Answers a tb′ b′ o o (Refused v p)) (sym (ap (ofOrder ms old p) (u .0 ∙ ap wrong q)))
+            subst (λ (a : Answer). Answers a m (record { table = tb′; state = b′; output = m .output }) (Refused v p)) (sym (ap (ofOrder ms old p) (u .0 ∙ ap wrong q)))
             (record {
               kind = refl;
               passes = refl;
               size = refl;
               table = subst (λ (j : List ℕ). IsTable j ms) (sym (u .1)) h;
-              state = subst (λ (j : List ℕ). Holds j old) (sym (d ∙ ap (λ (j : Obeyed). keptBy j z′ b) e)) ho;
+              state = subst (λ (j : List ℕ). Holds j old) (sym (d ∙ ap (λ (j : Obeyed). keptBy j z′ (m .state)) e)) ho;
               output = refl;
             });
       }
 
 -- A LINE
 
-answer-as : (ms : Table) (st : State) (l : Line) {p : ℕ} {e : Ending} → length (passesOf l) ≡ p → ending l ≡ e → answer ms st l ≡ answered ms st p (hadOccurrence l) e
+answer-as : (ms : Table) (st : State) (l : Line) {p : ℕ} {e : Ending} → length (passesOf l) ≡ p → ending l ≡ e → answer ms st l ≡ answered ms st p (hadOccurrence (passesOf l)) e
 unfolding answer
 answer-as ms st l q f = rw (q, f) refl
 
-module _ {tb b z tx : List ℕ} {count : ℕ} {r : Ended} where
-  module _ {o₁ : List ℕ} (y : Replying tb count b o₁ z tx r) where
-    finished : {k : ℕ} → LineLeft z tx k → Finished b o₁ z (take k tx)
-    finished {k} l = record { state = y .state; output = y .output; after = l .state; short = omega (arith, length-take-le k tx (omega (arith, l .size, y .text)), l .size) }
+-- the line of k bytes that is left
+abbrev lineLeft : Left → ℕ → Left
+lineLeft left k = record { state = left .state; text = take k (left .text) }
+
+module _ {m : Memories} {count : ℕ} {left : Left} {r : Ended} where
+  module _ (y : Replying m count left r) where
+    finished : {k : ℕ} → LineLeft left k → Finished (m .state) (m .output) (left .state) (take k (left .text))
+    finished {k} l = record { state = y .state; output = y .output; after = l .state; short = omega (arith, length-take-le k (left .text) (omega (arith, l .size, y .text)), l .size) }
 
     module _ {k p : ℕ} {o : Bool} (e : r ≡ Done k o p) where
-      done-left : LineLeft z tx k
-      done-left = subst (Left z tx) e (y .left)
+      done-left : LineLeft left k
+      done-left = subst (Lies left) e (y .lies)
 
-      pub done-size : k ≤ length tx
+      pub done-size : k ≤ length (left .text)
       done-size = omega (arith, done-left .size, y .text)
 
-      pub done-finished : Finished b o₁ z (take k tx)
+      pub done-finished : Finished (m .state) (m .output) (left .state) (take k (left .text))
       done-finished = finished done-left
 
     module _ {k p : ℕ} (e : r ≡ AtControl k p) where
-      control-left : LineLeft z tx k
-      control-left = subst (Left z tx) e (y .left)
+      control-left : LineLeft left k
+      control-left = subst (Lies left) e (y .lies)
 
-      pub control-size : k ≤ length tx
+      pub control-size : k ≤ length (left .text)
       control-size = omega (arith, control-left .size, y .text)
 
-      pub control-ruling : Ruling tb count b o₁ z (take k tx)
+      pub control-ruling : Ruling m count (lineLeft left k)
       control-ruling = record { table = y .table; ends = finished control-left; bytes = control-left .bytes }
 
-  pub reply-done : {k p : ℕ} {o : Bool} → r ≡ Done k o p → {b′ o₁ o′ : List ℕ} {a : Fed} → GoesOut b′ o₁ o′ z (take k tx) o p a → Replies tb tb count b b′ o₁ o′ z tx r a
+  pub reply-done : {k p : ℕ} {o : Bool} → r ≡ Done k o p → {b′ o′ : List ℕ} {a : Fed} → GoesOut b′ (m .output) o′ (left .state) (take k (left .text)) o p a
+      → Replies m (record { table = m .table; state = b′; output = o′ }) count left r a
   unfolding answered
-  reply-done {k} {p} {o} e {b′} {o₁} {o′} {a} g =
+  reply-done {k} {p} {o} e {b′} {o′} {a} g =
       record {
         answers = λ ms h l old hb whole c₀.
-            let c : Comes whole z tx (Done k o p) = subst (Comes whole z tx) e c₀ in
-            let q : answer ms old whole ≡ answered ms old p o (done (take k tx) (c .state)) =
-            answer-as ms old whole (c .count) (c .ends) ∙ ap (λ (j : Bool). answered ms old p j (done (take k tx) (c .state))) (c .occurs) in
-            subst (λ (j : Answer). Answers j tb b′ o₁ o′ a) (sym q)
+            let c : Comes whole left (Done k o p) = subst (Comes whole left) e c₀ in
+            let q : answer ms old whole ≡ answered ms old p o (done (take k (left .text)) (c .state)) =
+            answer-as ms old whole (c .count) (c .ends) ∙ ap (λ (j : Bool). answered ms old p j (done (take k (left .text)) (c .state))) (c .occurs) in
+            subst (λ (j : Answer). Answers j m (record { table = m .table; state = b′; output = o′ }) a) (sym q)
             (record {
               kind = g .kind (c .state) (c .holds);
               passes = sym (g .passes);
@@ -232,69 +245,81 @@ module _ {tb b z tx : List ℕ} {count : ℕ} {r : Ended} where
             });
       }
 
-  pub reply-ruled : {k p : ℕ} → r ≡ AtControl k p → {tb′ b′ o₁ o′ : List ℕ} {a : Fed} → Rules tb tb′ count b b′ o₁ o′ z (take k tx) p a → Replies tb tb′ count b b′ o₁ o′ z tx r a
+  pub reply-ruled : {k p : ℕ} → r ≡ AtControl k p → {m′ : Memories} {a : Fed} → Rules m m′ count (lineLeft left k) p a → Replies m m′ count left r a
   unfolding answered
-  reply-ruled {k} {p} e {tb′} {b′} {o₁} {o′} {a} g =
+  reply-ruled {k} {p} e {m′} {a} g =
       record {
         answers = λ ms h l old hb whole c₀.
-            let c : Comes whole z tx (AtControl k p) = subst (Comes whole z tx) e c₀ in
-            let q : answer ms old whole ≡ ofOrder ms old p (orderOf ms (c .state) (take k tx)) = answer-as ms old whole (c .count) (c .ends) in
-            subst (λ (j : Answer). Answers j tb′ b′ o₁ o′ a) (sym q) (g .answers ms h l old (c .state) hb (c .holds));
+            let c : Comes whole left (AtControl k p) = subst (Comes whole left) e c₀ in
+            let q : answer ms old whole ≡ ofOrder ms old p (orderOf ms (c .state) (take k (left .text))) = answer-as ms old whole (c .count) (c .ends) in
+            subst (λ (j : Answer). Answers j m m′ a) (sym q) (g .answers ms h l old (c .state) hb (c .holds));
       }
 
-  pub reply-refused : {w : WorkWhy} {p : ℕ} → r ≡ AtRefusal w p → {v : Why} → v ≡ workWhy w → (o : List ℕ) → Replies tb tb count b b o o z tx r (Refused v p)
+  pub reply-refused : {w : WorkWhy} {p : ℕ} → r ≡ AtRefusal w p → {v : Why} → v ≡ workWhy w → Replies m m count left r (Refused v p)
   unfolding answered refusal laidOut outputOf
-  reply-refused {w} {p} e {v} g o =
+  reply-refused {w} {p} e {v} g =
       let i : ofWork (workRefusal w) ≡ refusalOf v = sym (why-work w) ∙ ap refusalOf (sym g) in
       record {
         answers = λ ms h l old hb whole c₀.
-            let c : Comes whole z tx (AtRefusal w p) = subst (Comes whole z tx) e c₀ in
+            let c : Comes whole left (AtRefusal w p) = subst (Comes whole left) e c₀ in
             let q : answer ms old whole ≡ refusal ms old p (ofWork (workRefusal w)) = answer-as ms old whole (c .count) (c .ends) in
-            subst (λ (j : Answer). Answers j tb b o o (Refused v p)) (sym (q ∙ ap (refusal ms old p) i))
+            subst (λ (j : Answer). Answers j m m (Refused v p)) (sym (q ∙ ap (refusal ms old p) i))
             (record { kind = refl; passes = refl; size = refl; table = h; state = hb; output = refl });
       }
 
 -- FROM ITS START
 
-module _ {tb b o t : List ℕ} {count : ℕ} (y : Lent tb b o) (f : Fits t) (cs : Counts tb count) where
-  counted : Counted tb count
-  counted = record { macros = y .table .0; isTable = y .table .1; counted = cs .each (y .table .0) (y .table .1) }
+counted : {m : Memories} {count : ℕ} → Lent m → Counts (m .table) count → Counted (m .table) count
+counted y cs = record { macros = y .table .0; isTable = y .table .1; counted = cs .each (y .table .0) (y .table .1) }
 
-  pub started : Started tb count b t (replicate 26236 0) (replicate 1054 0)
+module _ (sent : Sent) {m : Memories} {count : ℕ} (y : Lent m) (f : Fits (sent .line)) (cs : Counts (m .table) count) where
+  abbrev run : Run
+  run = record { table = m .table; count = count; state = m .state; sent = sent }
+
+  pub started : Started run (record { state = replicate 26236 0; text = replicate 1054 0 })
   started =
-      record { table = counted; state = y .state; short = f .short; bytes = f .bytes; after = length-replicate {A = ℕ} 26236 0; text = length-replicate {A = ℕ} 1054 0 }
+      record { table = counted y cs; state = y .state; short = f .short; bytes = f .bytes; after = length-replicate {A = ℕ} 26236 0; text = length-replicate {A = ℕ} 1054 0 }
 
-  module _ {budget : ℕ} {z tx : List ℕ} {r : Ended} (x : Runs tb count b t budget z tx r) where
-    pub replying : length tx ≡ 1054 → Replying tb count b o z tx r
-    replying l = record { table = counted; state = state-length (y .state); output = y .room; text = l; left = x .left }
+  module _ {left : Left} {r : Ended} (x : Runs run left r) where
+    pub replying : length (left .text) ≡ 1054 → Replying m count left r
+    replying l = record { table = counted y cs; state = state-length (y .state); output = y .room; text = l; lies = x .runs .lies }
 
-    pub taken : {tb′ b′ o′ : List ℕ} {a : Fed} → Replies tb tb′ count b b′ o o′ z tx r a → Takes tb tb′ b b′ budget t o o′ a
-    taken g = record { answers = λ ms h st hb. g .answers ms h (cs .each ms h) st hb (lineOf ms st budget t) (x .comes ms h (cs .each ms h) st hb) }
+    pub taken : {m′ : Memories} {a : Fed} → Replies m m′ count left r a → Takes (record { sent = sent; lent = m; left = m′ }) a
+    taken g = record { answers = λ ms h st hb. g .answers ms h (cs .each ms h) st hb (lineOf ms st sent) (x .runs .comes ms h (cs .each ms h) st hb) }
 
 -- FEEDING
 
-module _ (tb b o : List ℕ) (budget : ℕ) (t : List ℕ) where
-  refused-first : (w : Why) → ((ms : Table) (st : State) → fed ms st budget t ≡ refusal ms st 0 (refusalOf w)) → Feeds tb tb b b budget t o o (Refused w 0)
+module _ (m : Memories) (sent : Sent) where
+  abbrev same : Feeding
+  same = record { sent = sent; lent = m; left = m }
+
+  refused-first : (w : Why) → ((ms : Table) (st : State) → fed ms st sent ≡ refusal ms st 0 (refusalOf w)) → Feeds same (Refused w 0)
   unfolding refusal laidOut outputOf
-  refused-first w q ms h st hb =
-      subst (λ (j : Answer). Answers j tb b o o (Refused w 0)) (sym (q ms st)) (record { kind = refl; passes = refl; size = refl; table = h; state = hb; output = refl })
+  refused-first w q =
+      record {
+        answers = λ ms h st hb.
+            subst (λ (j : Answer). Answers j m m (Refused w 0)) (sym (q ms st)) (record { kind = refl; passes = refl; size = refl; table = h; state = hb; output = refl });
+      }
 
-  pub feeds-budget : 1000000 < budget → Feeds tb tb b b budget t o o (Refused BudgetTooLarge 0)
+  pub feeds-budget : 1000000 < sent .budget → Feeds same (Refused BudgetTooLarge 0)
   unfolding fed
-  feeds-budget h = refused-first BudgetTooLarge (λ ms st. rw (fed, lt-leb budget mostBudget h) refl)
+  feeds-budget h = refused-first BudgetTooLarge (λ ms st. rw (fed, lt-leb (sent .budget) mostBudget h) refl)
 
-  module _ (h : budget ≤ 1000000) where
-    pub feeds-long : 1054 < length t → Feeds tb tb b b budget t o o (Refused LineTooLong 0)
+  module _ (h : sent .budget ≤ 1000000) where
+    pub feeds-long : 1054 < length (sent .line) → Feeds same (Refused LineTooLong 0)
     unfolding fed
-    feeds-long l = refused-first LineTooLong (λ ms st. rw (fed, le-leb budget mostBudget h, lt-leb (length t) mostLineBytes l) refl)
+    feeds-long l = refused-first LineTooLong (λ ms st. rw (fed, le-leb (sent .budget) mostBudget h, lt-leb (length (sent .line)) mostLineBytes l) refl)
 
-    module _ (l : length t ≤ 1054) where
-      pub feeds-byte : hasBadByte t ≡ true → Feeds tb tb b b budget t o o (Refused BadByte 0)
+    module _ (l : length (sent .line) ≤ 1054) where
+      pub feeds-byte : hasBadByte (sent .line) ≡ true → Feeds same (Refused BadByte 0)
       unfolding fed
-      feeds-byte x = refused-first BadByte (λ ms st. rw (fed, le-leb budget mostBudget h, le-leb (length t) mostLineBytes l, x) refl)
+      feeds-byte x = refused-first BadByte (λ ms st. rw (fed, le-leb (sent .budget) mostBudget h, le-leb (length (sent .line)) mostLineBytes l, x) refl)
 
-      pub feeds-taken : hasBadByte t ≡ false → {tb′ b′ o′ : List ℕ} {a : Fed} → Takes tb tb′ b b′ budget t o o′ a → Feeds tb tb′ b b′ budget t o o′ a
+      pub feeds-taken : hasBadByte (sent .line) ≡ false → {m′ : Memories} {a : Fed} → Takes (record { sent = sent; lent = m; left = m′ }) a → Feeds (record { sent = sent; lent = m; left = m′ }) a
       unfolding fed
-      feeds-taken x {tb′} {b′} {o′} {a} g ms k st hb =
-          let q : fed ms st budget t ≡ answer ms st (lineOf ms st budget t) = rw (fed, le-leb budget mostBudget h, le-leb (length t) mostLineBytes l, x) refl in
-          subst (λ (j : Answer). Answers j tb′ b′ o o′ a) (sym q) (g .answers ms k st hb)
+      feeds-taken x {m′} {a} g =
+          record {
+            answers = λ ms k st hb.
+                let q : fed ms st sent ≡ answer ms st (lineOf ms st sent) = rw (fed, le-leb (sent .budget) mostBudget h, le-leb (length (sent .line)) mostLineBytes l, x) refl in
+                subst (λ (j : Answer). Answers j m m′ a) (sym q) (g .answers ms k st hb);
+          }

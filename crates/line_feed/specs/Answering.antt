@@ -12,12 +12,12 @@ use Rattle.lines.specs.Line.{Line, lineOf}
 use Rattle.lines.specs.Feeding.{orderOf, outputOf, kindOfDone, ofOrder, answer, hasBadByte}
 use Rattle.form_state.specs.Form.{stateBytes}
 use Rattle.form_state.specs.Access.{Holds, IsState}
-use Rattle.line_memory.specs.Memory.{IsTable, Counted}
+use Rattle.line_memory.specs.Memory.{Memories, Feeding, IsTable, Counted}
 use Rattle.line_control.specs.declared.Order.{Order}
 use Rattle.line_control.specs.declared.Order.the-variants.{Taken, Wrong}
 use Rattle.line_control.specs.declared.Why.{Why as ControlWhy}
 use Rattle.line_control.specs.declared.Why.the-variants.{BadControl, InMacro}
-use Rattle.line_passes.specs.Contract.{Comes, Left}
+use Rattle.line_passes.specs.Contract.{Left, Comes, Lies}
 use Rattle.line_passes.specs.declared.Ended.{Ended}
 use Rattle.line_passes.specs.declared.Why.{Why as WorkWhy}
 use Rattle.line_passes.specs.declared.Why.the-variants.{BudgetUsedUp, AtWork}
@@ -83,29 +83,30 @@ abbrev pub keptBy : Order → List ℕ → List ℕ → List ℕ
 keptBy Taken z b = z
 keptBy (Wrong w) z b = b
 
--- the same of a control line
-pub record Ruling (tb : List ℕ) (count : ℕ) (b o z t : List ℕ) : Type 0 where
-  pub table : Counted tb count
-  pub ends : Finished b o z t
-  pub bytes : Bytes t
+-- what is lent at a control line: of the passes the state is left, and the control line
+pub record Ruling (m : Memories) (count : ℕ) (left : Left) : Type 0 where
+  pub table : Counted (m .table) count
+  pub ends : Finished (m .state) (m .output) (left .state) (left .text)
+  pub bytes : Bytes (left .text)
 
-pub record Rules (tb tb′ : List ℕ) (count : ℕ) (b b′ o o′ z t : List ℕ) (p : ℕ) (r : Fed) : Type 0 where
-  pub answers : (ms : Table) → IsTable tb ms → length ms ≡ count → (old st : State) → Holds b old → Holds z st
-      → Answers (ofOrder ms old p (orderOf ms st t)) tb′ b′ o o′ r
+pub record Rules (m m′ : Memories) (count : ℕ) (left : Left) (p : ℕ) (r : Fed) : Type 0 where
+  pub answers : (ms : Table) → IsTable (m .table) ms → length ms ≡ count → (old st : State) → Holds (m .state) old → Holds (left .state) st
+      → Answers (ofOrder ms old p (orderOf ms st (left .text))) m m′ r
 
--- what is lent when the passes are over: z is the state, and tx holds the line
-pub record Replying (tb : List ℕ) (count : ℕ) (b o z tx : List ℕ) (e : Ended) : Type 0 where
-  pub table : Counted tb count
-  pub state : length b ≡ stateBytes
-  pub output : length o ≡ mostLineBytes
-  pub text : length tx ≡ mostLineBytes
-  pub left : Left z tx e
+-- what is lent when the passes are over: of them the state is left, and the memory that holds the line
+pub record Replying (m : Memories) (count : ℕ) (left : Left) (e : Ended) : Type 0 where
+  pub table : Counted (m .table) count
+  pub state : length (m .state) ≡ stateBytes
+  pub output : length (m .output) ≡ mostLineBytes
+  pub text : length (left .text) ≡ mostLineBytes
+  pub lies : Lies left e
 
 -- the answer of every line that ends so
-pub record Replies (tb tb′ : List ℕ) (count : ℕ) (b b′ o o′ z tx : List ℕ) (e : Ended) (r : Fed) : Type 0 where
-  pub answers : (ms : Table) → IsTable tb ms → length ms ≡ count → (old : State) → Holds b old → (whole : Line) → Comes whole z tx e
-      → Answers (answer ms old whole) tb′ b′ o o′ r
+pub record Replies (m m′ : Memories) (count : ℕ) (left : Left) (e : Ended) (r : Fed) : Type 0 where
+  pub answers : (ms : Table) → IsTable (m .table) ms → length ms ≡ count → (old : State) → Holds (m .state) old → (whole : Line) → Comes whole left e
+      → Answers (answer ms old whole) m m′ r
 
 -- a line that is fed and not refused before its passes
-pub record Takes (tb tb′ b b′ : List ℕ) (budget : ℕ) (t o o′ : List ℕ) (r : Fed) : Type 0 where
-  pub answers : (ms : Table) → IsTable tb ms → (st : State) → Holds b st → Answers (answer ms st (lineOf ms st budget t)) tb′ b′ o o′ r
+pub record Takes (f : Feeding) (r : Fed) : Type 0 where
+  pub answers : (ms : Table) → IsTable (f .lent .table) ms → (st : State) → Holds (f .lent .state) st
+      → Answers (answer ms st (lineOf ms st (f .sent))) (f .lent) (f .left) r

@@ -99,8 +99,8 @@ fn ruled(
     line: &[u8],
     begun: usize,
 ) -> Fed
-    requires { ⌜ Ruling (now table) count (now state) (now output) (now after) (now line) ⌝ }
-    ensures { λ r. ⌜ Rules (now (table .entry)) (now (table .exit)) count (now (state .entry)) (now (state .exit)) (now (output .entry)) (now (output .exit)) (now (after .entry)) (now (line .entry)) begun r ⌝ }
+    requires { ⌜ Ruling (record { table = now table; state = now state; output = now output }) count (record { state = now after; text = now line }) ⌝ }
+    ensures { λ r. ⌜ Rules (record { table = now (table .entry); state = now (state .entry); output = now (output .entry) }) (record { table = now (table .exit); state = now (state .exit); output = now (output .exit) }) count (record { state = now (after .entry); text = now (line .entry) }) begun r ⌝ }
 {
     let order = control(table, count, after, line);
     keep(state, after, order);
@@ -121,8 +121,8 @@ fn reply(
     text: &[u8],
     ended: Ended,
 ) -> Fed
-    requires { ⌜ Replying (now table) count (now state) (now output) (now after) (now text) ended ⌝ }
-    ensures { λ r. ⌜ Replies (now (table .entry)) (now (table .exit)) count (now (state .entry)) (now (state .exit)) (now (output .entry)) (now (output .exit)) (now (after .entry)) (now (text .entry)) ended r ⌝ }
+    requires { ⌜ Replying (record { table = now table; state = now state; output = now output }) count (record { state = now after; text = now text }) ended ⌝ }
+    ensures { λ r. ⌜ Replies (record { table = now (table .entry); state = now (state .entry); output = now (output .entry) }) (record { table = now (table .exit); state = now (state .exit); output = now (output .exit) }) count (record { state = now (after .entry); text = now (text .entry) }) ended r ⌝ }
 {
     match ended {
         Ended::Done(n, occurred, begun) => {
@@ -145,8 +145,8 @@ pub(crate) fn take_line(
     budget: usize,
     output: &mut [u8],
 ) -> Fed
-    requires { ⌜ Lent (now table) (now state) (now output) × Fits (now line) ⌝ }
-    ensures { λ r. ⌜ Takes (now (table .entry)) (now (table .exit)) (now (state .entry)) (now (state .exit)) budget (now (line .entry)) (now (output .entry)) (now (output .exit)) r ⌝ }
+    requires { ⌜ Lent (record { table = now table; state = now state; output = now output }) × Fits (now line) ⌝ }
+    ensures { λ r. ⌜ Takes (record { sent = record { line = now (line .entry); budget = budget }; lent = record { table = now (table .entry); state = now (state .entry); output = now (output .entry) }; left = record { table = now (table .exit); state = now (state .exit); output = now (output .exit) } }) r ⌝ }
 {
     let mut after = [0u8; 26236];
     let mut text = [0u8; 1054];

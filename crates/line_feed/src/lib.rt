@@ -27,8 +27,8 @@ fn has_bad_byte(line: &[u8]) -> bool
 
 // Feeds a line to a table and a state. A refusal leaves table, state and output as they were.
 pub fn feed(table: &mut [u8], state: &mut [u8], line: &[u8], budget: u32, output: &mut [u8]) -> Fed
-    requires { ⌜ Lent (now table) (now state) (now output) ⌝ }
-    ensures { λ r. ⌜ Feeds (now (table .entry)) (now (table .exit)) (now (state .entry)) (now (state .exit)) budget (now (line .entry)) (now (output .entry)) (now (output .exit)) r ⌝ }
+    requires { ⌜ Lent (record { table = now table; state = now state; output = now output }) ⌝ }
+    ensures { λ r. ⌜ Feeds (record { sent = record { line = now (line .entry); budget = budget }; lent = record { table = now (table .entry); state = now (state .entry); output = now (output .entry) }; left = record { table = now (table .exit); state = now (state .exit); output = now (output .exit) } }) r ⌝ }
 {
     if 1000000 < budget {
         return Fed::Refused(Why::BudgetTooLarge, 0);

@@ -1,4 +1,4 @@
--- What the memories of a line hold: a table, and a text with zeros behind it.
+-- The memories of a line, and what they hold: a table, and a text with zeros behind it.
 use Prim.Native.Nat.{ℕ, _-_}
 use mathlib.Core.Path.{_≡_}
 use mathlib.Core.List.{List, _++_}
@@ -6,6 +6,19 @@ use lib.ListN.{length, replicate}
 use Rattle.macros.specs.Macro.{Table}
 use Rattle.macros.specs.Accepted.{Accepted}
 use Rattle.form_table.specs.Form.{form}
+use Rattle.lines.specs.Line.{Sent}
+
+-- the memories of a line's answer: the table's, the state's and the output's
+pub record Memories : Type 0 where
+  pub table : List ℕ
+  pub state : List ℕ
+  pub output : List ℕ
+
+-- A LINE THAT IS FED: what is sent, and the memories as they are lent and as they are left
+pub record Feeding : Type 0 where
+  pub sent : Sent
+  pub lent : Memories
+  pub left : Memories
 
 -- the bytes are the form of the accepted table ms; no other table has that form, by the law OneForm of crates/form_table
 pub record IsTable (table : List ℕ) (ms : Table) : Type 0 where

@@ -3,11 +3,10 @@
 use Prim.Native.Nat.{ℕ, zero, suc, _+_, _-_, _*_, _≤_, _<_}
 use mathlib.Core.Path.{_≡_, refl, ap, sym, _∙_, subst}
 use mathlib.Core.Bool.{Bool, true, false, _||_, false≢true}
-use mathlib.Core.List.{List, [], _∷_}
+use mathlib.Core.List.{List, [], _∷_, _++_, append-nil}
 use mathlib.Core.Option.{none}
-use native.Mathlib.Nat.{add-zero, zero-add}
 use native.Mathlib.Omega.{arith}
-use lib.ListN.{length, getD, take}
+use lib.ListN.{length, getD, take, length-append}
 use Rattle.macros.specs.Refusals.{WorkRefusal}
 use Rattle.macros.specs.Refusals.WorkRefusal.{budgetUsedUp}
 use Rattle.macros.specs.Macro.{Macro, Table}
@@ -18,10 +17,11 @@ use Rattle.lines.specs.Replacing.{Work, Done}
 use Rattle.lines.specs.Replacing.Done.{bad, good}
 use Rattle.lines.specs.Pass.{Walk, pass, occurred, outcome}
 use Rattle.lines.specs.Pass.Walk.{ended as walkEnded, occurs}
-use Rattle.lines.specs.Line.{Numbered, Pass, Line, isControl, newestFirst, closedBy, due, follow, afterPass, textOf, passes, passesOf, hadOccurrence, ending}
+use Rattle.lines.specs.Line.{Numbered, Pass, Ending, Line, isControl, closedBy, textOf, passes, passesOf, hadOccurrence, ending, passesThen}
 use Rattle.lines.specs.Line.Line.{ended, passed}
 use Rattle.lines.specs.Line.Ending.{refused, done, control}
 use Rattle.lines.specs.Demand.{Walks}
+use Rattle.lines.proofs.NextLaws.{to-control, to-done, to-used, to-refused, to-next, to-again, then-one, then-ending, then-passes, occurrence-one}
 use Rattle.lines.proofs.PassLaws.{pass-walks}
 use Rattle.lines.proofs.KeepBytes.{bytes-onto}
 use Rattle.lines.proofs.KeepWork.{Sound, SoundDone}
@@ -29,7 +29,7 @@ use Rattle.lines.proofs.KeepPass.{pass-sound}
 use Rattle.form_state.specs.Access.{Holds}
 use Rattle.line_memory.specs.Memory.{IsTable}
 use Rattle.line_passes.specs.Contract.{IsDone, IsControl, IsRefused}
-use Rattle.line_passes.specs.Passing.{dueBelow, Closes, closedFlags, OpenBelow, After, Stands}
+use Rattle.line_passes.specs.Passing.{dueBelow, Closes, closedFlags, OpenBelow, Given, Memories, Stands, leftOf}
 use Rattle.line_passes.specs.declared.Stand.{Stand}
 use Rattle.line_memory.proofs.Slotting.{SlotAt}
 use Rattle.line_passes.proofs.Closing.{due-all, none-due, first-due, closes-more}
@@ -51,146 +51,143 @@ module _ (m : Macro) (t : List ℕ) (st : State) (v : Work) (e : outcome (pass m
   unfolding textOf
   new-bytes f c g = let s : Sound v = subst SoundDone e (pass-sound m t st f c g) in bytes-onto (v .out) [] (s .bytes) tt
 
--- THE DEFINITION, step by step
-
-module _ (ms : Table) (closed : List ℕ) (st : State) (t : List ℕ) where
-  to-control : (n : ℕ) (todo : List Numbered) → isControl t ≡ true → passes ms n closed todo st t ≡ ended (control t st)
-  unfolding passes due
-  to-control zero todo c = rw c refl
-  to-control (suc n) todo c = rw c refl
-
-  to-done : (n : ℕ) → isControl t ≡ false → passes ms n closed [] st t ≡ ended (done t st)
-  unfolding passes due
-  to-done zero c = rw c refl
-  to-done (suc n) c = rw c refl
-
-  module _ (e : Numbered) (es : List Numbered) (c : isControl t ≡ false) where
-    to-used : passes ms zero closed (e ∷ es) st t ≡ ended (refused budgetUsedUp)
-    unfolding passes due
-    to-used = rw c refl
-
-    events : Pass
-    events = record { which = e; text = t; state = st; events = pass (e .macro) t st }
-
-    to-refused : (n : ℕ) (r : WorkRefusal) (v : Work) → outcome (pass (e .macro) t st) ≡ bad r v → passes ms (suc n) closed (e ∷ es) st t ≡ passed events (ended (refused r))
-    unfolding passes due afterPass follow events
-    to-refused n r v x = rw (c, x) refl
-
-    to-next : (n : ℕ) (v : Work) → outcome (pass (e .macro) t st) ≡ good v → occurred (pass (e .macro) t st) ≡ false → passes ms (suc n) closed (e ∷ es) st t ≡ passed events (passes ms n closed es st t)
-    unfolding passes due afterPass follow events
-    to-next n v x o = rw (c, x, o) refl
-
-    to-again : (n : ℕ) (v : Work) → outcome (pass (e .macro) t st) ≡ good v → occurred (pass (e .macro) t st) ≡ true
-        → passes ms (suc n) closed (e ∷ es) st t ≡ passed events (passes ms n (closedBy e closed) (newestFirst (closedBy e closed) ms) (v .state) (textOf v))
-    unfolding passes due afterPass follow events
-    to-again n v x o = rw (c, x, o) refl
-
--- BEHIND SOME PASSES
-
-pub after-none : (l : Line) → After l l 0 false
-after-none l = record { ends = refl; count = sym (zero-add (length (passesOf l))); occurs = refl }
+-- WHERE THE LINE STANDS
 
 or-true : (b : Bool) → (b || true) ≡ true
 or-true true = refl
 or-true false = refl
 
-module _ (whole l : Line) (x : Pass) (p : ℕ) (o : Bool) (h : After whole (passed x l) p o) where
-  after-next : occurred (x .events) ≡ false → After whole l (p + 1) o
-  unfolding ending passesOf hadOccurrence
-  after-next f = record { ends = h .ends; count = omega (arith, h .count); occurs = rw f at (h .occurs) }
-
-  after-again : occurred (x .events) ≡ true → After whole l (p + 1) true
-  unfolding ending passesOf hadOccurrence
-  after-again f = record { ends = h .ends; count = omega (arith, h .count); occurs = (rw f at (h .occurs)) ∙ or-true o }
-
-  after-refused : {r : WorkRefusal} → l ≡ ended (refused r) → IsRefused whole r (p + 1)
-  unfolding ending passesOf
-  after-refused {r} e = let c : length (passesOf l) ≡ 0 = ap (λ (y : Line). length (passesOf y)) e in record { ends = h .ends ∙ ap ending e; count = omega (arith, h .count) }
-
 or-false : (b : Bool) → (b || false) ≡ b
 or-false true = refl
 or-false false = refl
 
--- WHERE THE LINE STANDS
+module _ (ms : Table) (whole : Line) (g : Given) (m : Memories) (h : IsTable (g .table) ms) (a : Stand) (s : Stands whole ms g m a) where
+  t : List ℕ
+  t = take (a .size) (m .text)
 
-module _ (table : List ℕ) (ms : Table) (h : IsTable table ms) (whole : Line) (budget : ℕ) (b text flags : List ℕ) (a : Stand) (s : Stands whole ms budget b text flags a) where
   rest : Line
-  rest = passes ms (budget - a .begun) (s .closed) (dueBelow (a .due) (s .closed) ms) (s .state) (take (a .size) text)
+  rest = passes ms (g .budget - a .begun) (s .closed) (dueBelow (a .due) (s .closed) ms) (s .state) (take (a .size) (m .text))
 
-  came : (l : Line) → rest ≡ l → After whole l (a .begun) (a .occurred)
+  came : (l : Line) → rest ≡ l → whole ≡ passesThen (s .soFar) l
   unfolding rest
-  came l e = subst (λ (y : Line). After whole y (a .begun) (a .occurred)) e (s .rest)
+  came l e = s .rest ∙ ap (passesThen (s .soFar)) e
 
-  pub at-control : isControl (take (a .size) text) ≡ true → IsControl whole b text (a .size) (a .begun)
-  unfolding ending passesOf rest
+  -- it ends here
+  module _ (e : Ending) (came-to : whole ≡ passesThen (s .soFar) (ended e)) where
+    all-passes : passesOf whole ≡ s .soFar
+    unfolding passesOf
+    all-passes = ap passesOf came-to ∙ then-passes (s .soFar) (ended e) ∙ append-nil (s .soFar)
+
+    ends-here : ending whole ≡ e
+    unfolding ending
+    ends-here = ap ending came-to ∙ then-ending (s .soFar) (ended e)
+
+    count-here : length (passesOf whole) ≡ a .begun
+    count-here = ap length all-passes ∙ s .count
+
+    occurs-here : hadOccurrence (passesOf whole) ≡ a .occurred
+    occurs-here = ap hadOccurrence all-passes ∙ s .occurs
+
+  -- one pass further
+  module _ (x : Pass) (l : Line) (came-to : whole ≡ passesThen (s .soFar) (passed x l)) where
+    one-more : List Pass
+    one-more = s .soFar ++ (x ∷ [])
+
+    behind-more : whole ≡ passesThen one-more l
+    unfolding one-more
+    behind-more = came-to ∙ sym (then-one (s .soFar) x l)
+
+    count-more : length one-more ≡ a .begun + 1
+    unfolding one-more
+    count-more = length-append (s .soFar) (x ∷ []) ∙ ap (λ (n : ℕ). n + 1) (s .count)
+
+    occurs-more : (o : Bool) → occurred (x .events) ≡ o → hadOccurrence one-more ≡ (a .occurred || o)
+    unfolding one-more
+    occurs-more o e = occurrence-one (s .soFar) x ∙ rw (s .occurs, e) refl
+
+    refused-more : {r : WorkRefusal} → l ≡ ended (refused r) → IsRefused whole r (a .begun + 1)
+    unfolding passesOf ending
+    refused-more {r} e =
+        let q : whole ≡ passesThen one-more (ended (refused r)) = behind-more ∙ ap (passesThen one-more) e in
+        record {
+          ends = ap ending q ∙ then-ending one-more (ended (refused r));
+          count = ap (λ (y : Line). length (passesOf y)) q ∙ ap length (then-passes one-more (ended (refused r)) ∙ append-nil one-more) ∙ count-more;
+        }
+
+  pub at-control : isControl (take (a .size) (m .text)) ≡ true → IsControl whole (leftOf m) (a .size) (a .begun)
+  unfolding rest
   at-control c =
-      let x = came (ended (control (take (a .size) text) (s .state))) (to-control ms (s .closed) (s .state) (take (a .size) text) (budget - a .begun) _ c) in
-      record { state = s .state; holds = s .holds; ends = x .ends; count = x .count ∙ add-zero (a .begun) }
+      let x = came (ended (control (take (a .size) (m .text)) (s .state))) (to-control ms (s .closed) (s .state) (take (a .size) (m .text)) (g .budget - a .begun) _ c) in
+      record { state = s .state; holds = s .holds; ends = ends-here _ x; count = count-here _ x }
 
-  module _ (c : isControl (take (a .size) text) ≡ false) (l : a .due ≤ length ms) where
-    pub at-done : OpenBelow flags (a .due) 0 → IsDone whole b text (a .size) (a .occurred) (a .begun)
-    unfolding ending passesOf hadOccurrence rest
+  module _ (c : isControl (take (a .size) (m .text)) ≡ false) (l : a .due ≤ length ms) where
+    pub at-done : OpenBelow (m .flags) (a .due) 0 → IsDone whole (leftOf m) (a .size) (a .occurred) (a .begun)
+    unfolding rest
     at-done o =
-        let d = none-due table ms h flags (s .closed) (s .closes) (a .due) l o in
-        let x = came (ended (done (take (a .size) text) (s .state)))
-        (ap (λ (y : List Numbered). passes ms (budget - a .begun) (s .closed) y (s .state) (take (a .size) text)) d ∙ to-done ms (s .closed) (s .state) (take (a .size) text) (budget - a .begun) c) in
-        record { state = s .state; holds = s .holds; ends = x .ends; occurs = x .occurs ∙ or-false (a .occurred); count = x .count ∙ add-zero (a .begun) }
+        let d = none-due (g .table) ms h (m .flags) (s .closed) (s .closes) (a .due) l o in
+        let x = came (ended (done (take (a .size) (m .text)) (s .state)))
+        (ap (λ (y : List Numbered). passes ms (g .budget - a .begun) (s .closed) y (s .state) (take (a .size) (m .text))) d ∙ to-done ms (s .closed) (s .state) (take (a .size) (m .text)) (g .budget - a .begun) c) in
+        record { state = s .state; holds = s .holds; ends = ends-here _ x; occurs = occurs-here _ x; count = count-here _ x }
 
-    module _ (k : ℕ) (o : OpenBelow flags (a .due) (suc k)) (slot : SlotAt table ms k) where
+    -- the pass of the macro k is due
+    module _ (k : ℕ) (o : OpenBelow (m .flags) (a .due) (suc k)) (slot : SlotAt (g .table) ms k) where
       e : Numbered
       e = record { number = k; macro = slot .macro }
 
-      first : (n : ℕ) → budget - a .begun ≡ n → rest ≡ passes ms n (s .closed) (e ∷ dueBelow k (s .closed) ms) (s .state) (take (a .size) text)
+      first : (n : ℕ) → g .budget - a .begun ≡ n → rest ≡ passes ms n (s .closed) (e ∷ dueBelow k (s .closed) ms) (s .state) (take (a .size) (m .text))
       unfolding rest e
-      first n q = rw (q, first-due table ms h flags (s .closed) (s .closes) (a .due) k l o slot) refl
+      first n q = rw (q, first-due (g .table) ms h (m .flags) (s .closed) (s .closes) (a .due) k l o slot) refl
 
-      pub at-used : budget ≤ a .begun → IsRefused whole budgetUsedUp (a .begun)
-      unfolding ending passesOf
-      at-used g =
-          let x = came (ended (refused budgetUsedUp)) (first 0 (omega arith) ∙ to-used ms (s .closed) (s .state) (take (a .size) text) e (dueBelow k (s .closed) ms) c) in
-          record { ends = x .ends; count = x .count ∙ add-zero (a .begun) }
+      pub at-used : g .budget ≤ a .begun → IsRefused whole budgetUsedUp (a .begun)
+      at-used q =
+          let x = came (ended (refused budgetUsedUp)) (first 0 (omega arith) ∙ to-used ms (s .closed) (s .state) (take (a .size) (m .text)) e (dueBelow k (s .closed) ms) c) in
+          record { ends = ends-here _ x; count = count-here _ x }
 
-      module _ (g : a .begun < budget) (v : Work) where
+      module _ (y : a .begun < g .budget) (v : Work) where
         left : ℕ
-        left = budget - (a .begun + 1)
+        left = g .budget - (a .begun + 1)
 
-        lefts : budget - a .begun ≡ suc left
+        lefts : g .budget - a .begun ≡ suc left
         unfolding left
         lefts = omega arith
 
-        pub pass-refused : (r : WorkRefusal) → outcome (pass (slot .macro) (take (a .size) text) (s .state)) ≡ bad r v → IsRefused whole r (a .begun + 1)
+        pub pass-refused : (r : WorkRefusal) → outcome (pass (slot .macro) (take (a .size) (m .text)) (s .state)) ≡ bad r v → IsRefused whole r (a .begun + 1)
         unfolding e
         pass-refused r q =
-            let x = came _ (first (suc left) lefts ∙ to-refused ms (s .closed) (s .state) (take (a .size) text) e (dueBelow k (s .closed) ms) c left r v q) in
-            after-refused whole _ _ (a .begun) (a .occurred) x refl
+            refused-more _ _ (came _ (first (suc left) lefts ∙ to-refused ms (s .closed) (s .state) (take (a .size) (m .text)) e (dueBelow k (s .closed) ms) c left r v q)) refl
 
-        module _ (q : outcome (pass (slot .macro) (take (a .size) text) (s .state)) ≡ good v) where
-          pub pass-none : occurred (pass (slot .macro) (take (a .size) text) (s .state)) ≡ false → (b′ : List ℕ) → Holds b′ (v .state)
-              → Stands whole ms budget b′ text flags (record { size = a .size; occurred = a .occurred; due = k; begun = a .begun + 1 })
-          unfolding e events left
-          pass-none f b′ g′ =
-              let x = came _ (first (suc left) lefts ∙ to-next ms (s .closed) (s .state) (take (a .size) text) e (dueBelow k (s .closed) ms) c left v q f) in
+        module _ (q : outcome (pass (slot .macro) (take (a .size) (m .text)) (s .state)) ≡ good v) (m′ : Memories) (held : Holds (m′ .state) (v .state)) where
+          pub pass-none : occurred (pass (slot .macro) (take (a .size) (m .text)) (s .state)) ≡ false → m′ .text ≡ m .text → m′ .flags ≡ m .flags
+              → Stands whole ms g m′ (record { size = a .size; occurred = a .occurred; due = k; begun = a .begun + 1 })
+          unfolding e left one-more
+          pass-none f i j =
+              let x = came _ (first (suc left) lefts ∙ to-next ms (s .closed) (s .state) (take (a .size) (m .text)) e (dueBelow k (s .closed) ms) c left v q f) in
               record {
+                soFar = one-more _ _ x;
                 state = s .state;
                 closed = s .closed;
-                holds = subst (Holds b′) (same-state (slot .macro) (take (a .size) text) (s .state) v q f) g′;
-                closes = s .closes;
-                rest = after-next whole _ _ (a .begun) (a .occurred) x f;
+                rest = rw i (behind-more _ _ x);
+                count = count-more _ _ x;
+                occurs = occurs-more _ _ x false f ∙ or-false (a .occurred);
+                holds = subst (Holds (m′ .state)) (same-state (slot .macro) (take (a .size) (m .text)) (s .state) v q f) held;
+                closes = rw j (s .closes);
               }
 
-          pub pass-some : occurred (pass (slot .macro) (take (a .size) text) (s .state)) ≡ true → (b′ text′ flags′ : List ℕ) (n count : ℕ) → Holds b′ (v .state) → textOf v ≡ take n text′
-              → k < length flags → flags′ ≡ closedFlags flags (getD table (slotBytes * k) 0) k → length ms ≡ count
-              → Stands whole ms budget b′ text′ flags′ (record { size = n; occurred = true; due = count; begun = a .begun + 1 })
-          unfolding e events left closedBy
-          pass-some f b′ text′ flags′ n count g′ w i z y =
-              let x = came _ (first (suc left) lefts ∙ to-again ms (s .closed) (s .state) (take (a .size) text) e (dueBelow k (s .closed) ms) c left v q f) in
-              let mk : Closes flags′ (closedBy e (s .closed)) =
-              subst (λ (j : List ℕ). Closes j (closedBy e (s .closed))) (sym (z ∙ ap (λ (j : ℕ). closedFlags flags j k) (slot .first))) (closes-more flags (s .closed) k (s .closes) i (slot .macro .symbol)) in
-              let r = after-again whole _ _ (a .begun) (a .occurred) x f in
+          pub pass-some : occurred (pass (slot .macro) (take (a .size) (m .text)) (s .state)) ≡ true → (n count : ℕ) → textOf v ≡ take n (m′ .text)
+              → k < length (m .flags) → m′ .flags ≡ closedFlags (m .flags) (getD (g .table) (slotBytes * k) 0) k → length ms ≡ count
+              → Stands whole ms g m′ (record { size = n; occurred = true; due = count; begun = a .begun + 1 })
+          unfolding e left closedBy one-more
+          pass-some f n count w i z y =
+              let x = came _ (first (suc left) lefts ∙ to-again ms (s .closed) (s .state) (take (a .size) (m .text)) e (dueBelow k (s .closed) ms) c left v q f) in
+              let flags : Closes (m′ .flags) (closedBy e (s .closed)) =
+              subst (λ (j : List ℕ). Closes j (closedBy e (s .closed))) (sym (z ∙ ap (λ (j : ℕ). closedFlags (m .flags) j k) (slot .first))) (closes-more (m .flags) (s .closed) k (s .closes) i (slot .macro .symbol)) in
               record {
+                soFar = one-more _ _ x;
                 state = v .state;
                 closed = closedBy e (s .closed);
-                holds = g′;
-                closes = mk;
-                rest = rw (← w, due-all (closedBy e (s .closed)) ms count y) r;
+                rest = rw (← w, due-all (closedBy e (s .closed)) ms count y) (behind-more _ _ x);
+                count = count-more _ _ x;
+                occurs = occurs-more _ _ x true f ∙ or-true (a .occurred);
+                holds = held;
+                closes = flags;
               }

@@ -11,21 +11,22 @@ use Rattle.macros.specs.Bounds.{mostLineBytes}
 use Rattle.macros.specs.Macro.{Table}
 use Rattle.macros.specs.Formed.{Bytes}
 use Rattle.lines.specs.State.{State}
-use Rattle.lines.specs.Line.{newestFirst, passes, lineOf}
+use Rattle.lines.specs.Line.{hadOccurrence, passesThen, lineOf}
 use Rattle.form_state.specs.Form.{stateBytes}
 use Rattle.form_state.specs.Access.{Holds, IsState}
 use Rattle.form_state.proofs.Parts.{state-size}
 use Rattle.line_memory.specs.Memory.{IsTable, padded}
 use Rattle.line_memory.proofs.Copying.{padded-whole, padded-front, padded-size}
-use Rattle.line_passes.specs.Contract.{Started, Comes, Runs}
-use Rattle.line_passes.specs.Passing.{Stands, Ready, Ends, Begun, RunsFrom, isRefused}
+use Rattle.line_passes.specs.Contract.{Run, Left, Started, Comes, RunsTo, Runs}
+use Rattle.line_passes.specs.Passing.{Given, Memories, Stands, Ready, leftOf, Ends, Begun, runOf, isRefused}
 use Rattle.line_passes.specs.declared.Ended.{Ended}
 use Rattle.line_passes.specs.declared.Ended.the-variants.{Done, Control, Refused}
 use Rattle.line_passes.proofs.Closing.{due-all, none-closed}
-use Rattle.line_passes.proofs.Running.{after-none}
 
-pub ready-start : {tb kn b tx : List ℕ} {count n : ℕ} → Begun tb count b tx n → kn ≡ kindTable → (budget : ℕ)
-    → Ready tb kn b tx (replicate 1054 0) (replicate 67056 0) (replicate 96 0) count budget (record { size = n; occurred = false; due = count; begun = 0 })
+pub ready-start : {tb kn : List ℕ} {count n : ℕ} {old : Left} → Begun tb count old n → kn ≡ kindTable → (budget : ℕ)
+    → Ready (record { table = tb; count = count; kinds = kn; budget = budget })
+    (record { state = old .state; text = old .text; new = replicate 1054 0; marks = replicate 67056 0; flags = replicate 96 0 })
+    (record { size = n; occurred = false; due = count; begun = 0 })
 ready-start y e budget =
     record {
       table = y .table;
@@ -42,44 +43,48 @@ ready-start y e budget =
       begun = omega arith;
     }
 
-stands-start : (ms : Table) (st : State) (budget : ℕ) (b tx : List ℕ) (n count : ℕ) → Holds b st → length ms ≡ count
-    → Stands (lineOf ms st budget (take n tx)) ms budget b tx (replicate 96 0) (record { size = n; occurred = false; due = count; begun = 0 })
-unfolding lineOf
-stands-start ms st budget b tx n count h l =
-    let e : budget - 0 ≡ budget = omega arith in
-    record { state = st; closed = []; holds = h; closes = none-closed; rest = rw (e, due-all [] ms count l) (after-none (passes ms budget [] (newestFirst [] ms) st (take n tx))) }
+-- no pass so far
+stands-start : (ms : Table) (st : State) (g : Given) (m : Memories) (n : ℕ) → Holds (m .state) st → length ms ≡ g .count → m .flags ≡ replicate 96 0
+    → Stands (lineOf ms st (record { line = take n (m .text); budget = g .budget })) ms g m (record { size = n; occurred = false; due = g .count; begun = 0 })
+unfolding lineOf passesThen hadOccurrence
+stands-start ms st g m n h l f =
+    let e : g .budget - 0 ≡ g .budget = omega arith in
+    record { soFar = []; state = st; closed = []; rest = rw (e, due-all [] ms (g .count) l) refl; count = refl; occurs = refl; holds = h; closes = rw f none-closed }
 
-pub runs-start : {tb b b′ tx tx′ : List ℕ} {count n budget : ℕ} {r : Ended} → Ends tb b b′ tx tx′ (replicate 96 0) count budget (record { size = n; occurred = false; due = count; begun = 0 }) r
-    → RunsFrom tb count b b′ tx tx′ n budget r
-runs-start {tb} {b} {b′} {tx} {tx′} {count} {n} {budget} x =
-    record { comes = λ ms h l st hb. x .comes (lineOf ms st budget (take n tx)) ms h l (stands-start ms st budget b tx n count hb l); left = x .left }
+pub runs-start : {g : Given} {m : Memories} {left : Left} {n : ℕ} {r : Ended} → m .flags ≡ replicate 96 0
+    → Ends g m left (record { size = n; occurred = false; due = g .count; begun = 0 }) r → RunsTo (runOf (g .table) (g .count) (leftOf m) n (g .budget)) left r
+runs-start {g} {m} {left} {n} f x =
+    record { comes = λ ms h l st hb. x .comes _ ms h l (stands-start ms st g m n hb l f); lies = x .lies }
 
 -- THE COPIES
 
 pub state-length : {b : List ℕ} → IsState b → length b ≡ stateBytes
 state-length s = ap length (sym (s .1 .form)) ∙ state-size (s .0) (s .1 .inRange) .0
 
-module _ {tb : List ℕ} {count : ℕ} {b t z tx : List ℕ} (y : Started tb count b t z tx) where
-  pub state-fits : length b ≤ length z
+module _ {run : Run} {old : Left} (y : Started run old) where
+  abbrev t : List ℕ
+  t = run .sent .line
+
+  pub state-fits : length (run .state) ≤ length (old .state)
   state-fits = omega (arith, state-length (y .state), y .after)
 
-  pub state-fits-in : {n : ℕ} → n ≡ length z → length b ≤ n
+  pub state-fits-in : {n : ℕ} → n ≡ length (old .state) → length (run .state) ≤ n
   state-fits-in e = omega (arith, state-fits, e)
 
-  pub line-fits : {n : ℕ} → n ≡ length tx → length t ≤ n
+  pub line-fits : {n : ℕ} → n ≡ length (old .text) → length t ≤ n
   line-fits e = omega (arith, y .short, y .text, e)
 
-  same-state : {z₁ : List ℕ} → z₁ ≡ padded b (length z) → z₁ ≡ b
-  same-state e = padded-whole b (length z) (state-length (y .state) ∙ sym (y .after)) e
+  same-state : {z₁ : List ℕ} → z₁ ≡ padded (run .state) (length (old .state)) → z₁ ≡ run .state
+  same-state e = padded-whole (run .state) (length (old .state)) (state-length (y .state) ∙ sym (y .after)) e
 
-  whole-line : {tx₁ : List ℕ} → tx₁ ≡ padded t (length tx) → tx₁ ≡ padded t mostLineBytes
+  whole-line : {tx₁ : List ℕ} → tx₁ ≡ padded t (length (old .text)) → tx₁ ≡ padded t mostLineBytes
   whole-line e = e ∙ ap (padded t) (y .text)
 
-  module _ {z₁ tx₁ : List ℕ} (e : z₁ ≡ padded b (length z)) (f : tx₁ ≡ padded t (length tx)) where
+  module _ {z₁ tx₁ : List ℕ} (e : z₁ ≡ padded (run .state) (length (old .state))) (f : tx₁ ≡ padded t (length (old .text))) where
     front : take (length t) tx₁ ≡ t
     front = padded-front t mostLineBytes (length t) refl (whole-line f)
 
-    pub begun : Begun tb count z₁ tx₁ (length t)
+    pub begun : Begun (run .table) (run .count) (record { state = z₁; text = tx₁ }) (length t)
     begun =
         record {
           table = y .table;
@@ -90,19 +95,30 @@ module _ {tb : List ℕ} {count : ℕ} {b t z tx : List ℕ} (y : Started tb cou
           bytes = subst Bytes (sym front) (y .bytes);
         }
 
-    module _ {budget : ℕ} {z′ tx′ : List ℕ} {r : Ended} (x : RunsFrom tb count z₁ z′ tx₁ tx′ (length t) budget r) where
-      ran : (ms : Table) → IsTable tb ms → length ms ≡ count → (st : State) → Holds b st → Comes (lineOf ms st budget t) z′ tx′ r
-      ran ms h l st hb = subst (λ (j : List ℕ). Comes (lineOf ms st budget j) z′ tx′ r) front (x .comes ms h l st (subst (λ (j : List ℕ). Holds j st) (sym (same-state e)) hb))
+    module _ {left : Left} (r : Ended) (x : RunsTo (runOf (run .table) (run .count) (record { state = z₁; text = tx₁ }) (length t) (run .sent .budget)) left r) where
+      ran : RunsTo run left r
+      ran =
+          record {
+            comes = λ ms h l st hb.
+                subst (λ (j : List ℕ). Comes (lineOf ms st (record { line = j; budget = run .sent .budget })) left r) front
+                (x .comes ms h l st (subst (λ (j : List ℕ). Holds j st) (sym (same-state e)) hb));
+            lies = x .lies;
+          }
 
-    pub runs-over : {budget : ℕ} {z′ tx′ : List ℕ} (r : Ended) → RunsFrom tb count z₁ z′ tx₁ tx′ (length t) budget r → isRefused r ≡ false → Runs tb count b t budget z′ tx′ r
-    runs-over (Done n o p) x g = record { comes = ran x; left = x .left; back = tt }
-    runs-over (Control n p) x g = record { comes = ran x; left = x .left; back = tt }
+    pub runs-over : {left : Left} (r : Ended) → RunsTo (runOf (run .table) (run .count) (record { state = z₁; text = tx₁ }) (length t) (run .sent .budget)) left r → isRefused r ≡ false
+        → Runs run left r
+    runs-over (Done n o p) x g = record { runs = ran (Done n o p) x; back = tt }
+    runs-over (Control n p) x g = record { runs = ran (Control n p) x; back = tt }
     runs-over (Refused w p) x g = absurd (false≢true (sym g))
 
     -- both memories as they came
-    pub runs-back : {budget : ℕ} {z′ tx′ z₂ tx₂ : List ℕ} (r : Ended) → RunsFrom tb count z₁ z′ tx₁ tx′ (length t) budget r → isRefused r ≡ true
-        → length z′ ≡ length z → z₂ ≡ padded b (length z′) → length tx′ ≡ length tx → tx₂ ≡ padded t (length tx′) → Runs tb count b t budget z₂ tx₂ r
+    pub runs-back : {left left₂ : Left} (r : Ended) → RunsTo (runOf (run .table) (run .count) (record { state = z₁; text = tx₁ }) (length t) (run .sent .budget)) left r → isRefused r ≡ true
+        → length (left .state) ≡ length (old .state) → left₂ .state ≡ padded (run .state) (length (left .state)) → length (left .text) ≡ length (old .text)
+        → left₂ .text ≡ padded t (length (left .text)) → Runs run left₂ r
     runs-back (Done n o p) x g i j k l = absurd (false≢true g)
     runs-back (Control n p) x g i j k l = absurd (false≢true g)
     runs-back (Refused w p) x g i j k l =
-        record { comes = ran x; left = tt; back = record { state = same-state (j ∙ ap (padded b) i); line = whole-line (l ∙ ap (padded t) k) } }
+        record {
+          runs = record { comes = ran (Refused w p) x .comes; lies = tt };
+          back = record { state = same-state (j ∙ ap (padded (run .state)) i); line = whole-line (l ∙ ap (padded t) k) };
+        }

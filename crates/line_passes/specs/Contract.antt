@@ -10,7 +10,7 @@ use Rattle.macros.specs.Refusals.WorkRefusal.{budgetUsedUp}
 use Rattle.macros.specs.Macro.{Table}
 use Rattle.macros.specs.Formed.{Bytes}
 use Rattle.lines.specs.State.{State}
-use Rattle.lines.specs.Line.{Line, passesOf, hadOccurrence, ending, lineOf}
+use Rattle.lines.specs.Line.{Sent, Line, passesOf, hadOccurrence, ending, lineOf}
 use Rattle.lines.specs.Line.Ending.{refused, done, control}
 use Rattle.form_state.specs.Form.{stateBytes}
 use Rattle.form_state.specs.Access.{Holds, IsState}
@@ -26,65 +26,83 @@ abbrev pub refusalOf : Why → WorkRefusal
 refusalOf BudgetUsedUp = budgetUsedUp
 refusalOf (AtWork f) = workOf f
 
+-- A LINE THAT RUNS: the bytes of the table with its number of macros, those of the state, and what is sent
+pub record Run : Type 0 where
+  pub table : List ℕ
+  pub count : ℕ
+  pub state : List ℕ
+  pub sent : Sent
+
+-- what its passes write: the state and the text after them
+pub record Left : Type 0 where
+  pub state : List ℕ
+  pub text : List ℕ
+
 -- what the caller lends: a table of so many macros, a state, a line that 21 and 22 do not refuse, and room for the state and the text after it
-pub record Started (tb : List ℕ) (count : ℕ) (b t z tx : List ℕ) : Type 0 where
-  pub table : Counted tb count
-  pub state : IsState b
-  pub short : length t ≤ mostLineBytes
-  pub bytes : Bytes t
-  pub after : length z ≡ stateBytes
-  pub text : length tx ≡ mostLineBytes
+pub record Started (run : Run) (old : Left) : Type 0 where
+  pub table : Counted (run .table) (run .count)
+  pub state : IsState (run .state)
+  pub short : length (run .sent .line) ≤ mostLineBytes
+  pub bytes : Bytes (run .sent .line)
+  pub after : length (old .state) ≡ stateBytes
+  pub text : length (old .text) ≡ mostLineBytes
 
--- HOW THE LINE ENDS
+-- HOW THE LINE ENDS: its history, whole, and what is answered of it
 
--- the bytes b are the state then, and the first n of the text are the line
-pub record IsDone (whole : Line) (b text : List ℕ) (n : ℕ) (o : Bool) (p : ℕ) : Type 0 where
+-- the state's memory is the state then, and the first n bytes of the text are the line; p passes, o whether one had an occurrence
+pub record IsDone (whole : Line) (left : Left) (n : ℕ) (o : Bool) (p : ℕ) : Type 0 where
   pub state : State
-  pub holds : Holds b state
-  pub ends : ending whole ≡ done (take n text) state
-  pub occurs : hadOccurrence whole ≡ o
+  pub holds : Holds (left .state) state
+  pub ends : ending whole ≡ done (take n (left .text)) state
+  pub occurs : hadOccurrence (passesOf whole) ≡ o
   pub count : length (passesOf whole) ≡ p
 
-pub record IsControl (whole : Line) (b text : List ℕ) (n : ℕ) (p : ℕ) : Type 0 where
+pub record IsControl (whole : Line) (left : Left) (n : ℕ) (p : ℕ) : Type 0 where
   pub state : State
-  pub holds : Holds b state
-  pub ends : ending whole ≡ control (take n text) state
+  pub holds : Holds (left .state) state
+  pub ends : ending whole ≡ control (take n (left .text)) state
   pub count : length (passesOf whole) ≡ p
 
 pub record IsRefused (whole : Line) (r : WorkRefusal) (p : ℕ) : Type 0 where
   pub ends : ending whole ≡ refused r
   pub count : length (passesOf whole) ≡ p
 
-abbrev pub Comes : Line → List ℕ → List ℕ → Ended → Type 0
-Comes whole b text (Done n o p) = IsDone whole b text n o p
-Comes whole b text (Control n p) = IsControl whole b text n p
-Comes whole b text (Refused w p) = IsRefused whole (refusalOf w) p
+abbrev pub Comes : Line → Left → Ended → Type 0
+Comes whole left (Done n o p) = IsDone whole left n o p
+Comes whole left (Control n p) = IsControl whole left n p
+Comes whole left (Refused w p) = IsRefused whole (refusalOf w) p
 
 -- WHAT IS LEFT
 
 -- behind the line of n bytes the text is zero
-pub record LineLeft (b text : List ℕ) (n : ℕ) : Type 0 where
-  pub state : IsState b
+pub record LineLeft (left : Left) (n : ℕ) : Type 0 where
+  pub state : IsState (left .state)
   pub size : n ≤ mostLineBytes
-  pub bytes : Bytes (take n text)
-  pub laid : text ≡ padded (take n text) mostLineBytes
+  pub bytes : Bytes (take n (left .text))
+  pub laid : left .text ≡ padded (take n (left .text)) mostLineBytes
 
--- of a refused line the state b and the line t that came
-pub record PutBack (b t b′ text : List ℕ) : Type 0 where
-  pub state : b′ ≡ b
-  pub line : text ≡ padded t mostLineBytes
+-- of a line that is not refused
+abbrev pub Lies : Left → Ended → Type 0
+Lies left (Done n o p) = LineLeft left n
+Lies left (Control n p) = LineLeft left n
+Lies left (Refused w p) = Unit {0}
 
-abbrev pub Left : List ℕ → List ℕ → Ended → Type 0
-Left b′ text (Done n o p) = LineLeft b′ text n
-Left b′ text (Control n p) = LineLeft b′ text n
-Left b′ text (Refused w p) = Unit {0}
+-- a refused line leaves the state and the line that came
+pub record PutBack (run : Run) (left : Left) : Type 0 where
+  pub state : left .state ≡ run .state
+  pub line : left .text ≡ padded (run .sent .line) mostLineBytes
 
-abbrev pub Back : (b t b′ text : List ℕ) → Ended → Type 0
-Back b t b′ text (Done n o p) = Unit {0}
-Back b t b′ text (Control n p) = Unit {0}
-Back b t b′ text (Refused w p) = PutBack b t b′ text
+abbrev pub Back : Run → Left → Ended → Type 0
+Back run left (Done n o p) = Unit {0}
+Back run left (Control n p) = Unit {0}
+Back run left (Refused w p) = PutBack run left
 
-pub record Runs (table : List ℕ) (count : ℕ) (b t : List ℕ) (budget : ℕ) (b′ text : List ℕ) (r : Ended) : Type 0 where
-  pub comes : (ms : Table) → IsTable table ms → length ms ≡ count → (st : State) → Holds b st → Comes (lineOf ms st budget t) b′ text r
-  pub left : Left b′ text r
-  pub back : Back b t b′ text r
+-- the line runs to the end r; of a refused one nothing is said of what is left
+pub record RunsTo (run : Run) (left : Left) (r : Ended) : Type 0 where
+  pub comes : (ms : Table) → IsTable (run .table) ms → length ms ≡ run .count → (st : State) → Holds (run .state) st → Comes (lineOf ms st (run .sent)) left r
+  pub lies : Lies left r
+
+-- the contract
+pub record Runs (run : Run) (left : Left) (r : Ended) : Type 0 where
+  pub runs : RunsTo run left r
+  pub back : Back run left r

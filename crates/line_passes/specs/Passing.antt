@@ -1,7 +1,7 @@
 -- What the passes of a line promise, from one to the next (01, part 6).
 use Prim.Native.Nat.{ℕ, zero, suc, _+_, _-_, _*_, _≤_, _<_}
 use mathlib.Core.Path.{_≡_}
-use mathlib.Core.Bool.{Bool, true, false, _||_}
+use mathlib.Core.Bool.{Bool, true, false}
 use mathlib.Core.List.{List, reverse}
 use lib.Dec.{eqb}
 use lib.ListN.{length, getD, take, set, replicate}
@@ -10,13 +10,13 @@ use Rattle.macros.specs.Bounds.{mostMacros, mostLineBytes}
 use Rattle.macros.specs.Macro.{Table, pick}
 use Rattle.macros.specs.Formed.{Bytes}
 use Rattle.lines.specs.State.{State}
-use Rattle.lines.specs.Line.{Numbered, Line, isIn, isControl, openFrom, passes, passesOf, hadOccurrence, ending, lineOf}
+use Rattle.lines.specs.Line.{Numbered, Pass, Line, isIn, isControl, openFrom, passes, hadOccurrence, passesThen}
 use Rattle.form_state.specs.Access.{Holds, IsState}
 use Rattle.pass_one.specs.Contract.{marksBytes, sizeOf}
 use Rattle.pass_moment.specs.declared.Passed.{Passed}
 use Rattle.pass_moment.specs.declared.Passed.the-variants.{Over as Passes, Refused as Refuses}
 use Rattle.line_memory.specs.Memory.{IsTable, Counted, padded}
-use Rattle.line_passes.specs.Contract.{Comes, Left}
+use Rattle.line_passes.specs.Contract.{Run, Left, Comes, Lies}
 use Rattle.line_passes.specs.declared.Why.the-variants.{BudgetUsedUp, AtWork}
 use Rattle.line_passes.specs.declared.Stand.{Stand}
 use Rattle.line_passes.specs.declared.Ended.{Ended}
@@ -63,39 +63,61 @@ DueBy t flags budget a (PassOf k) = (isControl t ≡ false) × OpenBelow flags (
 pub record Dues (t flags : List ℕ) (budget : ℕ) (a : Stand) (r : Due) : Type 0 where
   pub by : DueBy t flags budget a r
 
--- the line is p passes, with an occurrence or not, and then the line l
-pub record After (whole l : Line) (p : ℕ) (o : Bool) : Type 0 where
-  pub ends : ending whole ≡ ending l
-  pub count : length (passesOf whole) ≡ p + length (passesOf l)
-  pub occurs : hadOccurrence whole ≡ (o || hadOccurrence l)
+-- WHERE A LINE STANDS, before a pass or at its end
 
--- the line stands here, before a pass or at its end: its state, its closed macros, and the line that is left
-pub record Stands (whole : Line) (ms : Table) (budget : ℕ) (b text flags : List ℕ) (a : Stand) : Type 0 where
+-- what the passes of a line only read: the table with its number of macros, the kinds, and the budget
+pub record Given : Type 0 where
+  pub table : List ℕ
+  pub count : ℕ
+  pub kinds : List ℕ
+  pub budget : ℕ
+
+-- what they write: the state, the text, room for a new line, the marks, and a byte for each macro
+pub record Memories : Type 0 where
+  pub state : List ℕ
+  pub text : List ℕ
+  pub new : List ℕ
+  pub marks : List ℕ
+  pub flags : List ℕ
+
+-- the line whole, of the table ms, stands here: its passes so far, of which the numbers in a are functions; the state and the closed macros; and behind those passes the line that is left
+pub record Stands (whole : Line) (ms : Table) (g : Given) (m : Memories) (a : Stand) : Type 0 where
+  pub soFar : List Pass
   pub state : State
   pub closed : List ℕ
-  pub holds : Holds b state
-  pub closes : Closes flags closed
-  pub rest : After whole (passes ms (budget - a .begun) closed (dueBelow (a .due) closed ms) state (take (a .size) text)) (a .begun) (a .occurred)
+  pub rest : whole ≡ passesThen soFar (passes ms (g .budget - a .begun) closed (dueBelow (a .due) closed ms) state (take (a .size) (m .text)))
+  pub count : length soFar ≡ a .begun
+  pub occurs : hadOccurrence soFar ≡ a .occurred
+  pub holds : Holds (m .state) state
+  pub closes : Closes (m .flags) closed
+
+-- every line that stands at a with the memories m stands at z with the memories m′
+abbrev pub Onward : Given → Memories → Memories → Stand → Stand → Type 0
+Onward g m m′ a z = (whole : Line) (ms : Table) → IsTable (g .table) ms → length ms ≡ g .count → Stands whole ms g m a → Stands whole ms g m′ z
 
 -- the memories of the passes, where the line stands
-pub record Ready (tb kn b tx nw mk fl : List ℕ) (count budget : ℕ) (a : Stand) : Type 0 where
-  pub table : Counted tb count
-  pub kinds : kn ≡ kindTable
-  pub state : IsState b
-  pub bytes : Bytes (take (a .size) tx)
-  pub text : length tx ≡ mostLineBytes
-  pub laid : tx ≡ padded (take (a .size) tx) mostLineBytes
-  pub new : length nw ≡ mostLineBytes
-  pub marks : mk ≡ replicate marksBytes 0
-  pub flags : length fl ≡ mostMacros
+pub record Ready (g : Given) (m : Memories) (a : Stand) : Type 0 where
+  pub table : Counted (g .table) (g .count)
+  pub kinds : g .kinds ≡ kindTable
+  pub state : IsState (m .state)
+  pub bytes : Bytes (take (a .size) (m .text))
+  pub text : length (m .text) ≡ mostLineBytes
+  pub laid : m .text ≡ padded (take (a .size) (m .text)) mostLineBytes
+  pub new : length (m .new) ≡ mostLineBytes
+  pub marks : m .marks ≡ replicate marksBytes 0
+  pub flags : length (m .flags) ≡ mostMacros
   pub size : a .size ≤ mostLineBytes
-  pub due : a .due ≤ count
-  pub begun : a .begun ≤ budget
+  pub due : a .due ≤ g .count
+  pub begun : a .begun ≤ g .budget
+
+-- what the memories leave at a line's end
+abbrev pub leftOf : Memories → Left
+leftOf m = record { state = m .state; text = m .text }
 
 -- the end of every line that stands here
-pub record Ends (table b b′ text text′ flags : List ℕ) (count budget : ℕ) (a : Stand) (r : Ended) : Type 0 where
-  pub comes : (whole : Line) (ms : Table) → IsTable table ms → length ms ≡ count → Stands whole ms budget b text flags a → Comes whole b′ text′ r
-  pub left : Left b′ text′ r
+pub record Ends (g : Given) (m : Memories) (left : Left) (a : Stand) (r : Ended) : Type 0 where
+  pub comes : (whole : Line) (ms : Table) → IsTable (g .table) ms → length ms ≡ g .count → Stands whole ms g m a → Comes whole left r
+  pub lies : Lies left r
 
 -- what is lent behind a pass: `on` is where the line stands if it had no occurrence
 pub record Followed (tb tx nw fl : List ℕ) (r : Passed) (on : Stand) : Type 0 where
@@ -126,31 +148,27 @@ pub record Follows (tb : List ℕ) (count : ℕ) (tx tx′ nw fl fl′ : List �
   pub by : FollowedBy tb count tx tx′ nw fl fl′ r on z
 
 -- one pass further, or at the end
-abbrev pub GoesOn : List ℕ → List ℕ → List ℕ → List ℕ → List ℕ → List ℕ → List ℕ → List ℕ → List ℕ → List ℕ → ℕ → ℕ → Stand → Next → Type 0
-GoesOn table kinds b b′ text text′ new′ marks′ flags flags′ count budget a (On z) =
-    Ready table kinds b′ text′ new′ marks′ flags′ count budget z
-    × (z .begun ≡ a .begun + 1)
-    × ((whole : Line) (ms : Table) → IsTable table ms → length ms ≡ count → Stands whole ms budget b text flags a → Stands whole ms budget b′ text′ flags′ z)
-GoesOn table kinds b b′ text text′ new′ marks′ flags flags′ count budget a (Over r) = Ends table b b′ text text′ flags count budget a r
+abbrev pub GoesOn : Given → Memories → Memories → Stand → Next → Type 0
+GoesOn g m m′ a (On z) = Ready g m′ z × (z .begun ≡ a .begun + 1) × Onward g m m′ a z
+GoesOn g m m′ a (Over r) = Ends g m (leftOf m′) a r
 
-pub record Steps (table kinds b b′ text text′ new′ marks′ flags flags′ : List ℕ) (count budget : ℕ) (a : Stand) (r : Next) : Type 0 where
-  pub goes : GoesOn table kinds b b′ text text′ new′ marks′ flags flags′ count budget a r
+pub record Steps (g : Given) (m m′ : Memories) (a : Stand) (r : Next) : Type 0 where
+  pub goes : GoesOn g m m′ a r
 
 -- FROM THE START
 
 -- a line before its passes: the first n bytes of the text
-pub record Begun (tb : List ℕ) (count : ℕ) (b tx : List ℕ) (n : ℕ) : Type 0 where
+pub record Begun (tb : List ℕ) (count : ℕ) (old : Left) (n : ℕ) : Type 0 where
   pub table : Counted tb count
-  pub state : IsState b
-  pub text : length tx ≡ mostLineBytes
-  pub laid : tx ≡ padded (take n tx) mostLineBytes
+  pub state : IsState (old .state)
+  pub text : length (old .text) ≡ mostLineBytes
+  pub laid : old .text ≡ padded (take n (old .text)) mostLineBytes
   pub size : n ≤ mostLineBytes
-  pub bytes : Bytes (take n tx)
+  pub bytes : Bytes (take n (old .text))
 
--- and after them
-pub record RunsFrom (table : List ℕ) (count : ℕ) (b b′ text text′ : List ℕ) (n budget : ℕ) (r : Ended) : Type 0 where
-  pub comes : (ms : Table) → IsTable table ms → length ms ≡ count → (st : State) → Holds b st → Comes (lineOf ms st budget (take n text)) b′ text′ r
-  pub left : Left b′ text′ r
+-- the line that runs so
+abbrev pub runOf : List ℕ → ℕ → Left → ℕ → ℕ → Run
+runOf tb count old n budget = record { table = tb; count = count; state = old .state; sent = record { line = take n (old .text); budget = budget } }
 
 abbrev pub isRefused : Ended → Bool
 isRefused (Done n o p) = false

@@ -7,8 +7,8 @@ use line_memory::lay_out;
 use passes::all_passes;
 use refusals::Fault;
 ghost use mathlib.Core.Path.{_≡_};
-ghost use Rattle.line_passes.specs.Contract.{Started, Runs};
-ghost use Rattle.line_passes.specs.Passing.{Begun, RunsFrom, isRefused};
+ghost use Rattle.line_passes.specs.Contract.{Started, Runs, RunsTo};
+ghost use Rattle.line_passes.specs.Passing.{Begun, runOf, isRefused};
 
 // Why the table at work refuses a line: 31, or a pass's fault.
 pub enum Why {
@@ -62,8 +62,8 @@ fn from_start(
     size: usize,
     budget: usize,
 ) -> Ended
-    requires { ⌜ Begun (now table) count (now state) (now text) size ⌝ }
-    ensures { λ r. ⌜ RunsFrom (now (table .entry)) count (now (state .entry)) (now (state .exit)) (now (text .entry)) (now (text .exit)) size budget r ⌝ }
+    requires { ⌜ Begun (now table) count (record { state = now state; text = now text }) size ⌝ }
+    ensures { λ r. ⌜ RunsTo (runOf (now (table .entry)) count (record { state = now (state .entry); text = now (text .entry) }) size budget) (record { state = now (state .exit); text = now (text .exit) }) r ⌝ }
 {
     let kinds = kind_table();
     let mut new = [0u8; 1054];
@@ -99,8 +99,8 @@ pub fn run_line(
     after: &mut [u8],
     text: &mut [u8],
 ) -> Ended
-    requires { ⌜ Started (now table) count (now state) (now line) (now after) (now text) ⌝ }
-    ensures { λ r. ⌜ Runs (now (table .entry)) count (now (state .entry)) (now (line .entry)) budget (now (after .exit)) (now (text .exit)) r ⌝ }
+    requires { ⌜ Started (record { table = now table; count = count; state = now state; sent = record { line = now line; budget = budget } }) (record { state = now after; text = now text }) ⌝ }
+    ensures { λ r. ⌜ Runs (record { table = now (table .entry); count = count; state = now (state .entry); sent = record { line = now (line .entry); budget = budget } }) (record { state = now (after .exit); text = now (text .exit) }) r ⌝ }
 {
     lay_out(after, state);
     lay_out(text, line);

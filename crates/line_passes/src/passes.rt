@@ -93,8 +93,8 @@ fn step(
     budget: usize,
     stand: Stand,
 ) -> Next
-    requires { ⌜ Ready (now table) (now kinds) (now state) (now text) (now new) (now marks) (now closed) count budget stand ⌝ }
-    ensures { λ r. ⌜ Steps (now (table .entry)) (now (kinds .entry)) (now (state .entry)) (now (state .exit)) (now (text .entry)) (now (text .exit)) (now (new .exit)) (now (marks .exit)) (now (closed .entry)) (now (closed .exit)) count budget stand r ⌝ }
+    requires { ⌜ Ready (record { table = now table; count = count; kinds = now kinds; budget = budget }) (record { state = now state; text = now text; new = now new; marks = now marks; flags = now closed }) stand ⌝ }
+    ensures { λ r. ⌜ Steps (record { table = now (table .entry); count = count; kinds = now (kinds .entry); budget = budget }) (record { state = now (state .entry); text = now (text .entry); new = now (new .entry); marks = now (marks .entry); flags = now (closed .entry) }) (record { state = now (state .exit); text = now (text .exit); new = now (new .exit); marks = now (marks .exit); flags = now (closed .exit) }) stand r ⌝ }
 {
     let n = stand.size;
     let due = next_due(&text[..n], closed, budget, stand);
@@ -129,8 +129,8 @@ pub(crate) fn all_passes(
     budget: usize,
     start: Stand,
 ) -> Ended
-    requires { ⌜ Ready (now table) (now kinds) (now state) (now text) (now new) (now marks) (now closed) count budget start ⌝ }
-    ensures { λ r. ⌜ Ends (now (table .entry)) (now (state .entry)) (now (state .exit)) (now (text .entry)) (now (text .exit)) (now (closed .entry)) count budget start r ⌝ }
+    requires { ⌜ Ready (record { table = now table; count = count; kinds = now kinds; budget = budget }) (record { state = now state; text = now text; new = now new; marks = now marks; flags = now closed }) start ⌝ }
+    ensures { λ r. ⌜ Ends (record { table = now (table .entry); count = count; kinds = now (kinds .entry); budget = budget }) (record { state = now (state .entry); text = now (text .entry); new = now (new .entry); marks = now (marks .entry); flags = now (closed .entry) }) (record { state = now (state .exit); text = now (text .exit) }) start r ⌝ }
 {
     let mut stand = start;
     loop {

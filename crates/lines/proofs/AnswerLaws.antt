@@ -11,7 +11,7 @@ use Rattle.macros.specs.Refusals.{Refusal}
 use Rattle.macros.specs.Refusals.Refusal.{ofHost, ofLine, ofFile, ofWork}
 use Rattle.macros.specs.Refusals.HostRefusal.{badMemory, badTable, badState, budgetTooLarge}
 use Rattle.macros.specs.Refusals.LineRefusal.{lineTooLong, badByte, badControl}
-use Rattle.macros.specs.Macro.{Table, pick}
+use Rattle.macros.specs.Macro.{Macro, Table, pick}
 use Rattle.macros.specs.Read.{readOnto}
 use Rattle.macros.specs.Read.Read.{refusedAt, table}
 use Rattle.lines.specs.State.{State}
@@ -23,6 +23,7 @@ use Rattle.lines.specs.Controls.{Says}
 use Rattle.lines.specs.Demand.{endOfLine, passCount, Withholds, HasBadByte, Fits, History, Run, Finished, ByKind, Lines}
 use Rattle.lines.specs.OneLine.{OneAnswer, OneList}
 use Rattle.lines.proofs.LineLaws.{pass-count, end-of-line, kind-of-done}
+use Rattle.lines.proofs.OntoLaws.{Onto, reads-onto, one-more, one-length}
 use Rattle.lines.proofs.OrderLaws.{begins-with, same-true}
 use Rattle.lines.proofs.Demand3.{bad-byte, no-bad-byte, line-history}
 use Rattle.lines.proofs.OneLaws.{one-line}
@@ -57,6 +58,12 @@ module _ (ms : Table) (st : State) (sent : Sent) where
 
 -- A CONTROL LINE
 
+not-one : (ms : Table) (rest : List ℕ) (ks : Table) → readOnto ms rest ≡ table ks → ((m : Macro) → ks ≡ ms ++ (m ∷ []) → ⊥) → length ks ≡ suc (length ms) → ⊥
+not-one ms rest ks e h n =
+    let o : Onto ms (table ks) = subst (Onto ms) e (reads-onto ms rest) in
+    let a = one-more ms ks (o .0) (o .1) n in
+    h (a .0) (a .1)
+
 state-same : (x y : State) → x .stacks ≡ y .stacks → x .counters ≡ y .counters → x .trace ≡ y .trace → x .nflag ≡ y .nflag → x ≡ y
 state-same x y s c t n = λ i. record { stacks = s i; counters = c i; trace = t i; nflag = n i }
 
@@ -85,7 +92,7 @@ module _ (ms : Table) (x : State) where
   says-order : (s : List ℕ) (o : Order) → Says ms x s o → orderOf ms x s ≡ o
   unfolding macroOrder pick orderOf flagOrder withTrace withNflag
   says-order s (orders ks y) (inl h) =
-      ap (orderOf ms x) (h .word) ∙ order-macro (h .rest) ∙ ap (macroOrder ms x) (h .reads) ∙ rw (eq-eqb (length ks) (suc (length ms)) (h .one)) (ap (orders ks) (sym (h .state)))
+      ap (orderOf ms x) (h .word) ∙ order-macro (h .rest) ∙ ap (macroOrder ms x) (h .reads) ∙ rw (eq-eqb (length ks) (suc (length ms)) (one-length ms ks (h .newest) (h .added))) (ap (orders ks) (sym (h .state)))
   says-order s (orders ks y) (inr (inl h)) =
       ap (orderOf ms x) (h .exactly) ∙ order-trace-0 ∙ ap (λ (k : Table). orders k (withTrace 0 x)) (sym (h .table)) ∙ ap (orders ks) (sym (state-same y (withTrace 0 x) (h .stacks) (h .counters) (h .traceIs) (h .nflagIs)))
   says-order s (orders ks y) (inr (inr (inl h))) =
@@ -98,7 +105,7 @@ module _ (ms : Table) (x : State) where
   says-order s (wrong (ofLine lineTooLong)) h = absurd h
   says-order s (wrong (ofLine badByte)) h = absurd h
   says-order s (wrong (ofLine badControl)) (inl h) =
-      ap (orderOf ms x) (h .word) ∙ order-macro (h .rest) ∙ ap (macroOrder ms x) (h .reads) ∙ rw (ne-eqb (length (h .read)) (suc (length ms)) (h .notOne))
+      ap (orderOf ms x) (h .word) ∙ order-macro (h .rest) ∙ ap (macroOrder ms x) (h .reads) ∙ rw (ne-eqb (length (h .read)) (suc (length ms)) (not-one ms (h .rest) (h .read) (h .reads) (h .notOne)))
   says-order s (wrong (ofLine badControl)) (inr h) =
       rw (
         by-false (begins (bytes "$MACRO") s) (λ e. h .noMacro (drop 6 s) (begins-with (bytes "$MACRO") s e)),

@@ -12,7 +12,8 @@ use lib.ListN.{length, drop, length-drop, drop-of-length-le}
 use Rattle.macros.specs.Macro.{Piece}
 use Rattle.macros.specs.Macro.Piece.{element, start, end, left, right}
 use Rattle.lines.specs.State.{State}
-use Rattle.lines.specs.Matching.{fits, width, span, Division, Satisfies, Divides, Fewer, then, repeated, isEnd, chosen}
+use Rattle.lines.specs.Matching.{fits, width, span, Division, Satisfies, Divides, Fewer}
+use Rattle.lines.specs.Choosing.{then, repeated, isEnd, chosen}
 use Rattle.lines.specs.Choice.{Chosen, Choice, repeats, SameRepeats}
 use Rattle.lines.proofs.ClosureLaws.{chosen-iff, Only, then-chosen, First, repeated-chosen}
 

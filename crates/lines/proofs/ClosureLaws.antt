@@ -12,7 +12,8 @@ use lib.Seq.{drop-drop}
 use Rattle.macros.specs.Macro.{Closure, PatternUnit}
 use Rattle.macros.specs.Macro.Closure.{once, oneOrMore, zeroOrMore}
 use Rattle.lines.specs.State.{State}
-use Rattle.lines.specs.Matching.{fits, width, Copies, Allowed, span, Division, Fewer, Rest, then, more, spare, repeated}
+use Rattle.lines.specs.Matching.{fits, width, Copies, Allowed, span, Division, Fewer}
+use Rattle.lines.specs.Choosing.{Rest, then, more, spare, repeated}
 use Rattle.lines.specs.Choice.{Chosen}
 use Rattle.lines.proofs.CopyLaws.{fits-inside, wide-or-not}
 use Rattle.lines.proofs.MoreLaws.{or-else, more-false, more-true}

@@ -15,6 +15,7 @@ pub mod OpenLaws
 pub mod LineLaws
 pub mod BudgetLaws
 pub mod FeedLaws
+pub mod OntoLaws
 pub mod OrderLaws
 pub mod Demand3
 pub mod OneLaws

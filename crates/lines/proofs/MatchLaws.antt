@@ -14,7 +14,8 @@ use Rattle.macros.specs.Macro.{Closure, Piece}
 use Rattle.macros.specs.Macro.Closure.{once, oneOrMore, zeroOrMore}
 use Rattle.macros.specs.Macro.Piece.{element, start, end, left, right}
 use Rattle.lines.specs.State.{State}
-use Rattle.lines.specs.Matching.{width, Allowed, span, Division, Satisfies, Divides, endOf, Fewer, chosen}
+use Rattle.lines.specs.Matching.{width, Allowed, span, Division, Satisfies, Divides, endOf, Fewer}
+use Rattle.lines.specs.Choosing.{chosen}
 use Rattle.lines.specs.Pass.{barred, unlessBarred, counting, match}
 use Rattle.lines.specs.Choice.{Chosen}
 use Rattle.lines.specs.Demand.{Counts}

@@ -7,7 +7,8 @@ use Prim.Native.Nat.{ℕ, suc, _+_, _-_, _≤_}
 use native.Mathlib.Omega.{arith}
 use lib.ListN.{length, drop, length-drop}
 use lib.Seq.{drop-drop}
-use Rattle.lines.specs.Matching.{Division, Rest, then, more, stops}
+use Rattle.lines.specs.Matching.{Division, stops}
+use Rattle.lines.specs.Choosing.{Rest, then, more}
 
 -- the end places of what is chosen
 abbrev pub stopsOf : Option Division → Option (List ℕ)

@@ -16,6 +16,7 @@ use Rattle.lines.specs.State.{State}
 use Rattle.lines.specs.Matching.{begins}
 use Rattle.lines.specs.Feeding.{bytes, same, withTrace, withNflag, Order, wrong, orders, flagOrder, macroOrder, orderOf}
 use Rattle.lines.specs.Controls.{Says, OrderSays}
+use Rattle.lines.proofs.OntoLaws.{Onto, reads-onto, one-more, one-length}
 
 if-true : (x y : Bool) → (elim x [ true ↦ y | false ↦ false ]) ≡ true → (x ≡ true) × (y ≡ true)
 if-true true y e = (refl, e)
@@ -69,9 +70,12 @@ module _ (ms : Table) (x : State) (s : List ℕ) where
   unfolding macroOrder
   macro-says rest w (refusedAt r p) e = record { rest = rest; word = w; reads = e }
   macro-says rest w (table ks) e =
+      let o : Onto ms (table ks) = subst (Onto ms) e (reads-onto ms rest) in
       by-pick (eqb (length ks) (suc (length ms))) (orders ks x) (wrong (ofLine badControl))
-      (λ f. inl (record { rest = rest; word = w; reads = e; one = eqb-true (length ks) (suc (length ms)) f; state = refl }))
-      (λ f. inl (record { rest = rest; read = ks; word = w; reads = e; notOne = eqb-false (length ks) (suc (length ms)) f }))
+      (λ f.
+      let a = one-more ms ks (o .0) (o .1) (eqb-true (length ks) (suc (length ms)) f) in
+      inl (record { rest = rest; newest = a .0; word = w; reads = e; added = a .1; state = refl }))
+      (λ f. inl (record { rest = rest; read = ks; word = w; reads = e; notOne = λ m g. eqb-false (length ks) (suc (length ms)) f (one-length ms ks m g) }))
 
   flag-says : ((rest : List ℕ) → s ≡ bytes "$MACRO" ++ rest → ⊥) → Says ms x s (flagOrder ms x s)
   unfolding flagOrder withTrace withNflag

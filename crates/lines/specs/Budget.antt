@@ -13,7 +13,8 @@ use Rattle.lines.specs.Demand.{passCount, endOfLine}
 abbrev pub oneMore : Sent → Sent
 oneMore sent = record { line = sent .line; budget = suc (sent .budget) }
 
--- THE LAW: of every table, state and line that is sent [budget_off_by_one, budget_one_short, done_is_31]. It is refused with 31 exactly when, with one more in its budget, it would make one pass more than its budget
+-- THE LAW: of every table, state and line that is sent [budget_off_by_one, budget_one_short, done_is_31]. It is refused with 31 exactly
+-- when, with one more in its budget, it would make one pass more than its budget
 abbrev pub BudgetExact : Type 0
 BudgetExact =
     (ms : Table) (st : State) (sent : Sent)

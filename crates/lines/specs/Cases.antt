@@ -16,7 +16,8 @@ use Rattle.macros.specs.Refusals.{fileNumber}
 use Rattle.macros.specs.Cases.{everything as macrosOpen}
 use Rattle.lines.specs.State.{Stack, Counter, State, freshStack, freshCounter, fresh, stackOf, counterOf, currentEntry, contents}
 use Rattle.lines.specs.Matching.{byteFits, begins, isMember, inClass, fits, width, Copies, Allowed, Satisfies, Divides, endOf, Fewer}
-use Rattle.lines.specs.Matching.{then, more, spare, repeated, isEnd, chosen, closing, tagText}
+use Rattle.lines.specs.Matching.{closing, tagText}
+use Rattle.lines.specs.Choosing.{then, more, spare, repeated, isEnd, chosen}
 use Rattle.lines.specs.Replacing.{unless, onto, puts, put, withStack, withCounter, withPointer, withValue, withIncrement, withEntry}
 use Rattle.lines.specs.Replacing.{fallen, moves, early, late, stores, callActs, acts, replaces, commandsAct, occur}
 use Rattle.lines.specs.Pass.{barred, unlessBarred, counting, match, goOn, matched, atEnd, onward, atByte, walk, pass, occurrences}

@@ -11,7 +11,8 @@ use Rattle.macros.specs.Macro.{Closure, Piece, pick}
 use Rattle.macros.specs.Macro.Closure.{once, oneOrMore, zeroOrMore}
 use Rattle.macros.specs.Macro.Piece.{element, start, end, left, right}
 use Rattle.lines.specs.State.{State}
-use Rattle.lines.specs.Matching.{span, Division, Divides, Fewer, chosen}
+use Rattle.lines.specs.Matching.{span, Division, Divides, Fewer}
+use Rattle.lines.specs.Choosing.{chosen}
 
 -- what it is to be chosen among the divisions D
 abbrev pub Chosen : (Division → Type 0) → Option Division → Type 0

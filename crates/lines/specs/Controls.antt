@@ -1,13 +1,13 @@
--- 01, part 6: what a control line is, by its text alone, and what it does. The law joins it to orderOf of Feeding. In brackets stand the edits of must-fail/ that a clause rules out.
-use Prim.Native.Nat.{ℕ, suc}
+-- 01, part 6: what a control line is, by its text alone, and what it does. The law joins it to orderOf of Feeding.
+-- In brackets stand the edits of must-fail/ that a clause rules out.
+use Prim.Native.Nat.{ℕ}
 use mathlib.Core.Path.{_≡_}
 use mathlib.Core.Logic.{_⊎_}
-use mathlib.Core.List.{List, _++_}
-use lib.ListN.{length}
+use mathlib.Core.List.{List, [], _∷_, _++_}
 use Rattle.macros.specs.Refusals.{FileRefusal, Refusal}
 use Rattle.macros.specs.Refusals.Refusal.{ofHost, ofLine, ofFile, ofWork}
 use Rattle.macros.specs.Refusals.LineRefusal.{lineTooLong, badByte, badControl}
-use Rattle.macros.specs.Macro.{Table}
+use Rattle.macros.specs.Macro.{Macro, Table}
 use Rattle.macros.specs.Read.{readOnto}
 use Rattle.macros.specs.Read.Read.{refusedAt, table}
 use Rattle.lines.specs.State.{State}
@@ -19,9 +19,10 @@ use Rattle.lines.specs.Feeding.Order.{wrong, orders}
 -- "`$MACRO` and the bytes after it, read as a macro file of one macro, adds the newest" [two_macros_taken]
 pub record Adds (ms : Table) (x : State) (s : List ℕ) (ks : Table) (y : State) : Type 0 where
   pub rest : List ℕ
+  pub newest : Macro
   pub word : s ≡ bytes "$MACRO" ++ rest
   pub reads : readOnto ms rest ≡ table ks
-  pub one : length ks ≡ suc (length ms)
+  pub added : ks ≡ ms ++ (newest ∷ [])
   pub state : y ≡ x
 
 -- the line is exactly the one named, the flags are these after it, and all else is kept [trace_sets_nflag]
@@ -56,7 +57,7 @@ pub record NotOne (ms : Table) (s : List ℕ) : Type 0 where
   pub read : Table
   pub word : s ≡ bytes "$MACRO" ++ rest
   pub reads : readOnto ms rest ≡ table read
-  pub notOne : length read ≡ suc (length ms) → ⊥
+  pub notOne : (m : Macro) → read ≡ ms ++ (m ∷ []) → ⊥
 
 -- "23 another word or value"
 pub record Other (s : List ℕ) : Type 0 where

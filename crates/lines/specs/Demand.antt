@@ -1,5 +1,28 @@
--- Demand 3, over every list of lines. It speaks of divisions (Divides, Fewer), never of the chooser. Quoted is the demand, or the part of 01 that is named.
--- In brackets stand the edits of must-fail/ that a clause rules out. OneLine states that the clauses leave nothing free: it needs size [size_free], newest [any_macro_next] and usedUp [any_budget].
+-- Demand 3, over every list of lines. It speaks of divisions (Divides, Fewer), never of the chooser, and of no function that makes passes.
+-- Quoted is the demand, or the part of 01 that is named. In brackets stand the edits of must-fail/ that a clause rules out.
+--
+-- The demand says                                        | said here by
+-- "a refused line leaves table, state and output"        | ByKind, clause refusedWith; why it is refused: Reason
+-- "no macro still open to it has a division at any        | Finished, nothingLeft; its final text: Finished, final
+--    place of its final text"                            |
+-- "passed over exactly when no place has one"            | PassHolds, passedOver
+-- "at the leftmost place still ahead that has one"       | Stands, ahead to leftmost; what is ahead: aheadAfter
+-- "with the tags of that division"                       | Stands, tags (Tags)
+-- "every other one there has fewer repeats at the first  | Stands, most (Fewer of Matching; FewerMeans of Choice says it in full)
+--    closure where they differ"                          |
+-- "Each replacement"                                     | Replaces, acts (Steps)
+-- "A pass ends only when no place ahead has one"         | Walks, clause ended (good v)
+-- "the moment that 01 names for each"                    | the state in Nowhere, Stands and NoneAhead
+-- "an empty division where the match .. ended"           | Counts
+-- "by which 01's rules make the line's answer"           | LineHolds, History; that they are the only ones: OneLine
+-- "its text and the new table and state"                 | Finished; of a control line Controlled (Controls)
+-- "the number of passes"                                 | Run, number
+-- "fed in turn from a fresh state and any accepted table"| Lines, Demand3; from any state: Resumed
+--
+-- Borrowed is what one copy of a unit is (fits, width, contents), how one entry, pointer, value or increment of a state is changed
+-- (withEntry to withIncrement), a tag's text (tagText), and reading (readOnto). The cases hold the first two, TagsRun holds the third,
+-- crates/macros the last.
+-- OneLine needs size [size_free], newest [any_macro_next] and usedUp [any_budget].
 use mathlib.Core.Path.{_≡_}
 use Prim.Native.Nat.{ℕ, suc, _+_, _≤_, _<_}
 use mathlib.Core.Bool.{Bool, true, false}
@@ -108,13 +131,16 @@ pub record Full (m : Macro) (t : List ℕ) (from : ℕ) (last : Option ℕ) (w :
 abbrev pub Walks : Macro → List ℕ → ℕ → Option ℕ → Work → Walk → Type 0
 -- it comes to an occurrence: what lies between is copied
 Walks m t from last w (occurs o k) =
-    Copied (slice (behind last) (o .place) t) w (o .before) × Replaces m t from last o × Walks m t (aheadAfter o) (some (stopOf o)) (o .after) k
+    Copied (slice (behind last) (o .place) t) w (o .before)
+    × Replaces m t from last o
+    × Walks m t (aheadAfter o) (some (stopOf o)) (o .after) k
 -- "A pass ends only when no place ahead has one", under the state at that end [early_end]
 Walks m t from last w (ended (good v)) = Copied (slice (behind last) (length t) t) w v × NoneAhead from (suc (length t)) last (v .state) m t
 -- it is refused, for one of the two reasons
 Walks m t from last w (ended (bad r v)) = Fails m t from last w r v ⊎ Full m t from last w r v
 
--- the moment in which the pass ends, after all its occurrences: each acts "on the state that the next occurrence sees" (01, part 4) [first_occurrence_ends]
+-- the moment in which the pass ends, after all its occurrences: each acts "on the state that the next occurrence sees" (01, part 4)
+-- [first_occurrence_ends]
 abbrev pub EndsIn : Walk → Work → Type 0
 EndsIn (ended d) v = d ≡ good v
 EndsIn (occurs o k) v = EndsIn k v
@@ -124,7 +150,8 @@ abbrev pub FailsIn : Walk → WorkRefusal → Work → Type 0
 FailsIn (ended d) r v = d ≡ bad r v
 FailsIn (occurs o k) r v = FailsIn k r v
 
--- THE PASSES OF A LINE, from its text t and its state st on; closed: the numbers of the macros closed to it; since: of those that passed since its last occurrence
+-- THE PASSES OF A LINE, from its text t and its state st on; closed: the numbers of the macros closed to it; since: of those that passed
+-- since its last occurrence
 
 -- i is none of the numbers: "all others are open" (01, part 6) [closed_from_start]
 abbrev pub NotIn : ℕ → List ℕ → Type 0
@@ -149,7 +176,8 @@ pub record PassHolds (ms : Table) (closed since : List ℕ) (t : List ℕ) (st :
   -- "an open macro", the newest one whose pass is due (01, part 6) [oldest_first, no_restart]
   pub due : Due ms closed since (x .which .number) (x .which .macro)
   pub newest : (i : ℕ) (m : Macro) → Due ms closed since i m → i ≤ x .which .number
-  -- "In its pass an open macro is passed over exactly when no place has one", under the state "when its pass tries place 0" (01, contracts); of a pass that is not refused
+  -- "In its pass an open macro is passed over exactly when no place has one", under the state "when its pass tries place 0" (01,
+  -- contracts); of a pass that is not refused
   pub passedOver : (v : Work) → EndsIn (x .events) v → (occurred (x .events) ≡ false) ↔ Nowhere st (x .which .macro) t
   -- it tries place 0 first, with nothing of the new line made
   pub walks : Walks (x .which .macro) t 0 none (record { out = []; size = 0; state = st }) (x .events)
@@ -174,11 +202,14 @@ Passes ms closed since t st (passed x l) =
     × (((v : Work) × EndsIn (x .events) v × Passes ms (closedAfter x closed) (sinceAfter x since) (newLine v) (v .state) l)
     ⊎ ((r : WorkRefusal) × (v : Work) × FailsIn (x .events) r v × (r ≡ budgetUsedUp → ⊥) × (l ≡ lineEnded (refused r))))
 -- "The line is done when every open macro has passed without one since the line's last occurrence" (01, part 6)
-Passes ms closed since t st (lineEnded (done s x)) = (s ≡ t) × (x ≡ st) × (Dollar t → ⊥) × ((i : ℕ) (m : Macro) → Due ms closed since i m → ⊥)
+Passes ms closed since t st (lineEnded (done s x)) =
+    (s ≡ t) × (x ≡ st) × (Dollar t → ⊥) × ((i : ℕ) (m : Macro) → Due ms closed since i m → ⊥)
 -- "a line beginning with `$` is a control line: no more passes" (01, part 6)
 Passes ms closed since t st (lineEnded (control s x)) = (s ≡ t) × (x ≡ st) × Dollar t
--- "31 another pass is due" (01, refusals): the line is no control line, and the pass of some macro is due [done_is_31]; that the budget is used up stands in History
-Passes ms closed since t st (lineEnded (refused r)) = (r ≡ budgetUsedUp) × (Dollar t → ⊥) × ((i : ℕ) × (m : Macro) × Due ms closed since i m)
+-- "31 another pass is due" (01, refusals): the line is no control line, and the pass of some macro is due [done_is_31]; that the budget is
+-- used up stands in History
+Passes ms closed since t st (lineEnded (refused r)) =
+    (r ≡ budgetUsedUp) × (Dollar t → ⊥) × ((i : ℕ) × (m : Macro) × Due ms closed since i m)
 
 -- ONE LINE that is sent, fed to the table ms and the state st; its history l, and its answer a
 
@@ -225,7 +256,8 @@ pub record History (ms : Table) (st : State) (sent : Sent) (l : Line) : Type 0 w
   pub within : passCount l ≤ sent .budget
   pub usedUp : endOfLine l ≡ refused budgetUsedUp → passCount l ≡ sent .budget
 
--- a line that has passes: its history, and "the answer carries the number of passes", also where it is refused [passes_not_counted, refused_passes_0]
+-- a line that has passes: its history, and "the answer carries the number of passes", also where it is refused [passes_not_counted,
+-- refused_passes_0]
 pub record Run (ms : Table) (st : State) (sent : Sent) (l : Line) (a : Answer) : Type 0 where
   pub history : History ms st sent l
   pub number : a .passes ≡ passCount l
@@ -262,15 +294,18 @@ Reason ms st sent l a (ofHost budgetTooLarge) = (mostBudget < sent .budget) × (
 -- "21 too long", next
 Reason ms st sent l a (ofLine lineTooLong) = (sent .budget ≤ mostBudget) × (mostLineBytes < length (sent .line)) × (a .passes ≡ 0)
 -- "22 holds byte 0 or line feed"
-Reason ms st sent l a (ofLine badByte) = (sent .budget ≤ mostBudget) × (length (sent .line) ≤ mostLineBytes) × HasBadByte (sent .line) × (a .passes ≡ 0)
+Reason ms st sent l a (ofLine badByte) =
+    (sent .budget ≤ mostBudget) × (length (sent .line) ≤ mostLineBytes) × HasBadByte (sent .line) × (a .passes ≡ 0)
 -- 23, and 10 to 19 with their place: "Later, of a control line", behind its passes
 Reason ms st sent l a (ofLine badControl) = Run ms st sent l a × ((s : List ℕ) × (x : State) × Miscontrolled ms l (ofLine badControl) s x)
 Reason ms st sent l a (ofFile r p) = Run ms st sent l a × ((s : List ℕ) × (x : State) × Miscontrolled ms l (ofFile r p) s x)
--- 31: its history ends so; by usedUp of History the passes are the budget, and by Passes another one is due. 32 to 35: its last pass is refused so, by Walks
+-- 31: its history ends so; by usedUp of History the passes are the budget, and by Passes another one is due. 32 to 35: its last pass is
+-- refused so, by Walks
 Reason ms st sent l a (ofWork r) = Run ms st sent l a × (endOfLine l ≡ refused r)
 
 abbrev pub ByKind : Table → State → Sent → Line → Answer → Kind → Type 0
--- "a refused line leaves table, state and output as they were" (a refusal has no output) [refused_line_keeps_state], and is refused for its reason
+-- "a refused line leaves table, state and output as they were" (a refusal has no output) [refused_line_keeps_state], and is refused for its
+-- reason
 ByKind ms st sent l a (refusedWith r) = (a .table ≡ ms) × (a .state ≡ st) × Reason ms st sent l a r
 -- "If it goes out or is withheld"
 ByKind ms st sent l a (out s) = Run ms st sent l a × Finished ms l a s
@@ -278,7 +313,8 @@ ByKind ms st sent l a withheld = Run ms st sent l a × ((s : List ℕ) × Finish
 -- or is a control line
 ByKind ms st sent l a controlled = Run ms st sent l a × ((s : List ℕ) × (x : State) × Controlled ms l a s x)
 
--- "The passes and replacements meant are those by which 01's rules make the line's answer": some history has them, and by OneLine no other has
+-- "The passes and replacements meant are those by which 01's rules make the line's answer": some history has them, and by OneLine no other
+-- has
 abbrev pub LineHolds : Table → State → Sent → Answer → Type 0
 LineHolds ms st sent a = (l : Line) × ByKind ms st sent l a (a .kind)
 

@@ -20,7 +20,8 @@ abbrev pub Placed : ℕ → Type 0
 Placed n = Between 10 19 n
 
 -- 0 for a line that is taken, and the refusals that a line can meet: the host's 4, the table writer's, the sender's, the table's at work;
--- not 10 or 11: a control line has at most 1,054 bytes, and none is 0; not 1, 2 or 3, which are about memories: here the table is accepted and the state in range
+-- not 10 or 11: a control line has at most 1,054 bytes, and none is 0; not 1, 2 or 3, which are about memories: here the table is accepted
+-- and the state in range
 abbrev pub Number : ℕ → Type 0
 Number n = (n ≡ 0) ⊎ (n ≡ 4) ⊎ Between 12 19 n ⊎ Between 21 23 n ⊎ Between 31 35 n
 
@@ -60,4 +61,5 @@ EachKept ms st (x ∷ xs) (a ∷ answers) = Kept ms st x a × EachKept (a .table
 
 -- THE LAW OF A WHOLE LIST: lines of any bytes, from an accepted table and the fresh state
 abbrev pub FeedsKeep : Type 0
-FeedsKeep = (ms : Table) (xs : List Sent) → Accepted ms → AllOf (λ (x : Sent). Octets (x .line)) xs → EachKept ms fresh xs (feeds ms fresh xs)
+FeedsKeep =
+    (ms : Table) (xs : List Sent) → Accepted ms → AllOf (λ (x : Sent). Octets (x .line)) xs → EachKept ms fresh xs (feeds ms fresh xs)

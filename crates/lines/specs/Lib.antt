@@ -1,5 +1,6 @@
 pub mod State
 pub mod Matching
+pub mod Choosing
 pub mod Replacing
 pub mod Pass
 pub mod Line

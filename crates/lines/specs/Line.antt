@@ -76,7 +76,8 @@ unfoldable pub isControl : List ℕ → Bool
 isControl [] = false
 isControl (b ∷ bs) = eqb b 36
 
--- "Before each pass and at the end, .. a control line: no more passes"; "The line is done when every open macro has passed without one since the line's last occurrence"
+-- "Before each pass and at the end, .. a control line: no more passes"; "The line is done when every open macro has passed without one
+-- since the line's last occurrence"
 unfoldable pub due : Bool → List ℕ → State → List Numbered → (Numbered → List Numbered → Line) → Line
 due true t st todo next = ended (control t st)
 due false t st [] next = ended (done t st)
@@ -96,7 +97,8 @@ unfoldable pub textOf : Work → List ℕ
 textOf w = onto (w .out) []
 
 -- A pass without an occurrence leaves text and state as they are.
--- the passes from a text and a state on; todo: the open macros whose pass is due; "Each pass costs one of the budget.", 31: "another pass is due and the budget is used up"
+-- the passes from a text and a state on; todo: the open macros whose pass is due; "Each pass costs one of the budget.", 31: "another pass
+-- is due and the budget is used up"
 unfoldable pub passes : Table → ℕ → List ℕ → List Numbered → State → List ℕ → Line
 passes ms zero closed todo st t = due (isControl t) t st todo (λ e es. ended (refused budgetUsedUp))
 passes ms (suc budget) closed todo st t =

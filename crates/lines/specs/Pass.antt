@@ -6,7 +6,8 @@ use mathlib.Core.Option.{Option, none, some}
 use lib.Dec.{eqb}
 use Rattle.macros.specs.Macro.{Piece, Macro}
 use Rattle.lines.specs.State.{State}
-use Rattle.lines.specs.Matching.{Division, endOf, chosen}
+use Rattle.lines.specs.Matching.{Division, endOf}
+use Rattle.lines.specs.Choosing.{chosen}
 use Rattle.lines.specs.Replacing.{Work, Done, put, occur}
 use Rattle.lines.specs.Replacing.Done.{bad, good}
 
@@ -62,16 +63,19 @@ unfoldable pub onward : ℕ → ℕ → ℕ → (ℕ → Option ℕ → Work →
 onward q b zero go v = goOn (put b v) (λ x. go zero (some q) x)
 onward q b (suc k) go v = go k (some q) v
 
--- a place with the byte b: "At a place without a match the byte is copied."; go takes how many bytes to pass over behind b, where the last match ended, and the moment
+-- a place with the byte b: "At a place without a match the byte is copied."; go takes how many bytes to pass over behind b, where the last
+-- match ended, and the moment
 unfoldable pub atByte : Macro → List ℕ → ℕ → ℕ → Option ℕ → Work → (ℕ → Option ℕ → Work → Walk) → Option Division → Walk
 atByte m t p b last w go none = goOn (put b w) (λ v. go zero last v)
 atByte m t p b last w go (some d) = matched m t p d w (onward (endOf p d) b (endOf p d - p) go)
 
--- the pass over the line t from place p on, where t has the bytes of the last argument; of these the first skip belong to the match just made, which ended at last
+-- the pass over the line t from place p on, where t has the bytes of the last argument; of these the first skip belong to the match just
+-- made, which ended at last
 unfoldable pub walk : Macro → List ℕ → ℕ → Option ℕ → ℕ → Work → List ℕ → Walk
 walk m t skip last p w [] = atEnd m t p w (match (w .state) (m .pattern) last p [])
 walk m t (suc skip) last p w (b ∷ bs) = walk m t skip last (suc p) w bs
-walk m t zero last p w (b ∷ bs) = atByte m t p b last w (λ skip l v. walk m t skip l (suc p) v bs) (match (w .state) (m .pattern) last p (b ∷ bs))
+walk m t zero last p w (b ∷ bs) =
+    atByte m t p b last w (λ skip l v. walk m t skip l (suc p) v bs) (match (w .state) (m .pattern) last p (b ∷ bs))
 
 -- "A pass of one macro tries places from 0 to the line's length, both included."
 unfoldable pub pass : Macro → List ℕ → State → Walk

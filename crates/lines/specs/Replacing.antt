@@ -47,7 +47,9 @@ onto (b ∷ bs) out = onto bs (b ∷ out)
 
 -- a text is inserted; 32: "the new line's 1,055th byte"
 unfoldable pub puts : List ℕ → Work → Done
-puts t w = let n : ℕ = w .size + length t in unless (leb n mostLineBytes) newLineTooLong w (record { out = onto t (w .out); size = n; state = w .state })
+puts t w =
+    let n : ℕ = w .size + length t in
+    unless (leb n mostLineBytes) newLineTooLong w (record { out = onto t (w .out); size = n; state = w .state })
 
 -- the same of one byte
 unfoldable pub put : ℕ → Work → Done
@@ -58,12 +60,14 @@ put b w = unless (ltb (w .size) mostLineBytes) newLineTooLong w (record { out = 
 unfoldable pub withStack : ℕ → Stack → Work → Work
 withStack i k w =
     let st : State = w .state in
-    record { out = w .out; size = w .size; state = record { stacks = set (st .stacks) (i - 97) k; counters = st .counters; trace = st .trace; nflag = st .nflag } }
+    let new : State = record { stacks = set (st .stacks) (i - 97) k; counters = st .counters; trace = st .trace; nflag = st .nflag } in
+    record { out = w .out; size = w .size; state = new }
 
 unfoldable pub withCounter : ℕ → Counter → Work → Work
 withCounter i k w =
     let st : State = w .state in
-    record { out = w .out; size = w .size; state = record { stacks = st .stacks; counters = set (st .counters) (i - 97) k; trace = st .trace; nflag = st .nflag } }
+    let new : State = record { stacks = st .stacks; counters = set (st .counters) (i - 97) k; trace = st .trace; nflag = st .nflag } in
+    record { out = w .out; size = w .size; state = new }
 
 unfoldable pub withPointer : ℕ → ℕ → Work → Work
 withPointer i n w = withStack i (record { pointer = n; entries = stackOf (w .state) i .entries }) w
@@ -76,7 +80,8 @@ withIncrement i n w = withCounter i (record { value = counterOf (w .state) i .va
 
 unfoldable pub withEntry : ℕ → List ℕ → Work → Work
 withEntry i t w =
-    withStack i (record { pointer = stackOf (w .state) i .pointer; entries = set (stackOf (w .state) i .entries) (stackOf (w .state) i .pointer - 1) t }) w
+    let k : Stack = stackOf (w .state) i in
+    withStack i (record { pointer = k .pointer; entries = set (k .entries) (k .pointer - 1) t }) w
 
 -- "A pointer or counter that would fall below 1 is 1."
 unfoldable pub fallen : ℕ → ℕ → ℕ
@@ -86,7 +91,9 @@ fallen n by = elim (ltb by n) [ true ↦ n - by | false ↦ 1 ]
 unfoldable pub moves : Mark → Sign → ℕ → Work → Done
 moves stack plus i w = let n : ℕ = stackOf (w .state) i .pointer + 1 in unless (leb n mostEntries) pointerTooHigh w (withPointer i n w)
 moves stack minus i w = good (withPointer i (fallen (stackOf (w .state) i .pointer) 1) w)
-moves counter plus i w = let n : ℕ = counterOf (w .state) i .value + counterOf (w .state) i .increment in unless (leb n mostCounter) counterTooHigh w (withValue i n w)
+moves counter plus i w =
+    let n : ℕ = counterOf (w .state) i .value + counterOf (w .state) i .increment in
+    unless (leb n mostCounter) counterTooHigh w (withValue i n w)
 moves counter minus i w = good (withValue i (fallen (counterOf (w .state) i .value) (counterOf (w .state) i .increment)) w)
 
 -- the move before the access

@@ -18,7 +18,7 @@ use Rattle.macros.specs.Read.Read.{refusedAt, table}
 use Rattle.macros.specs.Accepted.{Accepted}
 use Rattle.lines.specs.State.{State, InRange}
 use Rattle.lines.specs.Matching.{begins}
-use Rattle.lines.specs.Line.{Ending, passesOf, hadOccurrence, ending, lineOf}
+use Rattle.lines.specs.Line.{Sent, Ending, passesOf, hadOccurrence, ending, lineOf}
 use Rattle.lines.specs.Line.Ending.{refused, done, control}
 use Rattle.lines.specs.Feeding.{Order, Answer, bytes, flagOrder, macroOrder, orderOf, placeOf, kindOfDone, refusal, ofOrder, answered, answer, hasBadByte, feed}
 use Rattle.lines.specs.Feeding.Order.{wrong, orders}
@@ -72,23 +72,23 @@ module _ (ms : Table) (st : State) where
   answered-place n o (done t s) = done-place (s .nflag) o t
   answered-place n o (control t s) = ruled-place n (orderOf ms s t) (order-near ms s t)
 
-  pub feed-place : (budget : ℕ) (t : List ℕ) → placeOf (feed ms st budget t .kind) ≤ mostFileBytes
+  pub feed-place : (sent : Sent) → placeOf (feed ms st sent .kind) ≤ mostFileBytes
   unfolding feed answer refusal placeOf place
-  feed-place budget t =
-      by-elim InFile (leb budget mostBudget) _ _
-      (λ e. by-elim InFile (leb (length t) mostLineBytes) _ _
-      (λ f. by-elim InFile (hasBadByte t) _ _ (λ g. omega arith)
-      (λ g. answered-place (length (passesOf (lineOf ms st budget t))) (hadOccurrence (lineOf ms st budget t)) (ending (lineOf ms st budget t))))
+  feed-place sent =
+      by-elim InFile (leb (sent .budget) mostBudget) _ _
+      (λ e. by-elim InFile (leb (length (sent .line)) mostLineBytes) _ _
+      (λ f. by-elim InFile (hasBadByte (sent .line)) _ _ (λ g. omega arith)
+      (λ g. answered-place (length (passesOf (lineOf ms st sent))) (hadOccurrence (passesOf (lineOf ms st sent))) (ending (lineOf ms st sent))))
       (λ f. omega arith))
       (λ e. omega arith)
 
 -- THE PASSES
 
-module _ (ms : Table) (st : State) (budget : ℕ) (t : List ℕ) (a : Accepted ms) (i : InRange st) (o : Octets t) where
-  by-budget : (c : Bool) → leb budget mostBudget ≡ c → feed ms st budget t .passes ≤ mostBudget
+module _ (ms : Table) (st : State) (sent : Sent) (a : Accepted ms) (i : InRange st) (o : Octets (sent .line)) where
+  by-budget : (c : Bool) → leb (sent .budget) mostBudget ≡ c → feed ms st sent .passes ≤ mostBudget
   unfolding feed refusal
-  by-budget true e = let h = leb-true budget mostBudget e in let k = feed-keeps ms st budget t a i o .passes in omega arith
-  by-budget false e = let q : feed ms st budget t ≡ refusal ms st 0 (ofHost budgetTooLarge) = rw (feed, e) refl in let z : feed ms st budget t .passes ≡ 0 = ap (λ (x : Answer). x .passes) q in omega arith
+  by-budget true e = let h = leb-true (sent .budget) mostBudget e in let k = feed-keeps ms st sent a i o .passes in omega arith
+  by-budget false e = let q : feed ms st sent ≡ refusal ms st 0 (ofHost budgetTooLarge) = rw (feed, e) refl in let z : feed ms st sent .passes ≡ 0 = ap (λ (x : Answer). x .passes) q in omega arith
 
-  pub feed-passes : feed ms st budget t .passes ≤ mostBudget
-  feed-passes = by-budget (leb budget mostBudget) refl
+  pub feed-passes : feed ms st sent .passes ≤ mostBudget
+  feed-passes = by-budget (leb (sent .budget) mostBudget) refl

@@ -15,6 +15,7 @@ use Rattle.form_table.specs.Form.{tableBytes}
 use Rattle.form_table.specs.Check.{checks}
 use Rattle.form_table.proofs.Basics.{clash, and-right}
 use Rattle.form_table.proofs.Tables.{checkExact}
+use Rattle.lines.specs.Line.{Sent}
 use Rattle.lines.specs.Feeding.{Kind, numberOf, placeOf, kindNumber, feed}
 use Rattle.lines.specs.Feeding.{Answer as Answered}
 use Rattle.lines.proofs.FeedKeeps.{feed-keeps}
@@ -22,7 +23,7 @@ use Rattle.form_state.specs.Form.{stateBytes}
 use Rattle.form_state.specs.Check.{stateChecks}
 use Rattle.form_state.proofs.Decode.{state-check-exact}
 use Rattle.form_state.proofs.Held.{passed-is}
-use Rattle.line_memory.specs.Memory.{IsTable}
+use Rattle.line_memory.specs.Memory.{Memories, Feeding, IsTable}
 use Rattle.line_feed.specs.Contract.{Lent, Answers}
 use Rattle.line_answer.specs.Fed.{kindOf, passesOf, sizeOf}
 use Rattle.line_feed.specs.Contract.{Feeds as FeedsLine}
@@ -54,92 +55,96 @@ place-any (Withheld p) o = refl
 place-any (Control p) o = refl
 place-any (Refused w p) o = refl
 
-module _ {a : Answered} {t′ b′ o o′ : List ℕ} {r : Fed} (h : Answers a t′ b′ o o′ r) where
+module _ {a : Answered} {m m′ : Memories} {r : Fed} (h : Answers a m m′ r) where
   told-is : told r ≡ answerOf a
   unfolding answerOf
   told-is =
-      told-any r o′
+      told-any r (m′ .output)
       ∙ ap (λ (k : Kind). lineReply (numberOf k) (placeOf k) (passesOf r) (kindNumber k) (sizeOf r)) (sym (h .kind))
       ∙ ap (λ (p : ℕ). lineReply (numberOf (a .kind)) (placeOf (a .kind)) p (kindNumber (a .kind)) (sizeOf r)) (sym (h .passes))
       ∙ ap (lineReply (numberOf (a .kind)) (placeOf (a .kind)) (a .passes) (kindNumber (a .kind))) (sym (h .size))
 
 -- THE CALL
 
-module _ (l : List ℕ) (n : ℕ) (t b o : List ℕ) where
-  abbrev called : (t′ b′ o′ : List ℕ) → Answer → Call
-  called t′ b′ o′ a = record { line = l; budget = n; table = t; state = b; output = o; table′ = t′; state′ = b′; output′ = o′; answer = a }
+-- the tests of the host's refusals
+record Tests (m : Memories) (sized table state : Bool) : Type 0 where
+  sizes : sizedToFeed m ≡ sized
+  tables : checks (m .table) ≡ table
+  states : stateChecks (m .state) ≡ state
 
-  abbrev sizes : Bool
-  sizes = eqb (length t) tableBytes && (eqb (length b) stateBytes && eqb (length o) mostLineBytes)
+module _ (sent : Sent) (m : Memories) where
+  -- a call that leaves the memories as they were
+  abbrev same : Answer → Call
+  same a = record { feeding = record { sent = sent; lent = m; left = m }; answer = a }
 
   -- 3
-  other : {a : Answer} → sizes ≡ false → a ≡ reply 3 0 0 → Feeds (called t b o a)
-  unfolding sizedToFeed reply number hostNumber
+  other : {a : Answer} → sizedToFeed m ≡ false → a ≡ reply 3 0 0 → Feeds (same a)
+  unfolding reply number hostNumber
   other z e =
       record {
-        otherSize = λ y. record { answer = e; table = refl; state = refl; output = refl };
+        otherSize = λ y. record { answer = e; memories = refl };
         noTable = λ y no. clash y z;
         noState = λ y ms f no. clash y z;
         fed = λ y ms f st h. clash y z;
       }
 
-  module _ (all-sized : sizes ≡ true) (ot : Octets t) where
+  module _ (all-sized : sizedToFeed m ≡ true) (ot : Octets (m .table)) where
     -- 1
-    no-table : {a : Answer} → checks t ≡ false → a ≡ reply 1 0 0 → Feeds (called t b o a)
-    unfolding sizedToFeed reply number hostNumber
+    no-table : {a : Answer} → checks (m .table) ≡ false → a ≡ reply 1 0 0 → Feeds (same a)
+    unfolding reply number hostNumber
     no-table z e =
         record {
           otherSize = λ y. clash all-sized y;
-          noTable = λ y no. record { answer = e; table = refl; state = refl; output = refl };
-          noState = λ y ms f no. clash (checkExact t ot .1 (ms, f .accepted, f .form)) z;
-          fed = λ y ms f st s. clash (checkExact t ot .1 (ms, f .accepted, f .form)) z;
+          noTable = λ y no. record { answer = e; memories = refl };
+          noState = λ y ms f no. clash (checkExact (m .table) ot .1 (ms, f .accepted, f .form)) z;
+          fed = λ y ms f st s. clash (checkExact (m .table) ot .1 (ms, f .accepted, f .form)) z;
         }
 
-    module _ (z : checks t ≡ true) (ob : Octets b) where
-      some-table : (ms : Table) × IsTable t ms
-      some-table = let s = checkExact t ot .0 z in (s .0, record { accepted = s .1; form = s .2 })
+    module _ (z : checks (m .table) ≡ true) (ob : Octets (m .state)) where
+      some-table : (ms : Table) × IsTable (m .table) ms
+      some-table = let s = checkExact (m .table) ot .0 z in (s .0, record { accepted = s .1; form = s .2 })
 
       -- 2
-      no-state : {a : Answer} → stateChecks b ≡ false → a ≡ reply 2 0 0 → Feeds (called t b o a)
-      unfolding sizedToFeed reply number hostNumber
+      no-state : {a : Answer} → stateChecks (m .state) ≡ false → a ≡ reply 2 0 0 → Feeds (same a)
+      unfolding reply number hostNumber
       no-state v e =
           record {
             otherSize = λ y. clash all-sized y;
             noTable = λ y no. let s = some-table in absurd (no (s .0) (s .1));
-            noState = λ y ms f no. record { answer = e; table = refl; state = refl; output = refl };
-            fed = λ y ms f st s. clash (state-check-exact b ob .1 (st, s .inRange, s .form)) v;
+            noState = λ y ms f no. record { answer = e; memories = refl };
+            fed = λ y ms f st s. clash (state-check-exact (m .state) ob .1 (st, s .inRange, s .form)) v;
           }
 
-      module _ (v : stateChecks b ≡ true) where
-        room : length o ≡ mostLineBytes
-        room = eqb-true _ _ (and-right (eqb (length b) stateBytes) _ (and-right (eqb (length t) tableBytes) _ all-sized))
+      module _ (v : stateChecks (m .state) ≡ true) where
+        room : length (m .output) ≡ mostLineBytes
+        unfolding sizedToFeed
+        room = eqb-true _ _ (and-right (eqb (length (m .state)) stateBytes) _ (and-right (eqb (length (m .table)) tableBytes) _ all-sized))
 
-        pub lent : Lent t b o
-        lent = record { table = some-table; state = passed-is b ob v; room = room }
+        lends : Lent m
+        lends = record { table = some-table; state = passed-is (m .state) ob v; room = room }
 
-        module _ {t′ b′ o′ : List ℕ} {r : Fed} (w : FeedsLine t t′ b b′ n l o o′ r) where
-          pub is-small : Octets l → Small r
-          is-small ol =
+        module _ {m′ : Memories} {r : Fed} (w : FeedsLine (record { sent = sent; lent = m; left = m′ }) r) where
+          small : Octets (sent .line) → Small r
+          small ol =
               let s = some-table in
-              let u = passed-is b ob v in
-              let d = w (s .0) (s .1) (u .0) (u .1) in
-              let keeps = feed-keeps (s .0) (u .0) n l (s .1 .accepted) (u .1 .inRange) ol in
-              let p : placeOf (kindOf r []) ≡ placeOf (feed (s .0) (u .0) n l .kind) = place-any r o′ ∙ ap placeOf (sym (d .kind)) in
+              let u = passed-is (m .state) ob v in
+              let d = w .answers (s .0) (s .1) (u .0) (u .1) in
+              let keeps = feed-keeps (s .0) (u .0) sent (s .1 .accepted) (u .1 .inRange) ol in
+              let p : placeOf (kindOf r []) ≡ placeOf (feed (s .0) (u .0) sent .kind) = place-any r (m′ .output) ∙ ap placeOf (sym (d .kind)) in
               record {
-                place = omega (arith, p, feed-place (s .0) (u .0) n l);
-                passes = omega (arith, d .passes, feed-passes (s .0) (u .0) n l (s .1 .accepted) (u .1 .inRange) ol);
+                place = omega (arith, p, feed-place (s .0) (u .0) sent);
+                passes = omega (arith, d .passes, feed-passes (s .0) (u .0) sent (s .1 .accepted) (u .1 .inRange) ol);
                 size = omega (arith, d .size, keeps .fits);
               }
 
-          pub is-fed : {a : Answer} → a ≡ told r → Feeds (called t′ b′ o′ a)
-          unfolding sizedToFeed
-          is-fed e =
+          feeds : {a : Answer} → a ≡ told r → Feeds (record { feeding = record { sent = sent; lent = m; left = m′ }; answer = a })
+          feeds e =
               record {
                 otherSize = λ y. clash all-sized y;
                 noTable = λ y no. let s = some-table in absurd (no (s .0) (s .1));
-                noState = λ y ms f no. let u = passed-is b ob v in absurd (no (u .0) (u .1));
+                noState = λ y ms f no. let u = passed-is (m .state) ob v in absurd (no (u .0) (u .1));
                 fed = λ y ms f st s.
-                    let d = w ms f st s in
+                    let d = w .answers ms f st s in
                     record {
                       answers = e ∙ told-is d;
                       tableHolds = d .table;
@@ -149,57 +154,68 @@ module _ (l : List ℕ) (n : ℕ) (t b o : List ℕ) where
               }
 
   -- which refusal is due
-  module _ {r : ℕ} (e : r ≡ hostRefusal t b o) where
-    pub refused-first : Octets t → Octets b → 0 < r → {a : Answer} → a ≡ reply r 0 0 → Feeds (called t b o a)
+  module _ {r : ℕ} (e : r ≡ hostRefusal m) (ot : Octets (m .table)) (ob : Octets (m .state)) where
+    pub refused-first : 0 < r → {a : Answer} → a ≡ reply r 0 0 → Feeds (same a)
     unfolding hostRefusal pick
-    refused-first ot ob h {a} f = by sizes refl (checks t) refl (stateChecks b) refl
+    refused-first h {a} f = by (sizedToFeed m) refl (checks (m .table)) refl (stateChecks (m .state)) refl
       where
         told₂ : (k : ℕ) → r ≡ k → a ≡ reply k 0 0
         told₂ k q = f ∙ ap (λ (x : ℕ). reply x 0 0) q
 
-        by : (x : Bool) → sizes ≡ x → (y : Bool) → checks t ≡ y → (z : Bool) → stateChecks b ≡ z → Feeds (called t b o a)
+        by : (x : Bool) → sizedToFeed m ≡ x → (y : Bool) → checks (m .table) ≡ y → (z : Bool) → stateChecks (m .state) ≡ z → Feeds (same a)
         by false p y q z s = other p (told₂ 3 (e ∙ rw p refl))
         by true p false q z s = no-table p ot q (told₂ 1 (e ∙ rw (p, q) refl))
         by true p true q false s = no-state p ot q ob s (told₂ 2 (e ∙ rw (p, q, s) refl))
         by true p true q true s = absurd (let w : r ≡ 0 = e ∙ rw (p, q, s) refl in omega arith)
 
-    pub none-first : r ≤ 0 → (sizes ≡ true) × (checks t ≡ true) × (stateChecks b ≡ true)
-    unfolding hostRefusal pick
-    none-first h = by sizes refl (checks t) refl (stateChecks b) refl
-      where
-        by : (x : Bool) → sizes ≡ x → (y : Bool) → checks t ≡ y → (z : Bool) → stateChecks b ≡ z → (sizes ≡ true) × (checks t ≡ true) × (stateChecks b ≡ true)
-        by false p y q z s = absurd (let w : r ≡ 3 = e ∙ rw p refl in omega arith)
-        by true p false q z s = absurd (let w : r ≡ 1 = e ∙ rw (p, q) refl in omega arith)
-        by true p true q false s = absurd (let w : r ≡ 2 = e ∙ rw (p, q, s) refl in omega arith)
-        by true p true q true s = (p, q, s)
+    module _ (h : r ≤ 0) where
+      none-due : Tests m true true true
+      unfolding hostRefusal pick
+      none-due = by (sizedToFeed m) refl (checks (m .table)) refl (stateChecks (m .state)) refl
+        where
+          by : (x : Bool) → sizedToFeed m ≡ x → (y : Bool) → checks (m .table) ≡ y → (z : Bool) → stateChecks (m .state) ≡ z → Tests m true true true
+          by false p y q z s = absurd (let w : r ≡ 3 = e ∙ rw p refl in omega arith)
+          by true p false q z s = absurd (let w : r ≡ 1 = e ∙ rw (p, q) refl in omega arith)
+          by true p true q false s = absurd (let w : r ≡ 2 = e ∙ rw (p, q, s) refl in omega arith)
+          by true p true q true s = record { sizes = p; tables = q; states = s }
+
+      pub lent : Lent m
+      lent = let z = none-due in lends (z .sizes) ot (z .tables) ob (z .states)
+
+      module _ {m′ : Memories} {f : Fed} (w : FeedsLine (record { sent = sent; lent = m; left = m′ }) f) where
+        pub is-small : Octets (sent .line) → Small f
+        is-small ol = let z = none-due in small (z .sizes) ot (z .tables) ob (z .states) w ol
+
+        pub is-fed : {a : Answer} → a ≡ told f → Feeds (record { feeding = record { sent = sent; lent = m; left = m′ }; answer = a })
+        is-fed g = let z = none-due in feeds (z .sizes) ot (z .tables) ob (z .states) w g
 
 -- THE REFUSALS BEFORE A LINE
 
-module _ (t b o : List ℕ) where
-  pub due-table : (length t ≡ tableBytes → ⊥) → 3 ≡ hostRefusal t b o
-  unfolding hostRefusal pick
+module _ (m : Memories) where
+  pub due-table : (length (m .table) ≡ tableBytes → ⊥) → 3 ≡ hostRefusal m
+  unfolding hostRefusal sizedToFeed pick
   due-table f = rw (ne-eqb _ _ f) refl
 
-  module _ (g : length t ≡ tableBytes) where
-    pub due-state : (length b ≡ stateBytes → ⊥) → 3 ≡ hostRefusal t b o
-    unfolding hostRefusal pick
+  module _ (g : length (m .table) ≡ tableBytes) where
+    pub due-state : (length (m .state) ≡ stateBytes → ⊥) → 3 ≡ hostRefusal m
+    unfolding hostRefusal sizedToFeed pick
     due-state f = rw (eq-eqb _ _ g, ne-eqb _ _ f) refl
 
-    module _ (h : length b ≡ stateBytes) where
-      pub due-output : (length o ≡ mostLineBytes → ⊥) → 3 ≡ hostRefusal t b o
-      unfolding hostRefusal pick
+    module _ (h : length (m .state) ≡ stateBytes) where
+      pub due-output : (length (m .output) ≡ mostLineBytes → ⊥) → 3 ≡ hostRefusal m
+      unfolding hostRefusal sizedToFeed pick
       due-output f = rw (eq-eqb _ _ g, eq-eqb _ _ h, ne-eqb _ _ f) refl
 
-      module _ (k : length o ≡ mostLineBytes) where
-        pub due-none : {y : Bool} → y ≡ checks t → y ≡ false → 1 ≡ hostRefusal t b o
-        unfolding hostRefusal pick
+      module _ (k : length (m .output) ≡ mostLineBytes) where
+        pub due-none : {y : Bool} → y ≡ checks (m .table) → y ≡ false → 1 ≡ hostRefusal m
+        unfolding hostRefusal sizedToFeed pick
         due-none e f = rw (eq-eqb _ _ g, eq-eqb _ _ h, eq-eqb _ _ k, sym e ∙ f) refl
 
-        module _ {y : Bool} (e : y ≡ checks t) (f : y ≡ true) where
-          pub due-other : {z : Bool} → z ≡ stateChecks b → z ≡ false → 2 ≡ hostRefusal t b o
-          unfolding hostRefusal pick
+        module _ {y : Bool} (e : y ≡ checks (m .table)) (f : y ≡ true) where
+          pub due-other : {z : Bool} → z ≡ stateChecks (m .state) → z ≡ false → 2 ≡ hostRefusal m
+          unfolding hostRefusal sizedToFeed pick
           due-other i j = rw (eq-eqb _ _ g, eq-eqb _ _ h, eq-eqb _ _ k, sym e ∙ f, sym i ∙ j) refl
 
-          pub due-nothing : {z : Bool} → z ≡ stateChecks b → z ≡ true → 0 ≡ hostRefusal t b o
-          unfolding hostRefusal pick
+          pub due-nothing : {z : Bool} → z ≡ stateChecks (m .state) → z ≡ true → 0 ≡ hostRefusal m
+          unfolding hostRefusal sizedToFeed pick
           due-nothing i j = rw (eq-eqb _ _ g, eq-eqb _ _ h, eq-eqb _ _ k, sym e ∙ f, sym i ∙ j) refl

@@ -18,7 +18,8 @@ use Rattle.macros.specs.Macro.PatternUnit.{literal, kind, class, callOf}
 use Rattle.macros.specs.Macro.Piece.{element, start, end, left, right}
 use Rattle.form_table.specs.Form.{closureCode, unitCode, unitOperand, pieceItems, patternItems}
 use Rattle.lines.specs.State.{State}
-use Rattle.lines.specs.Matching.{Division, Rest, span, byteFits, fits, width, endOf, stops, repeated, chosen}
+use Rattle.lines.specs.Matching.{Division, span, byteFits, fits, width, endOf, stops}
+use Rattle.lines.specs.Choosing.{Rest, repeated, chosen}
 use Rattle.lines.specs.Pass.{barred, unlessBarred, counting, match}
 use Rattle.lines.proofs.MoreLaws.{stopsOf}
 use Rattle.pass_one.specs.Pattern.{IsPattern, IsRest}

@@ -13,7 +13,8 @@ use Rattle.macros.specs.Macro.{Closure, Mark, PatternUnit, Piece}
 use Rattle.macros.specs.Macro.PatternUnit.{literal, kind, class, callOf}
 use Rattle.macros.specs.Macro.Piece.{element, start, end, left, right}
 use Rattle.lines.specs.State.{State, contents}
-use Rattle.lines.specs.Matching.{Division, Rest, begins, fits, width, more, repeated, chosen, then, isEnd}
+use Rattle.lines.specs.Matching.{Division, begins, fits, width}
+use Rattle.lines.specs.Choosing.{Rest, more, repeated, chosen, then, isEnd}
 use Rattle.form_state.specs.Access.{Holds, IsState}
 use Rattle.pass_one.specs.Pattern.{IsPattern, IsRest}
 use Rattle.pass_marks.specs.Marks.{mark, byteOf, marked}

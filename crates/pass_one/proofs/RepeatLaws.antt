@@ -16,7 +16,8 @@ use Rattle.macros.specs.Macro.Mark.{stack, counter}
 use Rattle.macros.specs.Macro.PatternUnit.{literal, kind, class, callOf}
 use Rattle.macros.specs.Macro.Piece.{element, start, end, left, right}
 use Rattle.lines.specs.State.{State}
-use Rattle.lines.specs.Matching.{Division, Rest, fits, width, isEnd, then, more, spare, repeated, chosen, stops}
+use Rattle.lines.specs.Matching.{Division, fits, width, stops}
+use Rattle.lines.specs.Choosing.{Rest, isEnd, then, more, spare, repeated, chosen}
 use Rattle.lines.proofs.MoreLaws.{stopsOf, or-else, more-false, more-true, more-count, more-again}
 use Rattle.pass_one.specs.Pieces.{codeUnit, membersOf, codeClosure, closureOf, fitU, widthU, ledTo, leadOf, again}
 use Rattle.pass_one.specs.Trying.{thenP, foundOf}

@@ -14,7 +14,8 @@ use Rattle.macros.specs.Macro.{Closure, PatternUnit, Piece}
 use Rattle.macros.specs.Macro.Piece.{element}
 use Rattle.form_table.specs.Form.{pieceItems}
 use Rattle.lines.specs.State.{State}
-use Rattle.lines.specs.Matching.{Division, fits, width, chosen}
+use Rattle.lines.specs.Matching.{Division, fits, width}
+use Rattle.lines.specs.Choosing.{chosen}
 use Rattle.lines.proofs.MoreLaws.{stopsOf}
 use Rattle.lines.proofs.CopyLaws.{fits-inside}
 use Rattle.form_state.specs.Access.{Holds, OfState}

@@ -12,7 +12,8 @@ use lib.ListN.{length, drop, getD, drop-of-length-le, length-drop, length-append
 use lib.Seq.{drop-cons, drop-drop}
 use Rattle.macros.specs.Macro.{pick}
 use Rattle.macros.specs.Write.{digits, digitsBy}
-use Rattle.lines.specs.Matching.{byteFits, begins, isEnd}
+use Rattle.lines.specs.Matching.{byteFits, begins}
+use Rattle.lines.specs.Choosing.{isEnd}
 use Rattle.pass_one.specs.Pieces.{ledTo}
 use Rattle.pass_one.specs.declared.unit.Lead.{Lead}
 use Rattle.pass_one.specs.declared.unit.Lead.the-variants.{After, Nothing}

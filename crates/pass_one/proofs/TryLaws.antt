@@ -15,7 +15,8 @@ use Rattle.macros.specs.Macro.{Closure, PatternUnit, Piece}
 use Rattle.macros.specs.Macro.Piece.{element, start, end, left, right}
 use Rattle.form_table.specs.Form.{bodyBytes, pieceItems, patternItems}
 use Rattle.lines.specs.State.{State}
-use Rattle.lines.specs.Matching.{Division, fits, width, more, chosen}
+use Rattle.lines.specs.Matching.{Division, fits, width}
+use Rattle.lines.specs.Choosing.{more, chosen}
 use Rattle.lines.proofs.MoreLaws.{stopsOf}
 use Rattle.lines.proofs.CopyLaws.{fits-inside}
 use Rattle.form_state.specs.Access.{Holds, IsState, OfState}

@@ -13,7 +13,8 @@ use Rattle.macros.specs.Macro.PatternUnit.{literal, kind, class, callOf}
 use Rattle.macros.specs.Macro.Piece.{element, start, end, left, right}
 use Rattle.form_table.specs.Form.{bodyBytes}
 use Rattle.lines.specs.State.{State, contents}
-use Rattle.lines.specs.Matching.{Division, endOf, stops, chosen}
+use Rattle.lines.specs.Matching.{Division, endOf, stops}
+use Rattle.lines.specs.Choosing.{chosen}
 use Rattle.lines.specs.Pass.{match}
 use Rattle.form_state.specs.Access.{Holds, IsState}
 use Rattle.pass_replace.specs.Contract.{EndsFrom}

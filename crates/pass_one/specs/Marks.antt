@@ -7,7 +7,8 @@ use lib.ListN.{drop}
 use Rattle.macros.specs.Macro.{Closure, PatternUnit, Piece}
 use Rattle.macros.specs.Macro.Piece.{element}
 use Rattle.lines.specs.State.{State}
-use Rattle.lines.specs.Matching.{Division, fits, width, more, chosen}
+use Rattle.lines.specs.Matching.{Division, fits, width}
+use Rattle.lines.specs.Choosing.{more, chosen}
 use Rattle.form_state.specs.Access.{Holds}
 use Rattle.pass_marks.specs.Marks.{mark}
 use Rattle.pass_one.specs.Pattern.{IsRest}

@@ -14,7 +14,8 @@ use Rattle.macros.specs.Macro.Piece.{element, start, end, left, right}
 use Rattle.macros.specs.Formed.{Letter}
 use Rattle.form_table.specs.Form.{membersItems}
 use Rattle.lines.specs.State.{State}
-use Rattle.lines.specs.Matching.{inClass, fits, width, isEnd}
+use Rattle.lines.specs.Matching.{inClass, fits, width}
+use Rattle.lines.specs.Choosing.{isEnd}
 use Rattle.form_state.specs.Access.{IsState, OfState}
 use Rattle.pass_one.specs.Pattern.{IsRest, OfPiece}
 use Rattle.pass_one.specs.declared.unit.Element.{Element}

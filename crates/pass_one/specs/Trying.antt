@@ -11,7 +11,8 @@ use Rattle.macros.specs.Macro.{Closure, PatternUnit, Piece}
 use Rattle.macros.specs.Macro.Piece.{element}
 use Rattle.form_table.specs.Form.{bodyBytes, pieceItems}
 use Rattle.lines.specs.State.{State}
-use Rattle.lines.specs.Matching.{fits, width, chosen}
+use Rattle.lines.specs.Matching.{fits, width}
+use Rattle.lines.specs.Choosing.{chosen}
 use Rattle.lines.proofs.MoreLaws.{stopsOf}
 use Rattle.form_state.specs.Access.{IsState, OfState}
 use Rattle.pass_replace.specs.Contract.{EndsFrom}

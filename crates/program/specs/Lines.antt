@@ -36,7 +36,7 @@ pub record Answered (line : List ℕ) (number : ℕ) (table state out : List ℕ
   pub output′ : List ℕ
   pub answer : Answer
   pub sized : length output ≡ 1054
-  pub fed : Feeds (record { line = line; budget = 10000; table = table; state = state; output = output; table′ = table′; state′ = state′; output′ = output′; answer = answer })
+  pub fed : Feeds (record { feeding = record { sent = record { line = line; budget = 10000 }; lent = record { table = table; state = state; output = output }; left = record { table = table′; state = state′; output = output′ } }; answer = answer })
   pub said : Put answer output′ number out used out′ used′
 
 -- a line was read and answered

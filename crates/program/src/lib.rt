@@ -49,7 +49,7 @@ fn answer_lines(table: &mut [u8; 98304])
     ensures { λ _. ⌜ FreshLines (now (table .entry)) (now (table .exit)) ⌝ }
 {
     let mut state: [u8; 26236] = [0; 26236];
-    m7::m7_fresh(&mut state);
+    m7::fresh::m7_fresh(&mut state);
     let mut block: [u8; 65536] = [0; 65536];
     let mut line: [u8; 1055] = [0; 1055];
     let mut out: [u8; 65536] = [0; 65536];
@@ -92,7 +92,7 @@ fn answer_line(
     ensures { λ r. ⌜ r ≤ 65536 ⌝ }
 {
     let mut text: [u8; 1054] = [0; 1054];
-    let answer = m7::m7_feed(table, state, &line[..held], BUDGET, &mut text);
+    let answer = m7::feed::m7_feed(table, state, &line[..held], BUDGET, &mut text);
     put_said(answer, &text, number, out, used)
 }
 

@@ -26,7 +26,7 @@ pub(crate) fn read_parts(table: &mut [u8; 98304], name: &[u8]) -> Parts
     if got.failed {
         return Parts::Refused(0);
     }
-    let answer = m7::m7_read(&file[..size], table);
+    let answer = m7::read::m7_read(&file[..size], table);
     parts_of(answer.number)
 }
 

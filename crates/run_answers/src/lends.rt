@@ -3,18 +3,18 @@ use line_answer::Answer;
 
 pub(crate) fn other_size() -> Answer {
     let mut state: [u8; 26235] = [0; 26235];
-    m7::m7_fresh(&mut state)
+    m7::fresh::m7_fresh(&mut state)
 }
 
 pub(crate) fn no_table() -> Answer {
     let table: [u8; 98304] = [255; 98304];
     let mut file: [u8; 32768] = [0; 32768];
-    m7::m7_write(&table, &mut file)
+    m7::write::m7_write(&table, &mut file)
 }
 
 pub(crate) fn no_state() -> Answer {
     let mut table: [u8; 98304] = [0; 98304];
     let mut state: [u8; 26236] = [0; 26236];
     let mut text: [u8; 1054] = [0; 1054];
-    m7::m7_feed(&mut table, &mut state, b"do", 1, &mut text)
+    m7::feed::m7_feed(&mut table, &mut state, b"do", 1, &mut text)
 }

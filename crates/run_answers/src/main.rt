@@ -15,7 +15,7 @@ ghost use Prim.Native.Nat.{_<_};
 fn main() {
     let mut table: [u8; 98304] = [0; 98304];
     let mut state: [u8; 26236] = [0; 26236];
-    m7::m7_fresh(&mut state);
+    m7::fresh::m7_fresh(&mut state);
     let mut block: [u8; 65536] = [0; 65536];
     let mut command: [u8; 131072] = [0; 131072];
     each_command(&mut table, &mut state, &mut block, &mut command);

@@ -88,10 +88,10 @@ fn call(
     requires { ⌜ 1054 ≤ length (now text) ⌝ }
 {
     match which {
-        1 => m7::m7_read(bytes, table),
-        2 => m7::m7_feed(table, state, bytes, budget, &mut text[..1054]),
-        3 => m7::m7_fresh(state),
-        4 => m7::m7_write(table, text),
+        1 => m7::read::m7_read(bytes, table),
+        2 => m7::feed::m7_feed(table, state, bytes, budget, &mut text[..1054]),
+        3 => m7::fresh::m7_fresh(state),
+        4 => m7::write::m7_write(table, text),
         _ => nothing(),
     }
 }

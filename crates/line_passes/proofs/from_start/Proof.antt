@@ -1,5 +1,5 @@
 use Prim.Native.Nat.{ℕ}
-use mathlib.Core.Path.{sym}
+use mathlib.Core.Path.{refl, sym}
 use lib.ListN.{length-replicate}
 use Rattle.line_passes.proofs.Starting.{ready-start, runs-start}
 use Rattle.line_passes.proofs.from_start.Statement.{statement}
@@ -27,7 +27,7 @@ same-length-2 : tie.Need-same-length-2
 same-length-2 c = c .before .before .before .before .before .before .before .all-passes .kept .1 .1 .1 .1 .0
 
 returns : tie.Need-returns
-returns c = runs-start (c .before .before .before .before .before .before .before .all-passes .ensures)
+returns c = runs-start refl (c .before .before .before .before .before .before .before .all-passes .ensures)
 
 pub from-start-spec : {M : Type 1} → statement M
 from-start-spec =

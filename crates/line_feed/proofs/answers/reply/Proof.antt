@@ -1,5 +1,4 @@
 use mathlib.Core.Path.{refl, sym}
-use denote.Ref.{now}
 use lib.Seq.{length-take-le}
 use Rattle.line_feed.proofs.Replying.{done-size, done-finished, reply-done, control-size, control-ruling, reply-ruled, reply-refused}
 use Rattle.line_feed.proofs.answers.reply.Statement.{statement}
@@ -57,7 +56,7 @@ why-work-requires : tie.Need-why-work-requires
 why-work-requires c κs = tt
 
 returns-3 : tie.Need-returns-3
-returns-3 c = reply-refused (c .before .before .ended3 .given .1) (c .why-work .ensures) (now (c .before .before .before .before .before .before .before .before .before .args .output))
+returns-3 c = reply-refused (c .before .before .ended3 .given .1) (c .why-work .ensures)
 
 pub reply-spec : {M : Type 1} → statement M
 reply-spec =

@@ -1,5 +1,4 @@
 use mathlib.Core.Path.{refl, sym, _∙_}
-use denote.Ref.{now}
 use Rattle.line_passes.proofs.Starting.{state-length}
 use Rattle.line_feed.proofs.Replying.{none-fits, rule-taken, rule-wrong}
 use Rattle.line_feed.proofs.answers.ruled.Statement.{statement}
@@ -51,7 +50,7 @@ same-length-7 : tie.Need-same-length-7
 same-length-7 c = c .before .before .before .before .before .before .before .before .before .before .before .before .before .control .kept .1 .1 .0
 
 returns-2 : tie.Need-returns-2
-returns-2 c = rule-wrong (c .before .before .before .before .before .before .before .before .before .before .before .before .before .control .ensures) (c .before .before .order .given .1) (c .why-control .ensures) (c .before .before .before .before .before .before .keep .ensures) (now (c .before .before .before .before .before .before .before .before .before .before .before .before .before .before .before .before .before .before .before .before .before .args .output)) (c .before .before .before .before .before .before .before .before .before .before .before .before .before .before .before .before .before .before .before .before .before .args .begun)
+returns-2 c = rule-wrong (c .before .before .before .before .before .before .before .before .before .before .before .before .before .control .ensures) (c .before .before .order .given .1) (c .why-control .ensures) (c .before .before .before .before .before .before .keep .ensures) (c .before .before .before .before .before .before .before .before .before .before .before .before .before .before .before .before .before .before .before .before .before .args .begun)
 
 pub ruled-spec : {M : Type 1} → statement M
 ruled-spec =

@@ -15,7 +15,7 @@ slice-aggregate-run-line-2 : tie.Need-slice-aggregate-run-line-2
 slice-aggregate-run-line-2 c = sym (length-replicate {A = ℕ} 1054 0)
 
 run-line-requires : tie.Need-run-line-requires
-run-line-requires c κs = started (c .before .before .before .before .before .before .before .before .before .before .pre .0) (c .before .before .before .before .before .before .before .before .before .before .pre .1) (c .before .before .before .before .count-macros .ensures)
+run-line-requires c κs = started _ (c .before .before .before .before .before .before .before .before .before .before .pre .0) (c .before .before .before .before .before .before .before .before .before .before .pre .1) (c .before .before .before .before .count-macros .ensures)
 
 slice-aggregate-reply : tie.Need-slice-aggregate-reply
 slice-aggregate-reply c = sym (c .before .before .before .before .before .before .run-line .kept .1 .1 .1 .1 .1 .0 ∙ length-replicate {A = ℕ} 26236 0)
@@ -24,7 +24,7 @@ slice-aggregate-reply-2 : tie.Need-slice-aggregate-reply-2
 slice-aggregate-reply-2 c = sym (c .before .before .before .before .before .before .before .run-line .kept .1 .1 .1 .1 .1 .1 .0 ∙ length-replicate {A = ℕ} 1054 0)
 
 reply-requires : tie.Need-reply-requires
-reply-requires c κs = replying (c .before .before .before .before .before .before .before .before .before .before .before .before .before .before .before .before .before .before .pre .0) (c .before .before .before .before .before .before .before .before .before .before .before .before .before .before .before .before .before .before .pre .1) (c .before .before .before .before .before .before .before .before .before .before .before .before .count-macros .ensures) (c .before .before .before .before .before .before .before .run-line .ensures) (c .before .before .before .before .before .before .before .run-line .kept .1 .1 .1 .1 .1 .1 .0 ∙ length-replicate {A = ℕ} 1054 0)
+reply-requires c κs = replying _ (c .before .before .before .before .before .before .before .before .before .before .before .before .before .before .before .before .before .before .pre .0) (c .before .before .before .before .before .before .before .before .before .before .before .before .before .before .before .before .before .before .pre .1) (c .before .before .before .before .before .before .before .before .before .before .before .before .count-macros .ensures) (c .before .before .before .before .before .before .before .run-line .ensures) (c .before .before .before .before .before .before .before .run-line .kept .1 .1 .1 .1 .1 .1 .0 ∙ length-replicate {A = ℕ} 1054 0)
 
 same-length : tie.Need-same-length
 same-length c = c .before .before .before .before .before .before .before .reply .kept .0
@@ -36,7 +36,7 @@ same-length-3 : tie.Need-same-length-3
 same-length-3 c = c .before .before .before .before .before .before .before .reply .kept .1 .1 .1 .0
 
 returns : tie.Need-returns
-returns c = taken (c .before .before .before .before .before .before .before .before .before .before .before .before .before .before .before .before .before .before .before .before .before .before .before .before .before .before .pre .0) (c .before .before .before .before .before .before .before .before .before .before .before .before .before .before .before .before .before .before .before .before .before .before .before .before .before .before .pre .1) (c .before .before .before .before .before .before .before .before .before .before .before .before .before .before .before .before .before .before .before .before .count-macros .ensures) (c .before .before .before .before .before .before .before .before .before .before .before .before .before .before .before .run-line .ensures) (c .before .before .before .before .before .before .before .reply .ensures)
+returns c = taken _ (c .before .before .before .before .before .before .before .before .before .before .before .before .before .before .before .before .before .before .before .before .before .before .before .before .before .before .pre .0) (c .before .before .before .before .before .before .before .before .before .before .before .before .before .before .before .before .before .before .before .before .before .before .before .before .before .before .pre .1) (c .before .before .before .before .before .before .before .before .before .before .before .before .before .before .before .before .before .before .before .before .count-macros .ensures) (c .before .before .before .before .before .before .before .before .before .before .before .before .before .before .before .run-line .ensures) (c .before .before .before .before .before .before .before .reply .ensures)
 
 pub take-line-spec : {M : Type 1} → statement M
 take-line-spec =

@@ -1,16 +1,13 @@
 use Prim.Native.Nat.{_-_}
 use mathlib.Core.Path.{_≡_, refl, _∙_}
 use lib.ListN.{length}
-use Rattle.macros.specs.Macro.{Table}
-use Rattle.lines.specs.Line.{Line}
-use Rattle.line_memory.specs.Memory.{IsTable}
-use Rattle.line_passes.specs.Passing.{Stands, Ready}
+use Rattle.line_passes.specs.Passing.{Ready, Onward}
 use Rattle.line_passes.proofs.Stepping.{goes-on, falls, comes-over}
 use Rattle.line_passes.proofs.passes.all_passes.Statement.{statement}
 use Rattle.line_passes.proofs.passes.all_passes.Tie as tie
 
 abbrev Inv-loop : tie.InvT-loop
-Inv-loop table count kinds state₀ text₀ new₀ marks₀ closed₀ budget stand₀ state text new marks closed stand = Ready table kinds state text new marks closed count budget stand × ((length state ≡ length state₀) × (length text ≡ length text₀) × (length new ≡ length new₀) × (length marks ≡ length marks₀) × (length closed ≡ length closed₀)) × ((whole : Line) (ms : Table) → IsTable table ms → length ms ≡ count → Stands whole ms budget state₀ text₀ closed₀ stand₀ → Stands whole ms budget state text closed stand)
+Inv-loop table count kinds state₀ text₀ new₀ marks₀ closed₀ budget stand₀ state text new marks closed stand = Ready (record { table = table; count = count; kinds = kinds; budget = budget }) (record { state = state; text = text; new = new; marks = marks; flags = closed }) stand × ((length state ≡ length state₀) × (length text ≡ length text₀) × (length new ≡ length new₀) × (length marks ≡ length marks₀) × (length closed ≡ length closed₀)) × Onward (record { table = table; count = count; kinds = kinds; budget = budget }) (record { state = state₀; text = text₀; new = new₀; marks = marks₀; flags = closed₀ }) (record { state = state; text = text; new = new; marks = marks; flags = closed }) stand₀ stand
 
 abbrev μ-loop : tie.MeasureT-loop
 μ-loop table count kinds state₀ text₀ new₀ marks₀ closed₀ budget stand₀ state text new marks closed stand = budget - stand .begun

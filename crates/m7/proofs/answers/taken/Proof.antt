@@ -1,8 +1,8 @@
 use borrow.Author.Needs.{needs}
 use mathlib.Core.Path.{refl}
 use Rattle.line_answer.specs.Replies.{reply}
-use Rattle.m7.proofs.taken.Statement.{statement}
-use Rattle.m7.proofs.taken.Tie as tie
+use Rattle.m7.proofs.answers.taken.Statement.{statement}
+use Rattle.m7.proofs.answers.taken.Tie as tie
 
 cast-t2 : tie.Need-cast-t2
 cast-t2 c = search needs

@@ -2,8 +2,8 @@ use mathlib.Core.Path.{ap, sym}
 use Rattle.write_file.specs.Slots.{refusalOf}
 use Rattle.write_file.specs.declared.Fault.{Fault as WritingFault}
 use Rattle.macros.specs.Refusals.{fileNumber}
-use Rattle.m7.proofs.writing_number.Statement.{statement}
-use Rattle.m7.proofs.writing_number.Tie as tie
+use Rattle.m7.proofs.write.writing_number.Statement.{statement}
+use Rattle.m7.proofs.write.writing_number.Tie as tie
 
 enum-told : tie.Need-enum-told
 enum-told c = c .match .keys1

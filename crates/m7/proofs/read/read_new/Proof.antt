@@ -2,8 +2,8 @@ use native.Mathlib.Omega.{arith}
 use mathlib.Core.Path.{_∙_}
 use denote.Ref.{now}
 use Rattle.m7.proofs.Results.{octets-given, same-fits, zero-lent, zeros-size, copied, read-few, read-taken, read-place, read-refused}
-use Rattle.m7.proofs.read_new.Statement.{statement}
-use Rattle.m7.proofs.read_new.Tie as tie
+use Rattle.m7.proofs.read.read_new.Statement.{statement}
+use Rattle.m7.proofs.read.read_new.Tie as tie
 
 read-onto-requires : tie.Need-read-onto-requires
 read-onto-requires c κs = zero-lent (c .before .before .before .before .pre .0)

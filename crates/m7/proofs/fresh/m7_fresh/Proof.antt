@@ -2,8 +2,8 @@ use borrow.Author.Needs.{needs}
 use denote.Ref.{now}
 use Rattle.line_answer.proofs.Laws.{no-place}
 use Rattle.m7.proofs.Results.{fresh-other, fresh-stored}
-use Rattle.m7.proofs.m7_fresh.Statement.{statement}
-use Rattle.m7.proofs.m7_fresh.Tie as tie
+use Rattle.m7.proofs.fresh.m7_fresh.Statement.{statement}
+use Rattle.m7.proofs.fresh.m7_fresh.Tie as tie
 
 refusal-requires : tie.Need-refusal-requires
 refusal-requires c κs = no-place

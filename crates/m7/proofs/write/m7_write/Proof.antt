@@ -4,8 +4,8 @@ use denote.Ref.{now}
 use borrow.Author.Tests.{not-true, not-false}
 use Rattle.line_answer.proofs.Laws.{no-place}
 use Rattle.m7.proofs.Results.{octets-given, other-table, other-file, write-other, write-none, some-table, write-size, write-place, write-taken, write-refused}
-use Rattle.m7.proofs.m7_write.Statement.{statement}
-use Rattle.m7.proofs.m7_write.Tie as tie
+use Rattle.m7.proofs.write.m7_write.Statement.{statement}
+use Rattle.m7.proofs.write.m7_write.Tie as tie
 
 refusal-requires : tie.Need-refusal-requires
 refusal-requires c κs = no-place

@@ -4,8 +4,8 @@ use denote.Ref.{now}
 use lib.ListN.{length-replicate}
 use Rattle.line_answer.proofs.Laws.{no-place}
 use Rattle.m7.proofs.Results.{read-other}
-use Rattle.m7.proofs.m7_read.Statement.{statement}
-use Rattle.m7.proofs.m7_read.Tie as tie
+use Rattle.m7.proofs.read.m7_read.Statement.{statement}
+use Rattle.m7.proofs.read.m7_read.Tie as tie
 
 refusal-requires : tie.Need-refusal-requires
 refusal-requires c κs = no-place

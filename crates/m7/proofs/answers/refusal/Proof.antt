@@ -1,8 +1,8 @@
 use borrow.Author.Needs.{needs}
 use mathlib.Core.Path.{refl}
 use Rattle.line_answer.specs.Replies.{reply}
-use Rattle.m7.proofs.refusal.Statement.{statement}
-use Rattle.m7.proofs.refusal.Tie as tie
+use Rattle.m7.proofs.answers.refusal.Statement.{statement}
+use Rattle.m7.proofs.answers.refusal.Tie as tie
 
 cast-t3 : tie.Need-cast-t3
 cast-t3 c = search needs

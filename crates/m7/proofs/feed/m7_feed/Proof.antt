@@ -2,9 +2,9 @@ use mathlib.Core.Path.{refl}
 use denote.Ref.{now}
 use Rattle.line_answer.proofs.Laws.{no-place}
 use Rattle.m7.proofs.Results.{octets-given}
-use Rattle.m7.proofs.FeedResults.{refused-first, none-first, lent, is-small, is-fed}
-use Rattle.m7.proofs.m7_feed.Statement.{statement}
-use Rattle.m7.proofs.m7_feed.Tie as tie
+use Rattle.m7.proofs.FeedResults.{refused-first, lent, is-small, is-fed}
+use Rattle.m7.proofs.feed.m7_feed.Statement.{statement}
+use Rattle.m7.proofs.feed.m7_feed.Tie as tie
 
 host-refusal-requires : tie.Need-host-refusal-requires
 host-refusal-requires c κs = tt
@@ -26,24 +26,22 @@ returns c =
     let a = c .before .before .before .before .before .before .before .before .before .before .args in
     let ot = octets-given (now (a .table)) (c .before .before .before .before .before .before .before .before .before .slice-known .given) in
     let ob = octets-given (now (a .state)) (c .before .before .before .before .before .before .before .before .slice-known2 .given) in
-    refused-first (now (a .line)) (a .budget) (now (a .table)) (now (a .state)) (now (a .output)) (c .before .before .host-refusal .ensures) ot ob (c .before .if1 .taken) (c .refusal .ensures)
+    refused-first _ _ (c .before .before .host-refusal .ensures) ot ob (c .before .if1 .taken) (c .refusal .ensures)
 
 feed-requires : tie.Need-feed-requires
 feed-requires c κs =
     let a = c .before .before .before .before .before .before .before .before .before .before .before .before .args in
     let ot = octets-given (now (a .table)) (c .before .before .before .before .before .before .before .before .before .before .before .slice-known .given) in
     let ob = octets-given (now (a .state)) (c .before .before .before .before .before .before .before .before .before .before .slice-known2 .given) in
-    let z = none-first (now (a .line)) (a .budget) (now (a .table)) (now (a .state)) (now (a .output)) (c .before .before .before .before .host-refusal .ensures) (c .before .before .before .if1 .left) in
-    lent (now (a .line)) (a .budget) (now (a .table)) (now (a .state)) (now (a .output)) (z .0) ot (z .1) ob (z .2)
+    lent (record { line = now (a .line); budget = a .budget }) _ (c .before .before .before .before .host-refusal .ensures) ot ob (c .before .before .before .if1 .left)
 
 answer-of-requires : tie.Need-answer-of-requires
 answer-of-requires c κs =
     let a = c .before .before .before .before .before .before .before .before .before .before .before .before .before .before .before .before .before .before .before .args in
     let ot = octets-given (now (a .table)) (c .before .before .before .before .before .before .before .before .before .before .before .before .before .before .before .before .before .before .slice-known .given) in
     let ob = octets-given (now (a .state)) (c .before .before .before .before .before .before .before .before .before .before .before .before .before .before .before .before .before .slice-known2 .given) in
-    let z = none-first (now (a .line)) (a .budget) (now (a .table)) (now (a .state)) (now (a .output)) (c .before .before .before .before .before .before .before .before .before .before .before .host-refusal .ensures) (c .before .before .before .before .before .before .before .before .before .before .if1 .left) in
     let ol = octets-given (now (a .line)) (c .before .before .before .before .before .before .before .before .before .before .before .before .before .before .before .before .shared-slice-known .given) in
-    is-small (now (a .line)) (a .budget) (now (a .table)) (now (a .state)) (now (a .output)) (z .0) ot (z .1) ob (z .2) (c .before .before .before .before .before .before .feed .ensures) ol
+    is-small _ _ (c .before .before .before .before .before .before .before .before .before .before .before .host-refusal .ensures) ot ob (c .before .before .before .before .before .before .before .before .before .before .if1 .left) (c .before .before .before .before .before .before .feed .ensures) ol
 
 same-length-4 : tie.Need-same-length-4
 same-length-4 c = c .before .before .before .before .before .before .before .feed .kept .0
@@ -59,8 +57,7 @@ returns-2 c =
     let a = c .before .before .before .before .before .before .before .before .before .before .before .before .before .before .before .before .before .before .before .before .args in
     let ot = octets-given (now (a .table)) (c .before .before .before .before .before .before .before .before .before .before .before .before .before .before .before .before .before .before .before .slice-known .given) in
     let ob = octets-given (now (a .state)) (c .before .before .before .before .before .before .before .before .before .before .before .before .before .before .before .before .before .before .slice-known2 .given) in
-    let z = none-first (now (a .line)) (a .budget) (now (a .table)) (now (a .state)) (now (a .output)) (c .before .before .before .before .before .before .before .before .before .before .before .before .host-refusal .ensures) (c .before .before .before .before .before .before .before .before .before .before .before .if1 .left) in
-    is-fed (now (a .line)) (a .budget) (now (a .table)) (now (a .state)) (now (a .output)) (z .0) ot (z .1) ob (z .2) (c .before .before .before .before .before .before .before .feed .ensures) (c .answer-of .ensures)
+    is-fed _ _ (c .before .before .before .before .before .before .before .before .before .before .before .before .host-refusal .ensures) ot ob (c .before .before .before .before .before .before .before .before .before .before .before .if1 .left) (c .before .before .before .before .before .before .before .feed .ensures) (c .answer-of .ensures)
 
 pub m7-feed-spec : {M : Type 1} → statement M
 m7-feed-spec =

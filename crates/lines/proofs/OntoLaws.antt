@@ -1,0 +1,86 @@
+-- What is read onto a table stands behind the macros that were there; and when it is one macro.
+use mathlib.Core.Path.{_≡_, refl, sym, ap, _∙_, subst}
+use mathlib.Core.Bool.{Bool, true, false, not, _&&_}
+use mathlib.Core.List.{List, [], _∷_, _++_, reverse, reverse-append, reverse-reverse, append-nil}
+use mathlib.Core.Option.{Option, none, some}
+use Prim.Native.Nat.{ℕ, zero, suc, _+_}
+use native.Mathlib.Omega.{arith}
+use lib.Dec.{eqb, ltb}
+use lib.ListN.{length, length-append}
+use Rattle.macros.specs.Bounds.{mostFileBytes, mostMacros, mostMacroBytes}
+use Rattle.macros.specs.Refusals.FileRefusal.{fileTooLong, zeroByte, incomplete, macroTooLong, tooManyMacros}
+use Rattle.macros.specs.Macro.{Macro, Table, pick}
+use Rattle.macros.specs.Read.{Part, Step, on, done, stop, Reader, between, inside, Next, go, refuse, count, taken, step, skips, partByte, Read, refusedAt, table, atEnd, readFrom, firstZero, readOnto}
+
+-- the macros ms, newest first, have those of old behind them
+abbrev Behind : List Macro → List Macro → Type 0
+Behind old ms = (new : List Macro) × (ms ≡ new ++ old)
+
+abbrev soFar : Reader → List Macro
+soFar (between skip ms) = ms
+soFar (inside skip n st ms) = ms
+
+abbrev Keeps : List Macro → Next → Type 0
+Keeps old (go r) = Behind old (soFar r)
+Keeps old (refuse k) = Unit {0}
+
+which : (old : List Macro) (c : Bool) (x y : Next) → Keeps old x → Keeps old y → Keeps old (pick c x y)
+unfolding pick
+which old true x y h g = h
+which old false x y h g = g
+
+count-keeps : (old : List Macro) (n : ℕ) (r : Reader) → Behind old (soFar r) → Keeps old (count n r)
+unfolding count
+count-keeps old n r h = which old (ltb n mostMacroBytes) (go r) (refuse macroTooLong) h tt
+
+taken-keeps : (old : List Macro) (n : ℕ) (ms : List Macro) (x : Step) → Behind old ms → Keeps old (taken n ms x)
+unfolding taken
+taken-keeps old n ms (on st) h = count-keeps old n (inside false (suc n) st ms) h
+taken-keeps old n ms (done m) h = count-keeps old n (between false (m ∷ ms)) (m ∷ h .0, ap (λ (l : List Macro). m ∷ l) (h .1))
+taken-keeps old n ms (stop r) h = tt
+
+step-keeps : (old : List Macro) (r : Reader) (b : ℕ) → Behind old (soFar r) → Keeps old (step r b)
+unfolding step
+step-keeps old (between skip ms) b h =
+    which old (eqb b 47) _ _ h (which old (eqb b 39 && not skip) _ _ (which old (ltb (length ms) mostMacros) _ _ h tt) h)
+step-keeps old (inside skip n st ms) b h =
+    which old (skips st && eqb b 47) _ _ (count-keeps old n (inside (not skip) (suc n) st ms) h)
+    (which old skip _ _ (count-keeps old n (inside true (suc n) st ms) h) (taken-keeps old n ms (partByte st b) h))
+
+-- what was read, both tables oldest first
+abbrev pub Onto : Table → Read → Type 0
+Onto older (refusedAt r p) = Unit {0}
+Onto older (table ms) = (new : Table) × (ms ≡ older ++ new)
+
+read-onto : (old : List Macro) (s : List ℕ) (p : ℕ) (r : Reader) → Behind old (soFar r) → Onto (reverse old) (readFrom p r s)
+unfolding readFrom atEnd pick
+read-onto old [] p (between true ms) h = tt
+read-onto old [] p (between false ms) h = (reverse (h .0), ap reverse (h .1) ∙ reverse-append (h .0) old)
+read-onto old [] p (inside skip n st ms) h = tt
+read-onto old (b ∷ s) p r h = by (step r b) (step-keeps old r b h) (λ q g. read-onto old s (suc p) q g)
+  where
+    by : (v : Next) → Keeps old v → ((q : Reader) → Behind old (soFar q) → Onto (reverse old) (readFrom (suc p) q s))
+        → Onto (reverse old) (elim v [ go r′ ↦ readFrom (suc p) r′ s | refuse n ↦ refusedAt n p ])
+    by (go q) k ih = ih q k
+    by (refuse n) k ih = tt
+
+-- THE LAW
+pub reads-onto : (older : Table) (s : List ℕ) → Onto older (readOnto older s)
+unfolding readOnto pick
+reads-onto older s = by (ltb mostFileBytes (length s)) (firstZero 0 s)
+  where
+    by : (x : Bool) (o : Option ℕ)
+        → Onto older (pick x (refusedAt fileTooLong mostFileBytes) (elim o [ none ↦ readFrom 0 (between false (reverse older)) s | some p ↦ refusedAt zeroByte p ]))
+    by true o = tt
+    by false (some p) = tt
+    by false none = rw (reverse-reverse older) at (read-onto (reverse older) s 0 (between false (reverse older)) ([], refl))
+
+-- one macro more
+pub one-more : (ms ks new : Table) → ks ≡ ms ++ new → length ks ≡ suc (length ms) → (m : Macro) × (ks ≡ ms ++ (m ∷ []))
+one-more ms ks [] e n = absurd (let a : length ks ≡ length ms = ap length (e ∙ append-nil ms) in omega arith)
+one-more ms ks (m ∷ []) e n = (m, e)
+one-more ms ks (m ∷ k ∷ new) e n =
+    absurd (let a : length ks ≡ length ms + suc (suc (length new)) = ap length e ∙ length-append ms (m ∷ k ∷ new) in omega arith)
+
+pub one-length : (ms ks : Table) (m : Macro) → ks ≡ ms ++ (m ∷ []) → length ks ≡ suc (length ms)
+one-length ms ks m e = let a : length ks ≡ length ms + 1 = ap length e ∙ length-append ms (m ∷ []) in omega arith

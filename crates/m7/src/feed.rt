@@ -1,0 +1,51 @@
+// Feeding a line.
+use crate::LINE_BYTES;
+use crate::STATE_BYTES;
+use crate::TABLE_BYTES;
+use crate::answers::refusal;
+use line_answer::Answer;
+use line_answer::answer_of;
+ghost use mathlib.Core.Path.{_≡_};
+ghost use Rattle.m7.specs.Feeding.{Feeds};
+ghost use Rattle.m7.specs.HostRefusal.{hostRefusal};
+
+// Feeds a line. The kind is 1 for a line that goes out, 2 withheld, 3 control; the length is that of the line that goes out, zeros stand behind it. A refusal leaves the memories as they were.
+#[no_mangle]
+pub extern "C" fn m7_feed(
+    table: &mut [u8],
+    state: &mut [u8],
+    line: &[u8],
+    budget: u32,
+    output: &mut [u8],
+) -> Answer
+    ensures { λ r. ⌜ Feeds (record { feeding = record { sent = record { line = now (line .entry); budget = budget }; lent = record { table = now (table .entry); state = now (state .entry); output = now (output .entry) }; left = record { table = now (table .exit); state = now (state .exit); output = now (output .exit) } }; answer = r }) ⌝ }
+{
+    let number = host_refusal(table, state, output);
+    if 0 < number {
+        return refusal(number, 0);
+    }
+    let fed = line_feed::feed(table, state, line, budget, output);
+    answer_of(fed)
+}
+
+// "The host, first": 3, then 1, then 2; or 0 if none of these is due.
+fn host_refusal(table: &[u8], state: &[u8], output: &[u8]) -> u32
+    ensures { λ r. ⌜ r ≡ hostRefusal (record { table = now (table .entry); state = now (state .entry); output = now (output .entry) }) ⌝ }
+{
+    if table.len() != TABLE_BYTES {
+        return 3;
+    }
+    if state.len() != STATE_BYTES {
+        return 3;
+    }
+    if output.len() != LINE_BYTES {
+        return 3;
+    }
+    if !check_table::is_table(table) {
+        return 1;
+    }
+    if !check_state::is_state(state) {
+        return 2;
+    }
+    0
+}
