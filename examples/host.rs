@@ -1,17 +1,14 @@
 //! A host in Rust: reads a macro file, feeds the lines of standard input, and
-//! prints what becomes of each. It needs rustc alone:
+//! prints what becomes of each. It needs rustc and the library alone:
 //!
-//!     rustc -O examples/host.rs -L target/staticlib -l static=m7
+//!     rustc -O examples/host.rs -L DIR/lib -l static=m7
 //!     host TABLE < LINES
 
+use std::ffi::{c_char, CStr};
 use std::io::{self, BufRead, Read, Write};
 use std::process::ExitCode;
 
-// The sizes and the answer of include/m7.h.
-const TABLE_BYTES: usize = 98304;
-const STATE_BYTES: usize = 26236;
-const OUTPUT_BYTES: usize = 1054;
-const FILE_BYTES: usize = 32768;
+// The kind and the answer of include/m7.h.
 const OUT: u32 = 1;
 
 #[repr(C)]
@@ -37,6 +34,11 @@ extern "C" {
         output: *mut u8,
         output_size: usize,
     ) -> Answer;
+    fn m7_meaning(number: u32) -> *const c_char;
+    fn m7_table_bytes() -> usize;
+    fn m7_state_bytes() -> usize;
+    fn m7_output_bytes() -> usize;
+    fn m7_file_bytes() -> usize;
 }
 
 /// The memories that are lent. Each is a Vec of its own, so they never overlap.
@@ -49,13 +51,15 @@ struct Engine {
 impl Engine {
     /// The table of a macro file with a fresh state, or the refusal.
     fn new(file: &[u8]) -> Result<Engine, Answer> {
-        let (mut table, mut state) = (vec![0; TABLE_BYTES], vec![0; STATE_BYTES]);
+        let mut table = vec![0; unsafe { m7_table_bytes() }];
+        let mut state = vec![0; unsafe { m7_state_bytes() }];
+        let output = vec![0; unsafe { m7_output_bytes() }];
         let read = unsafe { m7_read(file.as_ptr(), file.len(), table.as_mut_ptr(), table.len()) };
         if read.number != 0 {
             return Err(read);
         }
         unsafe { m7_fresh(state.as_mut_ptr(), state.len()) };
-        Ok(Engine { table, state, output: vec![0; OUTPUT_BYTES] })
+        Ok(Engine { table, state, output })
     }
 
     fn feed(&mut self, line: &[u8], budget: u32) -> Answer {
@@ -78,37 +82,15 @@ impl Engine {
 
 /// What a number means, in a few words.
 fn meaning(number: u32) -> &'static str {
-    match number {
-        1 => "not a table",
-        2 => "not a state",
-        3 => "a memory of another size",
-        4 => "the budget is too large",
-        10 => "the file is too long",
-        11 => "byte 0",
-        12 => "a part is not complete",
-        13 => "an empty class or a bad range",
-        14 => "a closure with no unit",
-        15 => "a brace without its other, or the 100th tag",
-        16 => "a call or tag number that cannot be",
-        17 => "a pattern without an element",
-        18 => "a macro of more than 512 bytes",
-        19 => "the 97th macro",
-        21 => "the line is too long",
-        22 => "byte 0 or a line feed in a line",
-        23 => "a control line that is none",
-        31 => "the budget is used up",
-        32 => "the new line is too long",
-        33 => "a stored tag is too long",
-        34 => "a pointer past 20",
-        35 => "a counter past its end",
-        _ => "taken",
-    }
+    // the library's text is constant, ends in a byte 0 and is ASCII
+    unsafe { CStr::from_ptr(m7_meaning(number)) }.to_str().unwrap_or("")
 }
 
 /// Reads a file whole, or one byte more than the engine takes of it.
 fn load(name: &str) -> io::Result<Vec<u8>> {
     let mut bytes = Vec::new();
-    std::fs::File::open(name)?.take(FILE_BYTES as u64 + 1).read_to_end(&mut bytes)?;
+    let most = unsafe { m7_file_bytes() } as u64 + 1;
+    std::fs::File::open(name)?.take(most).read_to_end(&mut bytes)?;
     Ok(bytes)
 }
 

@@ -1,29 +1,73 @@
-/* m7.h: an M7 engine for part texts, proved.
+/* m7.h: an M7 engine, proved. It rewrites lines of text by a table of macros.
 
-   A table of macros (pattern, replacement, commands on stacks and counters)
-   rewrites lines of text. The engine keeps nothing between calls: the caller
-   lends it a table and a state as plain bytes, and gets them back changed or
-   as they were.
+       uint8_t table[M7_TABLE_BYTES], state[M7_STATE_BYTES];
+       uint8_t output[M7_OUTPUT_BYTES];
+       const char *file = "'colour'<'color';", *line = "my colour";
+       m7_answer a = m7_read((const uint8_t *)file, strlen(file),
+                             table, sizeof table);
+       if (a.number != 0)
+           return complain(a.number, a.place);
+       m7_fresh(state, sizeof state);
+       a = m7_feed(table, sizeof table, state, sizeof state,
+                   (const uint8_t *)line, strlen(line), 10000,
+                   output, sizeof output);
+       if (a.number != 0)
+           return complain(a.number, 0);
+       if (a.kind == M7_OUT)
+           printf("%.*s\n", (int)a.length, (const char *)output);
+
+   The caller lends all memory, as plain bytes. The engine keeps nothing
+   between calls. docs/LANGUAGE.md explains the macro language and its words:
+   macro, pattern, element, closure, tag, call, skip, pass, occurrence.
 
    RULES FOR EVERY CALL
 
    Each memory is a pointer to its first byte and its size in bytes. A pointer
-   may be null where its size is 0; else all of that size must be valid. The
+   may be null if its size is 0; otherwise all of that size must be valid. The
    memories of one call must not overlap. If that does not hold, nothing is
    promised.
 
    A call never allocates, prints or waits. It needs at most 1 MiB of stack;
    that is measured and not proved (docs/DECISIONS.md).
 
-   A call that is refused answers a number other than 0, and when it returns
-   every lent memory is as it was. While it runs it may write those that are
-   not const. So calls may run at the same time on different threads if no
-   memory that one of them may write is lent to another; memories that calls
-   only read may be shared.
+   A refused call answers a number other than 0, and leaves every memory as it
+   was. While a call runs it may write the memories that are not const. So
+   calls may run at the same time on different threads, if no memory that one
+   of them may write is lent to another. Memories that calls only read may be
+   shared. m7_feed may write its table and its state: give each thread a copy.
 
    A table, a state, an output and a file to write to must have the sizes
    M7_TABLE_BYTES, M7_STATE_BYTES, M7_OUTPUT_BYTES and M7_FILE_BYTES, or the
-   call is refused with 3. A file to read and a line may have any size. */
+   call is refused with 3. A file to read and a line may have any size.
+
+   STORING TABLES AND STATES
+
+   Tables and states are plain bytes with one form for each content. They may
+   be copied, compared, stored in files and moved to another machine as they
+   are; byte order and word size do not matter. Every call that uses one looks
+   at all its bytes first, so damaged bytes are refused with 1 or 2 and never
+   do harm. To check a table and a state that were loaded, without using them:
+   feed a line of M7_MOST_LINE_BYTES + 1 bytes. The answer is 3, 1 or 2 if one
+   of them is bad, and 21 if both are good; nothing is changed either way.
+
+   LINES FROM STRANGERS
+
+   Every line and every table is safe to feed: whatever the bytes, the call
+   returns, writes only the memories that were lent, and uses bounded stack.
+   Time is bounded by the budget: a line costs at most that many passes. A line
+   that begins with $ is a command: it may add a macro or set a flag. A caller
+   who does not want that from strangers looks at the line's first byte before
+   feeding it. A table can turn a line into a command too, so a table from a
+   stranger is as powerful as a control line.
+
+   WHAT TO TAKE AS A BUDGET
+
+   10,000 is what the program of document 01 takes. A line that is done needs
+   as many passes as there are macros, and that many again for each pass that
+   changed the line. A macro such as 'a'='a'; never ends by itself: on a full
+   line a pass of it takes some 50 microseconds, so 10,000 of them take half a
+   second and 1,000,000 take 52 seconds. A larger budget never changes an
+   answer other than 31. */
 
 #ifndef M7_H
 #define M7_H
@@ -45,16 +89,24 @@ extern "C" {
    A slot: byte 0 is the macro's symbol (1 for <, 2 for =; 0 if the slot is
    unused), byte 1 the number of its tags, bytes 2 to 7 the lengths in bytes of
    its pattern, its replacement and its commands, two bytes each, low byte
-   first. Behind them stand these three, in items of two bytes, a code and an
-   operand (crates/form_table/specs/Form.antt has the codes). */
+   first. After them stand these three, in items of two bytes, a code and an
+   operand (crates/form_table/specs/Form.antt has the codes). So the number of
+   macros in a table is the number of slots whose first byte is not 0. */
 #define M7_TABLE_BYTES 98304
+#define M7_SLOT_BYTES 1024
 
 /* A state: the flags TRACE and NFLAG (a byte each, 0 or 1); the pointers of
    the stacks a to z (a byte each, 1 to 20); the values and then the increments
    of the counters a to z (four bytes each, low byte first, 1 to 999,999,999);
-   the 20 entries of each stack (50 bytes each, a text without byte 0, and
-   zeros behind it). */
+   the 20 entries of stack a, then those of b, and so on (50 bytes each: a text
+   without byte 0, then zeros). The offsets of these fields: */
 #define M7_STATE_BYTES 26236
+#define M7_STATE_TRACE 0
+#define M7_STATE_NFLAG 1
+#define M7_STATE_POINTERS 2
+#define M7_STATE_VALUES 28
+#define M7_STATE_INCREMENTS 132
+#define M7_STATE_ENTRIES 236
 
 /* The output of a line that is fed. */
 #define M7_OUTPUT_BYTES 1054
@@ -99,47 +151,46 @@ typedef struct m7_answer {
 
 /* NUMBERS
 
-   The host's, looked at first and in this order:
-    3  a lent memory of another size than is stated above
-    1  a table whose bytes are not the form of at most 96 macros, each of
-       which some macro file spells
-    2  a state with a field out of range, a byte 0 inside an entry's text, or
-       an unused byte that is not 0
-    4  a budget over 1,000,000
+   The host's mistakes, looked at first and in this order:
+    3  A lent memory has another size than is stated above.
+    1  The table's bytes are no table.
+    2  The state's bytes are no state: a field is out of range, a byte 0 stands
+       inside an entry's text, or an unused byte is not 0.
+    4  The budget is over 1,000,000.
 
-   Of whoever sends the line, looked at next, before any pass:
-   21  a line of more than 1,054 bytes
-   22  a line that holds byte 0 or a line feed
-   and later, of a control line:
-   23  another word or value, or not one macro
+   Those of whoever sends the line, looked at next, before any pass:
+   21  The line has more than 1,054 bytes.
+   22  The line holds byte 0 or a line feed.
+   and later, if the line begins with $:
+   23  It is no command: another word or value, or $MACRO without exactly one
+       macro.
 
-   The table writer's, with a place; of a $MACRO line the place counts from
-   behind that word. 10 and then 11 over the whole file first,
-   then the first byte where a fault shows, the lowest number there.
-   10  the file has more than 32,768 bytes; its first byte too many.
-       In writing out: the file would have more, at its 32,769th byte
-   11  byte 0
-   12  file end, ; line feed or quote before the open part is complete, or a
-       quote or ; out of turn: a quoted text, a class, a call or a skip that is
-       not ended, a macro that lacks its symbol, its replacement or its ;
-   13  an empty class or a bad range
-   14  a closure with no unit
-   15  in a pattern an unmatched right brace, a brace open at the quote, or
-       the 100th tag
-   16  a call or {n} not in its form or place, out of range, or a tag that the
-       pattern has not
-   17  a pattern without an element
-   18  the 513th byte of a macro, from its first quote on.
-       In writing out: of a macro as it is written
-   19  the 97th macro's first quote, those of the table counted with those
-       that $MACRO reads
+   The table writer's, with a place. In a $MACRO line places count from after
+   that word. 10 and then 11 are looked for in the whole file first. Then the
+   first byte where a fault shows decides, and there the lowest number.
+   10  The file has more than 32,768 bytes; the place is the first byte too
+       many. In writing out: the file would have more.
+   11  The file holds byte 0.
+   12  Something is not ended: a quoted text, a class, a call or a skip; or a
+       macro lacks its symbol, its replacement or its semicolon.
+   13  A class is empty, or its range falls or mixes kinds.
+   14  A closure has nothing before it to repeat.
+   15  In a pattern, a right brace has no left one, a left brace is still open
+       at the closing quote, or there is a 100th tag.
+   16  A call or {n} is not in its form, stands where it may not, has a number
+       out of range, or names a tag that the pattern does not have.
+   17  A pattern has no element.
+   18  A macro has more than 512 bytes, from its first quote to its semicolon.
+       In writing out: a macro as it would be written has more.
+   19  There is a 97th macro, those of the table counted with those that
+       $MACRO adds; the place is its first quote.
 
    The table's at work, at the first such step:
-   31  another pass is due and the budget is used up
-   32  the new line's 1,055th byte
-   33  a stored tag over 50 bytes
-   34  a pointer past 20
-   35  a counter past 999,999,999 */
+   31  Another pass is due and the budget is used up.
+   32  The new line would have more than 1,054 bytes.
+   33  A tag of more than 50 bytes would be stored.
+   34  A stack's pointer would go past 20.
+   35  A counter would go past 999,999,999. */
 #define M7_BAD_TABLE 1
 #define M7_BAD_STATE 2
 #define M7_BAD_MEMORY 3
@@ -176,10 +227,15 @@ m7_answer m7_read(const uint8_t *file, size_t file_size,
                   uint8_t *table, size_t table_size);
 
 /* Writes a table out as a macro file: each macro on a line, oldest first.
+   Comments, spaces and other text between the parts are not in a table, so
+   they are not written; escapes and numbers are written in one way.
    Refusals: 3 (of either memory), 1, then 18 or 10 at the first byte that is
-   too much. Taken: the file's memory holds the file and zeros behind it, and
-   length is the file's size. m7_read of these length bytes gives the same
-   table, byte for byte. */
+   too much. A table that m7_read took can be refused here, since writing out
+   puts a \ before some bytes that can also be read without it: a replacement
+   of 505 colons fits into 512 bytes, but not with a \ before each.
+   Taken: the file's memory holds the file and zeros after it, and length is
+   the file's size. m7_read of these length bytes gives the same table, byte
+   for byte. */
 m7_answer m7_write(const uint8_t *table, size_t table_size,
                    uint8_t *file, size_t file_size);
 
@@ -197,7 +253,7 @@ m7_answer m7_fresh(uint8_t *state, size_t state_size);
 
    Taken, by kind:
    M7_OUT       the output holds the rewritten line, length bytes, and zeros
-                behind it; a line of 1,054 bytes has none. It never holds byte
+                after it; a line of 1,054 bytes has none. It never holds byte
                 0; it may hold line feeds that a replacement made, and none is
                 added at its end. The state is the one after the line
    M7_WITHHELD  NFLAG is 1 and no macro occurred: the output is all zero
@@ -205,7 +261,8 @@ m7_answer m7_fresh(uint8_t *state, size_t state_size);
                 $TRACE 0, $TRACE 1, $NFLAG 0 or $NFLAG 1 set a flag of the
                 state (TRACE has no effect), $MACRO adds a macro to the
                 table as the newest; what the passes before changed in the
-                state stays; the output is all zero
+                state stays; the output is all zero and length is 0. To know
+                how many macros a table then has, count its slots (above)
 
    Time: a pass tries each element of the pattern at each place of the line at
    most once, and again after a replacement that changes a stack or counter
@@ -215,6 +272,21 @@ m7_answer m7_feed(uint8_t *table, size_t table_size,
                   uint8_t *state, size_t state_size,
                   const uint8_t *line, size_t line_size, uint32_t budget,
                   uint8_t *output, size_t output_size);
+
+/* The version of this header, and that of the library that is linked. */
+#define M7_VERSION "1.0"
+const char *m7_version(void);
+
+/* What a number means, in a few words of English; of 0 it is "taken". A number
+   that is not listed above has a text too. The text is constant and is never
+   null. */
+const char *m7_meaning(uint32_t number);
+
+/* The sizes above, for languages that cannot read this header. */
+size_t m7_table_bytes(void);
+size_t m7_state_bytes(void);
+size_t m7_output_bytes(void);
+size_t m7_file_bytes(void);
 
 #ifdef __cplusplus
 }

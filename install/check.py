@@ -1,60 +1,100 @@
-"""check.py LIBRARY: loads the shared object and holds some answers of 01 against it."""
+"""check.py DIR: holds the Python module that is installed in DIR against some
+answers of 01, and sees that it keeps to its own words."""
 
-import ctypes
+import os
 import sys
+import threading
 
-TABLE, STATE, OUTPUT, FILE = 98304, 26236, 1054, 32768
-
-
-class Answer(ctypes.Structure):
-    _fields_ = [(name, ctypes.c_uint32) for name in ("number", "place", "passes", "kind", "length")]
-
-    def all(self):
-        return tuple(getattr(self, name) for name, _ in self._fields_)
+sys.path.insert(0, os.path.join(sys.argv[1], "lib", "python"))
+import m7  # noqa: E402
 
 
-library = ctypes.CDLL(sys.argv[1])
-for name in ("m7_read", "m7_write", "m7_fresh", "m7_feed"):
-    getattr(library, name).restype = Answer
-size = ctypes.c_size_t
+def fed(file, line, budget=m7.BUDGET):
+    song = m7.Song(file, budget=budget)
+    out = song.feed(line)
+    return out, song.passes
 
 
-def read(table, file):
-    return library.m7_read(file, size(len(file)), table, size(TABLE)).all()
+def refused(call, *given, **named):
+    try:
+        call(*given, **named)
+    except m7.Refused as why:
+        return why.number, why.place, why.passes
+    raise AssertionError("not refused")
 
 
-def feed(table, state, line, budget=10000):
-    output = ctypes.create_string_buffer(OUTPUT)
-    answer = library.m7_feed(
-        table, size(TABLE), state, size(STATE), line, size(len(line)),
-        ctypes.c_uint32(budget), output, size(OUTPUT),
-    ).all()
-    return answer, output.raw[: answer[4]]
+def answers():
+    assert fed(rb"'@{-*-?6*\/?6*}'='o{1}';", b"@-1/4") == (b"o-1/4", 2)
+    assert fed(b"'ab'<'abc';", b"ababab") == (b"abcabcabc", 1)
+    assert fed(b"'?1*{[0-9]*}'<'{1}';", b"Mozart's 38th symphony")[0] == b"8th symphony"
+    assert fed(b"'a'='b';'a'='c';", b"a") == (b"c", 3)
+    assert fed(b"", b"") == (b"", 0)
+    assert refused(fed, b"'int'='integer';", b"print", 262) == (31, 0, 262)
+    assert refused(fed, b"'int'='integer';", b"print", 263) == (32, 0, 263)
+    assert refused(fed, b"", b"a", 1000001) == (4, 0, 0)
+    assert refused(fed, b"", b"a" * 1055) == (21, 0, 0)
+    assert refused(fed, b"", b"a\0b") == (22, 0, 0)
+    assert refused(m7.Song, b"'a**'='b';") == (14, 3, 0)
+    assert refused(m7.read, b"'[z-a]'='b';") == (13, 4, 0)
+    assert refused(m7.read, b"'a'='{2}';") == (16, 7, 0)
+    assert refused(m7.read, b"'a\0'='b';") == (11, 2, 0)
 
 
-def song(file, line, budget=10000):
-    table, state = ctypes.create_string_buffer(TABLE), ctypes.create_string_buffer(STATE)
-    assert read(table, file)[0] == 0
-    assert library.m7_fresh(state, size(STATE)).all() == (0, 0, 0, 0, 0)
-    return feed(table, state, line, budget)
+def tables():
+    table, macros = m7.read(b"'a' = 'b:' x ;")
+    assert macros == 1 and len(table) == m7.TABLE_BYTES
+    assert m7.write(table) == b"'a'='b\\:';\n"
+    assert refused(m7.write, table[:-1]) == (3, 0, 0)
+    assert refused(m7.write, b"\3" + table[1:]) == (1, 0, 0)
+    song = m7.Song(b"'a'='b';")
+    assert song.feed(b"$MACRO 'c'='d';") is None and song.kind == m7.CONTROL
+    assert song.written() == b"'a'='b';\n'c'='d';\n" and song.feed(b"ac") == b"bd"
+    assert refused(song.feed, b"$MACRO 'a**'='b';") == (14, 4, 0)
+    assert song.written() == b"'a'='b';\n'c'='d';\n"
 
 
-def refused(file):
-    return read(ctypes.create_string_buffer(TABLE), file)
+def states():
+    assert len(m7.fresh()) == m7.STATE_BYTES
+    song = m7.Song(b"'^'<'#(n+) ';")
+    assert song.feed(b"do") == b"1 do"
+    kept = song.state
+    assert song.feed(b"re") == b"2 re" and song.kind == m7.OUT
+    assert m7.Song(b"'^'<'#(n+) ';", kept).feed(b"re") == b"2 re"
+    assert m7.Song(b"", kept).feed(b"$NFLAG 1") is None
+    assert refused(m7.Song, b"", b"\2" + kept[1:]) == (2, 0, 0)
+    assert refused(m7.Song, b"", kept[1:]) == (3, 0, 0)
+    assert refused(m7.Song, b"", b"x") == refused(m7.Song, b"", b"") == (3, 0, 0)
 
 
-assert song(rb"'@{-*-?6*\/?6*}'='o{1}';", b"@-1/4") == ((0, 0, 2, 1, 5), b"o-1/4")
-assert song(b"'ab'<'abc';", b"ababab") == ((0, 0, 1, 1, 9), b"abcabcabc")
-assert song(b"'int'='integer';", b"print", 262) == ((31, 0, 262, 0, 0), b"")
-assert song(b"'int'='integer';", b"print", 263) == ((32, 0, 263, 0, 0), b"")
-assert song(b"'?1*{[0-9]*}'<'{1}';", b"Mozart's 38th symphony")[1] == b"8th symphony"
-assert song(b"'a'='b';'a'='c';", b"a") == ((0, 0, 3, 1, 1), b"c")
-assert refused(b"'a**'='b';") == (14, 3, 0, 0, 0)
-assert refused(b"'[z-a]'='b';") == (13, 4, 0, 0, 0)
-assert refused(b"'a'='{2}';") == (16, 7, 0, 0, 0)
-table, file = ctypes.create_string_buffer(TABLE), ctypes.create_string_buffer(FILE)
-assert read(table, b"'a' = 'b:' x ;") == (0, 0, 0, 0, 1)
-assert library.m7_write(table, size(TABLE), file, size(FILE)).all() == (0, 0, 0, 0, 11)
-assert file.raw[:12] == b"'a'='b\\:';\n\0"
-assert library.m7_fresh(table, size(TABLE)).all() == (3, 0, 0, 0, 0)
-print("Python loads the shared object: the answers of 01 hold")
+def words():
+    assert m7.meaning(14) == "a closure with nothing before it to repeat"
+    assert str(m7.Refused(14, 3)) == "14: a closure with nothing before it to repeat"
+    assert m7.__version__.count(".") == 1
+    for given in ("text", None, 7):
+        try:
+            m7.Song().feed(given)
+        except TypeError as why:
+            assert "a line is bytes" in str(why)
+        else:
+            raise AssertionError(given)
+
+
+def threads():
+    """Songs on threads of their own give what they give alone."""
+    said = {}
+
+    def run(key):
+        song = m7.Song(b"'^'<'#(n+) ';'a'<'b';")
+        said[key] = [song.feed(b"a" * key) for _ in range(200)]
+
+    started = [threading.Thread(target=run, args=(key,)) for key in range(8)]
+    for thread in started:
+        thread.start()
+    for thread in started:
+        thread.join()
+    assert said == {key: [b"%d " % n + b"b" * key for n in range(1, 201)] for key in range(8)}
+
+
+for check in (answers, tables, states, words, threads):
+    check()
+print("Python: the module's answers are those of 01")

@@ -1,7 +1,8 @@
 /* Holds include/m7.h against the archive: the header is taken by compilers of
    C and C++ with all warnings, its layouts are what a call writes, its sizes
    are what a call takes, its bounds show at their first byte too many, and
-   every number that it names comes up. This file is C99 and C++98. */
+   every number that it names comes up and has a meaning. This file is C99 and
+   C++98. */
 #include "m7.h"
 #include "m7.h"
 #include <stddef.h>
@@ -434,6 +435,19 @@ static void memories_refused(void)
     CHECK(feeding(M7_MOST_BUDGET + 1) == M7_BUDGET_TOO_LARGE && feed("a") == 0);
 }
 
+/* What is not part of the engine: version, meanings, sizes. */
+static void meanings(void)
+{
+    const char *unknown = m7_meaning(64);
+    uint32_t number;
+    CHECK(strcmp(m7_version(), M7_VERSION) == 0);
+    CHECK(strcmp(m7_meaning(0), "taken") == 0 && strcmp(unknown, m7_meaning(0xFFFFFFFFu)) == 0);
+    for (number = 0; number < 64; number++)
+        CHECK((strcmp(m7_meaning(number), unknown) != 0) == (seen[number] != 0));
+    CHECK(m7_table_bytes() == M7_TABLE_BYTES && m7_state_bytes() == M7_STATE_BYTES);
+    CHECK(m7_output_bytes() == M7_OUTPUT_BYTES && m7_file_bytes() == M7_FILE_BYTES);
+}
+
 /* The numbers that the header names, and no others, have come up. */
 static void all_seen(void)
 {
@@ -468,6 +482,7 @@ int main(void)
     files_refused();
     lines_refused();
     memories_refused();
+    meanings();
     all_seen();
     printf("%d checks hold\n", checks);
     return 0;

@@ -1,4 +1,5 @@
-//! 01, part 1: the six kinds of each of the 256 bytes.
+//! 01, part 1: the six kinds of each of the 256 bytes, with the letters of
+//! ISO 8859-1 (02, N3).
 
 /// Bit n - 1 of an entry says whether the byte is of kind `?n`.
 pub const KINDS: [u8; 256] = kinds();
@@ -14,8 +15,8 @@ const fn kinds() -> [u8; 256] {
 }
 
 const fn kinds_of(byte: u8) -> u8 {
-    let upper = byte >= b'A' && byte <= b'Z';
-    let lower = byte >= b'a' && byte <= b'z';
+    let upper = matches!(byte, b'A'..=b'Z' | 192..=214 | 216..=222);
+    let lower = matches!(byte, b'a'..=b'z' | 223..=246 | 248..=255);
     let digit = byte >= b'0' && byte <= b'9';
     let letter = upper || lower;
     1 | ((letter || digit) as u8) << 1

@@ -2,36 +2,42 @@
 
 use m7_reference::answers::{parse, run, Case};
 
-const TEXTS: &[(&str, &str)] = &[
-    ("songs", include_str!("../answers/songs.txt")),
-    ("manual", include_str!("../answers/manual.txt")),
-    ("errors", include_str!("../answers/errors.txt")),
-    ("readings", include_str!("../answers/readings.txt")),
-    ("spelling", include_str!("../answers/spelling.txt")),
-    ("refusals", include_str!("../answers/refusals.txt")),
-    ("bounds", include_str!("../answers/bounds.txt")),
-    ("state", include_str!("../answers/state.txt")),
-];
+/// The texts of the folder `answers/` by path.
+fn texts() -> Vec<(String, String)> {
+    let folder = concat!(env!("CARGO_MANIFEST_DIR"), "/answers");
+    let paths = std::fs::read_dir(folder).unwrap().map(|entry| entry.unwrap().path());
+    let text = paths.filter(|path| {
+        path.extension().is_some_and(|ending| ending == "txt") && !path.ends_with("programs.txt")
+    });
+    let mut texts: Vec<(String, String)> = text
+        .map(|path| (path.display().to_string(), std::fs::read_to_string(&path).unwrap()))
+        .collect();
+    texts.sort();
+    texts
+}
+
+fn cases_of((path, text): &(String, String)) -> Vec<Case> {
+    parse(text).unwrap_or_else(|error| panic!("{path}: {error}"))
+}
 
 fn cases() -> Vec<Case> {
-    let parsed = TEXTS.iter().map(|(name, text)| {
-        parse(text).unwrap_or_else(|error| panic!("answers/{name}.txt: {error}"))
-    });
-    parsed.flatten().collect()
+    texts().iter().flat_map(cases_of).collect()
 }
 
 #[test]
 fn stored_answers_hold() {
-    let cases = cases();
-    let mut checks = 0;
     let mut failures = Vec::new();
-    for case in &cases {
-        match run(case) {
-            Ok(held) => checks += held,
-            Err(message) => failures.push(message),
+    for text in texts() {
+        let cases = cases_of(&text);
+        let mut checks = 0;
+        for case in &cases {
+            match run(case) {
+                Ok(held) => checks += held,
+                Err(message) => failures.push(message),
+            }
         }
+        println!("{}: {} cases, {checks} answers", text.0, cases.len());
     }
-    println!("{} cases, {checks} answers", cases.len());
     assert!(failures.is_empty(), "{} failed:\n{}", failures.len(), failures.join("\n"));
 }
 

@@ -24,7 +24,7 @@ fn any_state(random: &mut Random) -> State {
 
 fn small_line(random: &mut Random) -> Vec<u8> {
     let length = random.below(8);
-    (0..length).map(|_| *random.pick(b"aaaabb1-")).collect()
+    (0..length).map(|_| *random.pick(b"aaaabb1-\xe9\xd7")).collect()
 }
 
 #[test]

@@ -1,16 +1,26 @@
-//! 01, part 1, over all 256 bytes.
+//! 01, part 1, and 02, N3, over all 256 bytes.
+
+#[allow(dead_code)]
+mod naive;
 
 use m7_reference::kinds::{is_kind, KINDS};
+use naive::letters::{LOWER, UPPER};
 
 #[test]
 fn kinds_of_every_byte() {
     for byte in 0..=255u8 {
-        assert!(is_kind(1, byte));
-        assert_eq!(is_kind(2, byte), byte.is_ascii_alphanumeric());
-        assert_eq!(is_kind(3, byte), byte.is_ascii_alphabetic());
-        assert_eq!(is_kind(4, byte), byte.is_ascii_uppercase());
-        assert_eq!(is_kind(5, byte), byte.is_ascii_lowercase());
-        assert_eq!(is_kind(6, byte), byte.is_ascii_digit());
+        for n in 1..=6 {
+            assert_eq!(is_kind(n, byte), naive::letters::is_kind(n, byte), "?{n} on {byte}");
+        }
         assert!(KINDS[byte as usize] < 64);
     }
+}
+
+/// ISO 8859-1 has 30 capital and 32 small letters beyond ASCII.
+#[test]
+fn letters_are_those_of_the_standard() {
+    let beyond = |text: &str| text.chars().filter(|letter| !letter.is_ascii()).count();
+    assert_eq!((beyond(UPPER), beyond(LOWER)), (30, 32));
+    let bytes = |n: u8| (128..=255u8).filter(|byte| is_kind(n, *byte)).count();
+    assert_eq!([bytes(2), bytes(3), bytes(4), bytes(5), bytes(6)], [62, 62, 30, 32, 0]);
 }

@@ -201,7 +201,7 @@ fn lines_are_those_of_demand_3() {
         let mut engine = Engine::new(table);
         for _ in 0..3 {
             let length = random.below(6);
-            let line: Vec<u8> = (0..length).map(|_| *random.pick(b"aaab1-")).collect();
+            let line: Vec<u8> = (0..length).map(|_| *random.pick(b"aaaaaab1-\xe9")).collect();
             let naive = naive_line(&engine, &line, 12);
             let answer = engine.feed(&line, 12);
             if let Some((wanted, state)) = naive {

@@ -1,4 +1,4 @@
--- The kinds of bytes (01, part 1).
+-- The kinds of bytes (01, part 1; 02, N3).
 use Prim.Native.Nat.{ℕ, zero, suc, _+_, _-_, _^_}
 use mathlib.Core.Bool.{Bool, true, false, cond, _&&_, _||_}
 use mathlib.Core.List.{List, [], _∷_}
@@ -8,13 +8,13 @@ use lib.Dec.{leb, eqb}
 abbrev pub within : ℕ → ℕ → ℕ → Bool
 within a z b = leb a b && leb b z
 
--- 01, part 1: upper case, `A` to `Z`
+-- 01, part 1: upper case, `A` to `Z`; N3: "192 to 214 and 216 to 222 are upper case letters"
 abbrev pub upper : ℕ → Bool
-upper = within 65 90
+upper b = within 65 90 b || within 192 214 b || within 216 222 b
 
--- 01, part 1: lower case, `a` to `z`
+-- 01, part 1: lower case, `a` to `z`; N3: "223 to 246 and 248 to 255 lower case"
 abbrev pub lower : ℕ → Bool
-lower = within 97 122
+lower b = within 97 122 b || within 223 246 b || within 248 255 b
 
 -- 01, part 1: digit, `0` to `9`
 abbrev pub digit : ℕ → Bool

@@ -149,7 +149,8 @@ abbrev computedBy : List Case → Read → List (Shown × List Part)
 computedBy cs (refusedAt r p) = (refused (fileNumber r) p 0, []) ∷ []
 computedBy cs (table ms) = computed (feeds ms fresh (sentOf cs))
 
--- the file is read; the lines, fed to it in turn from the fresh state, are answered and leave the state as each case says
+-- the file is read; the lines, fed to it in turn from the fresh state, are answered and leave the state as each case says.
+-- A file that is refused has one case, which shows its refusal.
 abbrev pub Tried : String → List Case → Type 0
 Tried f cs = computedBy cs (readFile (bytes f)) ≡ told cs
 

@@ -412,3 +412,51 @@ pub listOfLines :
     )
 unfolding everything
 listOfLines = refl
+
+-- 02, N3
+
+-- 02, N3: a line under each kind with letters beyond ASCII, and the signs among them; ranges and calls keep to ASCII
+pub letterCases :
+    (Tried "'{?3*}'<'({1})';" (
+    fed "L'été à Nîmes: 2 × 3" (says "(L)'(été) (à) (Nîmes): 2 × 3" 1) []
+    ∷ fed "Süße Grüße, Änne" (says "(Süße) (Grüße), (Änne)" 1) []
+    ∷ []
+    )) ×
+    (Tried "'{?2*}'<'({1})';" (
+    fed "6÷2×é1 ªµº" (says "(6)÷(2)×(é1) ªµº" 1) []
+    ∷ []
+    )) ×
+    (Tried "'{?4*}'<'({1})';" (
+    fed "¿ÀÖ×ØÞßZ" (says "¿(ÀÖ)×(ØÞ)ß(Z)" 1) []
+    ∷ []
+    )) ×
+    (Tried "'{?5*}'<'({1})';" (
+    fed "Þßö÷øÿz" (says "Þ(ßö)÷(øÿz)" 1) []
+    ∷ []
+    )) ×
+    (Tried "'{?6*}'<'({1})';" (
+    fed "é1é" (says "é(1)é" 1) []
+    ∷ []
+    )) ×
+    (Tried "'[éa-z]*'<'x';" (
+    fed "thé à" (says "x à" 1) []
+    ∷ []
+    )) ×
+    (Tried "'[a-é]'='';" (
+    fed "" (refused 13 4 0) []
+    ∷ []
+    )) ×
+    (Tried "'[à-é]'='';" (
+    fed "" (refused 13 4 0) []
+    ∷ []
+    )) ×
+    (Tried "'[A-Ö]'='';" (
+    fed "" (refused 13 4 0) []
+    ∷ []
+    )) ×
+    (Tried "'&(é)'='';" (
+    fed "" (refused 16 3 0) []
+    ∷ []
+    ))
+unfolding everything
+letterCases = (refl, refl, refl, refl, refl, refl, refl, refl, refl, refl)

@@ -1,2 +1,1 @@
 pub mod Songs
-pub mod Bounds

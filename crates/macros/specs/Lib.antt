@@ -10,3 +10,6 @@ pub mod RoundTrip
 pub mod Spelling
 pub mod ReadKeeps
 pub mod Cases
+pub mod ReadingCases
+pub mod WritingCases
+pub mod BoundCases

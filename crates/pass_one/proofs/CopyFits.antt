@@ -15,8 +15,8 @@ use Rattle.lines.proofs.CopyLaws.{fits-inside}
 use Rattle.form_state.specs.Access.{IsState, OfState}
 use Rattle.pass_one.specs.Pattern.{OfPiece}
 use Rattle.pass_one.specs.Pieces.{membersOf, fitU, widthU, Stands, Wide}
-use Rattle.pass_one.specs.declared.unit.Unit.{Unit as CodeUnit}
-use Rattle.pass_one.specs.declared.unit.Unit.the-variants.{Literal, Kind, Class, ClassNot, StackCall, CounterCall, Start, End, Brace}
+use Rattle.form_element.specs.declared.Unit.{Unit as CodeUnit}
+use Rattle.form_element.specs.declared.Unit.the-variants.{Literal, Kind, Class, ClassNot, StackCall, CounterCall, Start, End, Left, Right}
 
 pub fit-inside : (st : State) (u : CodeUnit) (ms : List Member) (p : ℕ) (s : List ℕ) → fitU st u ms p s ≡ true → widthU st u ≤ length s
 unfolding width
@@ -28,7 +28,8 @@ fit-inside st (StackCall i) ms p s e = fits-inside st (callOf stack i) s e
 fit-inside st (CounterCall i) ms p s e = fits-inside st (callOf counter i) s e
 fit-inside st Start ms p s e = omega arith
 fit-inside st End ms p s e = omega arith
-fit-inside st Brace ms p s e = omega arith
+fit-inside st Left ms p s e = omega arith
+fit-inside st Right ms p s e = omega arith
 
 pub copy-inside : (items b t : List ℕ) (at : ℕ) (u : CodeUnit) (w p : ℕ) (x : Bool) → Stands items at → IsState b → p ≤ length t → Wide b u w
     → OfPiece items at (λ e. OfState b (λ st. x ≡ fitU st u (membersOf e) p (drop p t))) → x ≡ true → p + w ≤ length t

@@ -18,10 +18,11 @@ use Rattle.macros.specs.Macro.Piece.{element, start, end, left, right}
 use Rattle.form_table.specs.Form.{closureCode, unitCode, unitOperand, memberItems, membersItems, unitRest, pieceItems, patternItems}
 use Rattle.lines.specs.Matching.{isMember}
 use Rattle.pass_one.specs.Pattern.{FormedUnits, IsRest}
-use Rattle.pass_one.specs.Pieces.{codeUnit, membersOf, closureOf, unitAt, closureAt, Lettered, Stands, IsUnit, Members, SomeMembers, FirstMember}
-use Rattle.pass_one.specs.declared.unit.Closure.{Closure as CodeClosure}
-use Rattle.pass_one.specs.declared.unit.Unit.{Unit as CodeUnit}
-use Rattle.pass_one.specs.declared.unit.Unit.the-variants.{Literal, Kind, Class, ClassNot, StackCall, CounterCall, Start, End, Brace}
+use Rattle.form_element.specs.Element.{codeUnit, elementOf, SomePiece, AnyPiece}
+use Rattle.pass_one.specs.Pieces.{membersOf, Lettered, Stands, IsUnit, IsElement, Members, SomeMembers, FirstMember}
+use Rattle.form_element.specs.declared.Element.{Element}
+use Rattle.form_element.specs.declared.Unit.{Unit as CodeUnit}
+use Rattle.form_element.specs.declared.Unit.the-variants.{Literal, Kind, Class, ClassNot, StackCall, CounterCall, Start, End, Left, Right}
 
 -- a list that begins at a place
 module _ (l : List ℕ) (i : ℕ) (v : List ℕ) (e : v ≡ drop i l) where
@@ -139,73 +140,26 @@ unfolding patternItems
 rest-more items at [] r h = absurd (h (let l = rest-long items at [] r in omega arith))
 rest-more items at (e ∷ es) r h = record { piece = e; pieces = es; is = r }
 
--- DECODING
-
-unit-decoded : (e : Piece) (r : List ℕ) → unitAt (getD (pieceItems e ++ r) 0 0) (getD (pieceItems e ++ r) 1 0) ≡ codeUnit e
-unfolding unitAt pick pieceItems unitCode closureCode unitOperand
-unit-decoded (element (literal b) once) r = refl
-unit-decoded (element (literal b) oneOrMore) r = refl
-unit-decoded (element (literal b) zeroOrMore) r = refl
-unit-decoded (element (kind n) once) r = refl
-unit-decoded (element (kind n) oneOrMore) r = refl
-unit-decoded (element (kind n) zeroOrMore) r = refl
-unit-decoded (element (class false ms) once) r = refl
-unit-decoded (element (class false ms) oneOrMore) r = refl
-unit-decoded (element (class false ms) zeroOrMore) r = refl
-unit-decoded (element (class true ms) once) r = refl
-unit-decoded (element (class true ms) oneOrMore) r = refl
-unit-decoded (element (class true ms) zeroOrMore) r = refl
-unit-decoded (element (callOf stack i) once) r = refl
-unit-decoded (element (callOf stack i) oneOrMore) r = refl
-unit-decoded (element (callOf stack i) zeroOrMore) r = refl
-unit-decoded (element (callOf counter i) once) r = refl
-unit-decoded (element (callOf counter i) oneOrMore) r = refl
-unit-decoded (element (callOf counter i) zeroOrMore) r = refl
-unit-decoded start r = refl
-unit-decoded end r = refl
-unit-decoded left r = refl
-unit-decoded right r = refl
-
-closure-decoded : (e : Piece) (r : List ℕ) → closureAt (getD (pieceItems e ++ r) 0 0) ≡ closureOf e
-unfolding closureAt pick pieceItems unitCode closureCode unitOperand
-closure-decoded (element (literal b) once) r = refl
-closure-decoded (element (literal b) oneOrMore) r = refl
-closure-decoded (element (literal b) zeroOrMore) r = refl
-closure-decoded (element (kind n) once) r = refl
-closure-decoded (element (kind n) oneOrMore) r = refl
-closure-decoded (element (kind n) zeroOrMore) r = refl
-closure-decoded (element (class false ms) once) r = refl
-closure-decoded (element (class false ms) oneOrMore) r = refl
-closure-decoded (element (class false ms) zeroOrMore) r = refl
-closure-decoded (element (class true ms) once) r = refl
-closure-decoded (element (class true ms) oneOrMore) r = refl
-closure-decoded (element (class true ms) zeroOrMore) r = refl
-closure-decoded (element (callOf stack i) once) r = refl
-closure-decoded (element (callOf stack i) oneOrMore) r = refl
-closure-decoded (element (callOf stack i) zeroOrMore) r = refl
-closure-decoded (element (callOf counter i) once) r = refl
-closure-decoded (element (callOf counter i) oneOrMore) r = refl
-closure-decoded (element (callOf counter i) zeroOrMore) r = refl
-closure-decoded start r = refl
-closure-decoded end r = refl
-closure-decoded left r = refl
-closure-decoded right r = refl
+-- ITS ELEMENT
 
 module _ (items : List ℕ) (at : ℕ) (s : Stands items at) where
-  pub unit-is : (u : CodeUnit) → u ≡ unitAt (getD items at 0) (getD items (at + 1) 0) → IsUnit items at u
+  pub piece-here : SomePiece items at
   unfolding patternItems
-  unit-is u f = record { stands = s; unit = is-unit; letter = rw (← is-unit (s .piece) (s .pieces) (s .is)) (rest-letter items at (s .piece) (s .pieces) (s .is)) }
-    where
-      is-unit : (e : Piece) (es : List Piece) → IsRest items at (e ∷ es) → codeUnit e ≡ u
-      is-unit e es r =
-          let i = rest-items items at (e ∷ es) r in
-          sym (unit-decoded e (patternItems es)) ∙ rw (← peek-first items at (patternItems (e ∷ es)) i, ← peek items at (patternItems (e ∷ es)) i 1) (sym f)
+  piece-here = record { piece = s .piece; behind = patternItems (s .pieces); is = rest-items items at (s .piece ∷ s .pieces) (s .is) }
 
-  pub closure-is : (k : CodeClosure) → k ≡ closureAt (getD items at 0) → (e : Piece) (es : List Piece) → IsRest items at (e ∷ es) → closureOf e ≡ k
+  pub element-is : (x : Element) → AnyPiece items at (λ p. x ≡ elementOf p) → IsElement items at x
   unfolding patternItems
-  closure-is k g e es r =
-      let i = rest-items items at (e ∷ es) r in
-      sym (closure-decoded e (patternItems es)) ∙ rw (← peek-first items at (patternItems (e ∷ es)) i) (sym g)
+  element-is x f =
+      record {
+        unit = record { stands = s; unit = is-unit; letter = rw (← is-unit (s .piece) (s .pieces) (s .is)) (rest-letter items at (s .piece) (s .pieces) (s .is)) };
+        closure = λ e es r. sym (ap (λ (y : Element). y .closure) (same e es r));
+      }
+    where
+      same : (e : Piece) (es : List Piece) → IsRest items at (e ∷ es) → x ≡ elementOf e
+      same e es r = f e (patternItems es) (rest-items items at (e ∷ es) r)
+
+      is-unit : (e : Piece) (es : List Piece) → IsRest items at (e ∷ es) → codeUnit e ≡ x .unit
+      is-unit e es r = sym (ap (λ (y : Element). y .unit) (same e es r))
 
 -- CLASSES
 
@@ -218,7 +172,8 @@ hasMembers (StackCall i) = false
 hasMembers (CounterCall i) = false
 hasMembers Start = false
 hasMembers End = false
-hasMembers Brace = false
+hasMembers Left = false
+hasMembers Right = false
 
 class-items : (e : Piece) → hasMembers (codeUnit e) ≡ true → (c b : ℕ) × (pieceItems e ≡ c ∷ b ∷ membersItems (membersOf e))
 unfolding pieceItems unitRest

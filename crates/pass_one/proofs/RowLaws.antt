@@ -25,7 +25,7 @@ use Rattle.pass_marks.proofs.MarkLaws.{length-marked, drop-marked}
 use Rattle.pass_one.specs.Marks.{copiesFrom}
 use Rattle.pass_one.specs.Pieces.{membersOf, fitU, widthU, Stands, IsUnit, Wide}
 use Rattle.pass_one.specs.Trying.{answer, after, thenP, foundOf, Row, Furthest, Counting, Most, Repeating, Tried, Copied}
-use Rattle.pass_one.specs.declared.unit.Unit.{Unit as CodeUnit}
+use Rattle.form_element.specs.declared.Unit.{Unit as CodeUnit}
 use Rattle.pass_one.specs.declared.Found.{Found}
 use Rattle.pass_one.specs.declared.Found.the-variants.{Matched, NoMatch}
 use Rattle.pass_one.proofs.ItemLaws.{rest-next, rest-inside, rest-even}

@@ -24,17 +24,18 @@ use Rattle.pass_replace.specs.Contract.{EndsFrom}
 use Rattle.pass_one.specs.Contract.{marksBytes}
 use Rattle.pass_one.specs.Pattern.{IsRest, OfPiece}
 use Rattle.pass_marks.specs.Marks.{mark}
-use Rattle.pass_one.specs.Pieces.{membersOf, codeClosure, fitU, widthU, leadOf, again, Stands, IsUnit, IsElement, Wide}
+use Rattle.form_element.specs.Element.{codeClosure, elementOf, AnyPiece}
+use Rattle.pass_one.specs.Pieces.{membersOf, fitU, widthU, leadOf, again, Stands, IsUnit, IsElement, Wide}
 use Rattle.pass_one.specs.Trying.{answer, after, thenP, foundOf, endedIn, Said, Given, Noted, Trying, Kept, Tried, Copied}
-use Rattle.pass_one.specs.declared.unit.Element.{Element}
-use Rattle.pass_one.specs.declared.unit.Unit.{Unit as CodeUnit}
-use Rattle.pass_one.specs.declared.unit.Closure.{Closure as CodeClosure}
-use Rattle.pass_one.specs.declared.unit.Closure.the-variants.{Once, OneOrMore, ZeroOrMore}
+use Rattle.form_element.specs.declared.Element.{Element}
+use Rattle.form_element.specs.declared.Unit.{Unit as CodeUnit}
+use Rattle.form_element.specs.declared.Closure.{Closure as CodeClosure}
+use Rattle.form_element.specs.declared.Closure.the-variants.{Once, OneOrMore, ZeroOrMore}
 use Rattle.pass_one.specs.declared.unit.Lead.{Lead}
 use Rattle.pass_one.specs.declared.unit.Lead.the-variants.{After, Nothing}
 use Rattle.pass_one.specs.declared.Found.{Found}
 use Rattle.pass_one.specs.declared.Found.the-variants.{Matched, NoMatch}
-use Rattle.pass_one.proofs.ItemLaws.{piece-even, rest-next, rest-inside, rest-end, rest-more, rest-even, rest-long}
+use Rattle.pass_one.proofs.ItemLaws.{piece-even, rest-next, rest-inside, rest-end, rest-more, rest-even, rest-long, element-is}
 use Rattle.pass_one.proofs.MarkLaws.{sound-at, sound-set}
 use Rattle.pass_one.proofs.CopyFits.{fit-inside}
 use Rattle.pass_one.proofs.TextLaws.{led-true}
@@ -175,6 +176,11 @@ tried-done items kinds b t at p marks ends k e = record {
 
 pub stands : (items kinds b t : List ℕ) (at p : ℕ) (marks ends : List ℕ) → Trying items kinds b t at p marks ends → (at ≡ length items → ⊥) → Stands items at
 stands items kinds b t at p marks ends k n = rest-more items at (k .pieces) (k .is) n
+
+-- the element that is read there
+pub element-here : (items kinds b t : List ℕ) (at p : ℕ) (marks ends : List ℕ) → Trying items kinds b t at p marks ends → (at ≡ length items → ⊥)
+    → (x : Element) → AnyPiece items at (λ e. x ≡ elementOf e) → IsElement items at x
+element-here items kinds b t at p marks ends k n x f = element-is items at (stands items kinds b t at p marks ends k n) x f
 
 module _ (items b t : List ℕ) (at p : ℕ) (n : at ≡ length items → ⊥) (x : Element) (w : ℕ) (l : Lead) (r : Read items b t at p x w l) where
   pub tried-nothing : (marks ends : List ℕ) → Noted items b t marks ends → l ≡ Nothing → Tried items b t at p marks marks ends NoMatch

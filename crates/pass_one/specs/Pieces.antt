@@ -18,28 +18,16 @@ use Rattle.lines.specs.Matching.{inClass, fits, width}
 use Rattle.lines.specs.Choosing.{isEnd}
 use Rattle.form_state.specs.Access.{IsState, OfState}
 use Rattle.pass_one.specs.Pattern.{IsRest, OfPiece}
-use Rattle.pass_one.specs.declared.unit.Element.{Element}
-use Rattle.pass_one.specs.declared.unit.Unit.{Unit as CodeUnit}
-use Rattle.pass_one.specs.declared.unit.Unit.the-variants.{Literal, Kind, Class, ClassNot, StackCall, CounterCall, Start, End, Brace}
-use Rattle.pass_one.specs.declared.unit.Closure.{Closure as CodeClosure}
-use Rattle.pass_one.specs.declared.unit.Closure.the-variants.{Once, OneOrMore, ZeroOrMore}
+use Rattle.form_element.specs.Element.{codeUnit, closureOf}
+use Rattle.form_element.specs.declared.Element.{Element}
+use Rattle.form_element.specs.declared.Unit.{Unit as CodeUnit}
+use Rattle.form_element.specs.declared.Unit.the-variants.{Literal, Kind, Class, ClassNot, StackCall, CounterCall, Start, End, Left, Right}
+use Rattle.form_element.specs.declared.Closure.{Closure as CodeClosure}
+use Rattle.form_element.specs.declared.Closure.the-variants.{Once, OneOrMore, ZeroOrMore}
 use Rattle.pass_one.specs.declared.unit.Lead.{Lead}
 use Rattle.pass_one.specs.declared.unit.Lead.the-variants.{After, Nothing}
 
--- WHAT A PIECE IS
-
-abbrev pub codeUnit : Piece → CodeUnit
-codeUnit (element (literal b) c) = Literal b
-codeUnit (element (kind n) c) = Kind n
-codeUnit (element (class false ms) c) = Class
-codeUnit (element (class true ms) c) = ClassNot
-codeUnit (element (callOf stack i) c) = StackCall i
-codeUnit (element (callOf counter i) c) = CounterCall i
-codeUnit start = Start
-codeUnit end = End
-codeUnit left = Brace
-codeUnit right = Brace
-
+-- the members of a piece that is a class; another has none
 abbrev pub membersOf : Piece → List Member
 membersOf (element (literal b) c) = []
 membersOf (element (kind n) c) = []
@@ -49,33 +37,6 @@ membersOf start = []
 membersOf end = []
 membersOf left = []
 membersOf right = []
-
-abbrev pub codeClosure : Closure → CodeClosure
-codeClosure once = Once
-codeClosure oneOrMore = OneOrMore
-codeClosure zeroOrMore = ZeroOrMore
-
-abbrev pub closureOf : Piece → CodeClosure
-closureOf (element u c) = codeClosure c
-closureOf start = Once
-closureOf end = Once
-closureOf left = Once
-closureOf right = Once
-
--- the same of an item's two bytes
-unfoldable pub unitAt : ℕ → ℕ → CodeUnit
-unitAt c b =
-    pick (eqb c 3) Start
-    (pick (eqb c 4) End
-    (pick (ltb c 8) Brace
-    (pick (ltb c 12) (Literal b)
-    (pick (ltb c 16) (Kind b)
-    (pick (ltb c 20) (StackCall b)
-    (pick (ltb c 24) (CounterCall b)
-    (pick (ltb c 28) Class ClassNot)))))))
-
-unfoldable pub closureAt : ℕ → CodeClosure
-closureAt c = pick (ltb c 8) Once (pick (eqb (c % 4) 1) OneOrMore (pick (eqb (c % 4) 2) ZeroOrMore Once))
 
 -- A COPY AND ITS WIDTH; ms: the members, if the unit is a class
 
@@ -89,7 +50,8 @@ holds (StackCall i) ms = λ b. false
 holds (CounterCall i) ms = λ b. false
 holds Start ms = λ b. false
 holds End ms = λ b. false
-holds Brace ms = λ b. false
+holds Left ms = λ b. false
+holds Right ms = λ b. false
 
 abbrev pub fitU : State → CodeUnit → List Member → ℕ → List ℕ → Bool
 fitU st (Literal c) ms p = fits st (literal c)
@@ -100,7 +62,8 @@ fitU st (StackCall i) ms p = fits st (callOf stack i)
 fitU st (CounterCall i) ms p = fits st (callOf counter i)
 fitU st Start ms p = λ s. eqb p 0
 fitU st End ms p = isEnd
-fitU st Brace ms p = λ s. true
+fitU st Left ms p = λ s. true
+fitU st Right ms p = λ s. true
 
 abbrev pub widthU : State → CodeUnit → ℕ
 widthU st (Literal c) = width st (literal c)
@@ -111,7 +74,8 @@ widthU st (StackCall i) = width st (callOf stack i)
 widthU st (CounterCall i) = width st (callOf counter i)
 widthU st Start = 0
 widthU st End = 0
-widthU st Brace = 0
+widthU st Left = 0
+widthU st Right = 0
 
 -- the place behind a copy that must stand at p, and behind the copies that a closure must have there
 unfoldable pub ledTo : Bool → ℕ → Lead
@@ -139,7 +103,8 @@ Lettered (StackCall i) = Letter i
 Lettered (CounterCall i) = Letter i
 Lettered Start = Unit {0}
 Lettered End = Unit {0}
-Lettered Brace = Unit {0}
+Lettered Left = Unit {0}
+Lettered Right = Unit {0}
 
 -- a piece begins at the place
 pub record Stands (items : List ℕ) (at : ℕ) : Type 0 where

@@ -20,7 +20,7 @@ use Rattle.pass_one.specs.Contract.{marksBytes}
 use Rattle.pass_one.specs.Pattern.{IsRest, OfPiece}
 use Rattle.pass_one.specs.Marks.{copiesFrom, Sound}
 use Rattle.pass_one.specs.Pieces.{Stands, IsUnit, Wide}
-use Rattle.pass_one.specs.declared.unit.Unit.{Unit as CodeUnit}
+use Rattle.form_element.specs.declared.Unit.{Unit as CodeUnit}
 use Rattle.pass_one.specs.declared.Found.{Found}
 use Rattle.pass_one.specs.declared.Found.the-variants.{Matched, NoMatch}
 

@@ -1,13 +1,13 @@
 // The matcher (01, part 3): the stack grows with the pattern's elements and, for each closure, with the halvings of its copies; each closure is tried at each place once.
 use crate::Found;
 use crate::unit::Lead;
-use crate::unit::Unit;
 use crate::unit::behind;
 use crate::unit::copy_at;
-use crate::unit::element_at;
 use crate::unit::lead_at;
 use crate::unit::may_repeat;
 use crate::unit::width_of;
+use form_element::Element;
+use form_element::element_at;
 use pass_marks::is_marked;
 use pass_marks::set_mark;
 ghost use Prim.Native.Nat.{_≤_, _<_};
@@ -18,24 +18,24 @@ ghost use Rattle.form_table.specs.Form.{bodyBytes};
 ghost use Rattle.pass_one.specs.Trying.{endedIn, Trying, Counting, Repeating, Tried, Most, Copied};
 ghost use Rattle.pass_one.specs.Finding.{Differs, countedOf};
 
-// How many copies of u, w bytes wide, stand in a row from q on. Places with a mark end the row: there is no division from there.
+// How many copies of an element's unit, w bytes wide, stand in a row from q on. Places with a mark end the row: there is no division from there.
 fn most_copies(
     items: &[u8],
     kinds: &[u8; 256],
     state: &[u8],
     line: &[u8],
     at: usize,
-    u: Unit,
+    element: Element,
     w: usize,
     q: usize,
     marks: &[u8],
 ) -> usize
-    requires { ⌜ Counting (now items) (now kinds) (now state) (now line) at u w q (now marks) ⌝ }
+    requires { ⌜ Counting (now items) (now kinds) (now state) (now line) at (element .unit) w q (now marks) ⌝ }
     ensures { λ r. ⌜ Most (now (items .entry)) (now (state .entry)) (now (line .entry)) at w q r ⌝ }
 {
     let mut n: usize = 0;
     let mut r = q;
-    while copy_at(items, kinds, state, line, at, u, r) {
+    while copy_at(items, kinds, state, line, at, element, r) {
         r += w;
         if is_marked(marks, at, r) {
             return n;
@@ -63,18 +63,16 @@ pub(crate) fn elements(
         return Found::Matched(p);
     }
     let e = element_at(items, at);
-    let u = e.unit;
-    let c = e.closure;
-    let w = width_of(state, u);
-    let Lead::After(q) = lead_at(items, kinds, state, line, at, u, c, w, p) else {
+    let w = width_of(state, e);
+    let Lead::After(q) = lead_at(items, kinds, state, line, at, e, w, p) else {
         return Found::NoMatch;
     };
-    let next = behind(items, at, u);
-    if may_repeat(c, w) {
+    let next = behind(items, at, e);
+    if may_repeat(e, w) {
         if is_marked(marks, at, q) {
             return Found::NoMatch;
         }
-        let most = most_copies(items, kinds, state, line, at, u, w, q, marks);
+        let most = most_copies(items, kinds, state, line, at, e, w, q, marks);
         return closure(items, kinds, state, line, at, next, w, q, most, marks, ends);
     }
     let found = elements(items, kinds, state, line, next, q, marks, ends);

@@ -1,4 +1,9 @@
-// A pattern's units: which unit an item has, whether a copy stands at a place, and how wide it is.
+// A pattern's units: whether a copy stands at a place, and how wide it is. Everywhere at is the place of the element's item.
+use form_element::Closure;
+use form_element::Element;
+use form_element::Unit;
+use form_items::codes::CLASS_END;
+use form_items::codes::SINGLE;
 use form_state::entry;
 use form_state::value;
 use kinds::is_kind;
@@ -12,31 +17,7 @@ ghost use Rattle.form_table.specs.Form.{pieceItems, memberItems, membersItems};
 ghost use Rattle.lines.specs.Matching.{byteFits, begins, isMember};
 ghost use Rattle.form_state.specs.Access.{IsState, OfState};
 ghost use Rattle.pass_one.specs.Pattern.{OfPiece};
-ghost use Rattle.pass_one.specs.Pieces.{membersOf, closureOf, unitAt, closureAt, holds, fitU, ledTo, leadOf, again, Lettered, Stands, IsUnit, IsElement, SomeMembers, OfMembers, FirstMember, OfFirst, OneByte, Copying, Leading, Wide};
-
-// What a closure may follow, and what has no closure. The members of a class stand in the items, behind its own.
-pub(crate) enum Unit {
-    Literal(u8),
-    Kind(u8),
-    Class,
-    ClassNot,
-    StackCall(u8),
-    CounterCall(u8),
-    Start,
-    End,
-    Brace,
-}
-
-pub(crate) enum Closure {
-    Once,
-    OneOrMore,
-    ZeroOrMore,
-}
-
-pub(crate) struct Element {
-    pub(crate) unit: Unit,
-    pub(crate) closure: Closure,
-}
+ghost use Rattle.pass_one.specs.Pieces.{membersOf, holds, fitU, ledTo, leadOf, again, Lettered, IsUnit, SomeMembers, OfMembers, FirstMember, OfFirst, OneByte, Copying, Leading, Wide};
 
 // The place behind copies that must stand.
 pub(crate) enum Lead {
@@ -44,61 +25,7 @@ pub(crate) enum Lead {
     Nothing,
 }
 
-fn unit_of(code: u8, operand: u8) -> Unit
-    ensures { λ r. ⌜ r ≡ unitAt code operand ⌝ }
-{
-    if code == 3 {
-        return Unit::Start;
-    }
-    if code == 4 {
-        return Unit::End;
-    }
-    if code < 8 {
-        return Unit::Brace;
-    }
-    if code < 12 {
-        return Unit::Literal(operand);
-    }
-    if code < 16 {
-        return Unit::Kind(operand);
-    }
-    if code < 20 {
-        return Unit::StackCall(operand);
-    }
-    if code < 24 {
-        return Unit::CounterCall(operand);
-    }
-    if code < 28 {
-        return Unit::Class;
-    }
-    Unit::ClassNot
-}
-
-fn closure_of(code: u8) -> Closure
-    ensures { λ r. ⌜ r ≡ closureAt code ⌝ }
-{
-    if code < 8 {
-        return Closure::Once;
-    }
-    if code % 4 == 1 {
-        return Closure::OneOrMore;
-    }
-    if code % 4 == 2 {
-        return Closure::ZeroOrMore;
-    }
-    Closure::Once
-}
-
-// The element at a place of the items.
-pub(crate) fn element_at(items: &[u8], at: usize) -> Element
-    requires { ⌜ Stands (now items) at ⌝ }
-    ensures { λ r. ⌜ IsElement (now (items .entry)) at r ⌝ }
-{
-    let unit = unit_of(items[at], items[at + 1]);
-    let closure = closure_of(items[at]);
-    Element { unit, closure }
-}
-
+// Whether b stands from a to z.
 fn in_range(a: u8, z: u8, b: u8) -> bool
     ensures { λ r. ⌜ r ≡ within a z b ⌝ }
 {
@@ -113,7 +40,7 @@ fn has_byte(items: &[u8], i: usize, b: u8) -> bool
     requires { ⌜ FirstMember (now items) i ⌝ }
     ensures { λ r. ⌜ OfFirst (now (items .entry)) i (λ m. r ≡ isMember (m ∷ []) b) ⌝ }
 {
-    if items[i] == 32 {
+    if items[i] == SINGLE {
         return b == items[i + 1];
     }
     in_range(items[i + 1], items[i + 3], b)
@@ -124,7 +51,7 @@ fn member_size(items: &[u8], i: usize) -> usize
     requires { ⌜ FirstMember (now items) i ⌝ }
     ensures { λ r. ⌜ OfFirst (now (items .entry)) i (λ m. r ≡ length (memberItems m)) ⌝ }
 {
-    if items[i] == 32 {
+    if items[i] == SINGLE {
         return 2;
     }
     4
@@ -136,7 +63,7 @@ fn is_member(items: &[u8], from: usize, b: u8) -> bool
     ensures { λ r. ⌜ OfMembers (now (items .entry)) from (λ ms. r ≡ isMember ms b) ⌝ }
 {
     let mut i = from;
-    while items[i] != 35 {
+    while items[i] != CLASS_END {
         if has_byte(items, i, b) {
             return true;
         }
@@ -151,28 +78,30 @@ fn members_end(items: &[u8], from: usize) -> usize
     ensures { λ r. ⌜ OfMembers (now (items .entry)) from (λ ms. r ≡ from + length (membersItems ms)) ⌝ }
 {
     let mut i = from;
-    while items[i] != 35 {
+    while items[i] != CLASS_END {
         i += member_size(items, i);
     }
     i + 2
 }
 
 // The place behind a piece.
-pub(crate) fn behind(items: &[u8], at: usize, u: Unit) -> usize
-    requires { ⌜ IsUnit (now items) at u ⌝ }
+pub(crate) fn behind(items: &[u8], at: usize, element: Element) -> usize
+    requires { ⌜ IsUnit (now items) at (element .unit) ⌝ }
     ensures { λ r. ⌜ OfPiece (now (items .entry)) at (λ e. r ≡ at + length (pieceItems e)) ⌝ }
 {
+    let u = element.unit;
     match u {
         Unit::Class | Unit::ClassNot => members_end(items, at + 2),
         _ => at + 2,
     }
 }
 
-// Whether the byte b is a copy of u.
-fn is_copy(items: &[u8], kinds: &[u8; 256], at: usize, u: Unit, b: u8) -> bool
-    requires { ⌜ OneByte (now items) (now kinds) at u ⌝ }
-    ensures { λ r. ⌜ OfPiece (now (items .entry)) at (λ e. r ≡ holds u (membersOf e) b) ⌝ }
+// Whether the byte b is a copy of an element's unit.
+fn is_copy(items: &[u8], kinds: &[u8; 256], at: usize, element: Element, b: u8) -> bool
+    requires { ⌜ OneByte (now items) (now kinds) at (element .unit) ⌝ }
+    ensures { λ r. ⌜ OfPiece (now (items .entry)) at (λ e. r ≡ holds (element .unit) (membersOf e) b) ⌝ }
 {
+    let u = element.unit;
     match u {
         Unit::Literal(c) => c == b,
         Unit::Kind(n) => is_kind(kinds, b, n),
@@ -182,12 +111,20 @@ fn is_copy(items: &[u8], kinds: &[u8; 256], at: usize, u: Unit, b: u8) -> bool
     }
 }
 
-fn one_at(items: &[u8], kinds: &[u8; 256], line: &[u8], at: usize, u: Unit, p: usize) -> bool
-    requires { ⌜ OneByte (now items) (now kinds) at u ⌝ }
-    ensures { λ r. ⌜ OfPiece (now (items .entry)) at (λ e. r ≡ byteFits (holds u (membersOf e)) (drop p (now (line .entry)))) ⌝ }
+// Whether a copy of one byte stands at p.
+fn one_at(
+    items: &[u8],
+    kinds: &[u8; 256],
+    line: &[u8],
+    at: usize,
+    element: Element,
+    p: usize,
+) -> bool
+    requires { ⌜ OneByte (now items) (now kinds) at (element .unit) ⌝ }
+    ensures { λ r. ⌜ OfPiece (now (items .entry)) at (λ e. r ≡ byteFits (holds (element .unit) (membersOf e)) (drop p (now (line .entry)))) ⌝ }
 {
     if p < line.len() {
-        return is_copy(items, kinds, at, u, line[p]);
+        return is_copy(items, kinds, at, element, line[p]);
     }
     false
 }
@@ -262,38 +199,40 @@ fn number_width(n: u32) -> usize
     w
 }
 
-// Whether a copy of u stands at p.
+// Whether a copy of an element's unit stands at p.
 pub(crate) fn copy_at(
     items: &[u8],
     kinds: &[u8; 256],
     state: &[u8],
     line: &[u8],
     at: usize,
-    u: Unit,
+    element: Element,
     p: usize,
 ) -> bool
-    requires { ⌜ Copying (now items) (now kinds) (now state) (now line) at u p ⌝ }
-    ensures { λ r. ⌜ OfPiece (now (items .entry)) at (λ e. OfState (now (state .entry)) (λ st. r ≡ fitU st u (membersOf e) p (drop p (now (line .entry))))) ⌝ }
+    requires { ⌜ Copying (now items) (now kinds) (now state) (now line) at (element .unit) p ⌝ }
+    ensures { λ r. ⌜ OfPiece (now (items .entry)) at (λ e. OfState (now (state .entry)) (λ st. r ≡ fitU st (element .unit) (membersOf e) p (drop p (now (line .entry))))) ⌝ }
 {
+    let u = element.unit;
     match u {
         Unit::StackCall(i) => text_at(entry(state, i), line, p),
         Unit::CounterCall(i) => has_number(value(state, i), line, p),
         Unit::Start => p == 0,
         Unit::End => p == line.len(),
-        Unit::Brace => true,
-        _ => one_at(items, kinds, line, at, u, p),
+        Unit::Left | Unit::Right => true,
+        _ => one_at(items, kinds, line, at, element, p),
     }
 }
 
-// A copy's width.
-pub(crate) fn width_of(state: &[u8], u: Unit) -> usize
-    requires { ⌜ IsState (now state) × Lettered u ⌝ }
-    ensures { λ r. ⌜ Wide (now (state .entry)) u r ⌝ }
+// The width of a copy of an element's unit.
+pub(crate) fn width_of(state: &[u8], element: Element) -> usize
+    requires { ⌜ IsState (now state) × Lettered (element .unit) ⌝ }
+    ensures { λ r. ⌜ Wide (now (state .entry)) (element .unit) r ⌝ }
 {
+    let u = element.unit;
     match u {
         Unit::StackCall(i) => entry(state, i).len(),
         Unit::CounterCall(i) => number_width(value(state, i)),
-        Unit::Start | Unit::End | Unit::Brace => 0,
+        Unit::Start | Unit::End | Unit::Left | Unit::Right => 0,
         _ => 1,
     }
 }
@@ -305,27 +244,28 @@ pub(crate) fn lead_at(
     state: &[u8],
     line: &[u8],
     at: usize,
-    u: Unit,
-    c: Closure,
+    element: Element,
     w: usize,
     p: usize,
 ) -> Lead
-    requires { ⌜ Leading (now items) (now kinds) (now state) (now line) at u w p ⌝ }
-    ensures { λ r. ⌜ OfPiece (now (items .entry)) at (λ e. OfState (now (state .entry)) (λ st. r ≡ leadOf c (fitU st u (membersOf e) p (drop p (now (line .entry)))) w p)) ⌝ }
+    requires { ⌜ Leading (now items) (now kinds) (now state) (now line) at (element .unit) w p ⌝ }
+    ensures { λ r. ⌜ OfPiece (now (items .entry)) at (λ e. OfState (now (state .entry)) (λ st. r ≡ leadOf (element .closure) (fitU st (element .unit) (membersOf e) p (drop p (now (line .entry)))) w p)) ⌝ }
 {
+    let c = element.closure;
     if let Closure::ZeroOrMore = c {
         return Lead::After(p);
     }
-    if copy_at(items, kinds, state, line, at, u, p) {
+    if copy_at(items, kinds, state, line, at, element, p) {
         return Lead::After(p + w);
     }
     Lead::Nothing
 }
 
-// Whether further copies can follow.
-pub(crate) fn may_repeat(c: Closure, w: usize) -> bool
-    ensures { λ r. ⌜ r ≡ again c w ⌝ }
+// Whether further copies, w bytes wide, can follow.
+pub(crate) fn may_repeat(element: Element, w: usize) -> bool
+    ensures { λ r. ⌜ r ≡ again (element .closure) w ⌝ }
 {
+    let c = element.closure;
     match c {
         Closure::Once => false,
         _ => 0 < w,

@@ -8,7 +8,7 @@ use native.Mathlib.Omega.{arith}
 use borrow.Author.Tests.{lt-ltb, le-ltb, eq-eqb, ne-eqb}
 use lib.Dec.{eqb, ltb}
 use lib.ListN.{length, getD, set, take, drop, length-append, length-drop, drop-of-length-le}
-use lib.Seq.{drop-cons, drop-drop, take-suc-set, paste, paste-suc, take-take, length-take-le}
+use lib.Seq.{drop-cons, drop-drop, take-suc-set, paste, paste-suc}
 use Rattle.macros.specs.Bounds.{mostLineBytes}
 use Rattle.macros.specs.Macro.{pick, within}
 use Rattle.macros.specs.Formed.{Letter}
@@ -81,19 +81,8 @@ digits-more {v} {b} {n} {now} h d l e =
 pub copy-next : (old out bytes : List ℕ) (at i : ℕ) → out ≡ paste old at bytes i → at + i < length old → i < length bytes → set out (at + i) (getD bytes i 0) ≡ paste old at bytes (i + 1)
 copy-next old out bytes at i e h l = ap (λ (x : List ℕ). set x (at + i) (getD bytes i 0)) e ∙ paste-suc old at bytes i 0 h l ∙ ap (λ (k : ℕ). paste old at bytes k) (sym (add-one i))
 
--- a text's first k bytes join the new line
-pub copied : (out out₁ text : List ℕ) (n k : ℕ) → k ≤ length text → out₁ ≡ paste out n (take k text) (length (take k text)) → out₁ ≡ paste out n text k
-copied out out₁ text n k h e =
-    e ∙ ap (λ (j : ℕ). paste out n (take k text) j) (length-take-le k text h) ∙ ap (λ (x : List ℕ). take n out ++ x ++ drop (n + k) out) (take-take k k text (omega arith))
-
-pub made-size : (n : ℕ) {done : Outcome} {k : ℕ} → done ≡ Made k → n + sizeOf done ≤ mostLineBytes → n + k ≤ mostLineBytes
-made-size n e h = subst (λ (o : Outcome). n + sizeOf o ≤ mostLineBytes) e h
-
-pub refused-size : (n : ℕ) {done : Outcome} {fault : Fault} {k : ℕ} → done ≡ Refused fault k → n + sizeOf done ≤ mostLineBytes → n + k ≤ mostLineBytes
-refused-size n e h = subst (λ (o : Outcome). n + sizeOf o ≤ mostLineBytes) e h
-
-pub changes-room : (n : ℕ) {f : Work → Done} {b b₁ : List ℕ} {k m : ℕ} {r : Outcome} → n + k ≤ mostLineBytes → Changes f b k b₁ r → r ≡ Made m → n + m ≤ mostLineBytes
-changes-room n h p e = made-size n e (let z = p .size in omega arith)
+pub changes-room : {f : Work → Done} {b b₁ : List ℕ} {k m : ℕ} {r : Outcome} → k ≤ mostLineBytes → Changes f b k b₁ r → r ≡ Made m → m ≤ mostLineBytes
+changes-room h p e = let z = p .size in let y = ap sizeOf e in omega arith
 
 -- a call has a letter
 pub letter-of : (t : List ℕ) → Fit t → 48 ≤ getD t 0 0 → Letter (getD t 1 0)
@@ -107,15 +96,17 @@ not-tag {c} e g z = let y = within-low 56 63 c (sym e ∙ g) in omega arith
 
 -- WHAT IS INSERTED
 
-pub inserts-does : (tag t : List ℕ) {bytes text text₁ b : List ℕ} {n k : ℕ} {r : Outcome} → Inserts bytes n text k text₁ r → IsState b → ((st : State) → Holds b st → bytes ≡ contentsIn tag t st)
-    → Does (insertsIn tag t) n text b k text₁ b r
+pub inserts-does : (tag t : List ℕ) {bytes out out₁ b : List ℕ} {k : ℕ} {r : Outcome} → Inserts bytes out k out₁ r → IsState b → ((st : State) → Holds b st → bytes ≡ contentsIn tag t st)
+    → Does (insertsIn tag t) out b k out₁ b r
 unfolding insertsIn
 inserts-does tag t {b = b} p s e =
     let q = p .does b s in
     record {
-      comes = λ head l w m. let x = q .comes head l w m in (x .0, ap (λ (y : List ℕ). puts y w) (sym (e (w .state) (m .state))) ∙ x .1, x .2);
+      comes = λ w m. let x = q .comes w m in (x .0, ap (λ (y : List ℕ). puts y w) (sym (e (w .state) (m .state))) ∙ x .1, x .2);
       state = q .state;
+      grows = q .grows;
       fits = q .fits;
+      past = q .past;
     }
 
 pub part-tag : (tag x : List ℕ) (c : ℕ) → c ≡ 41 → tag ≡ pick (eqb c 41) tag x
@@ -141,30 +132,30 @@ module _ (tag t : List ℕ) where
 
 -- AN ACTION, by its code
 
-module _ (tag t : List ℕ) {text b b₁ : List ℕ} {n k : ℕ} {r : Outcome} where
-  pub access-insert : {text₁ : List ℕ} → getD t 0 0 < 64 → Does (insertsIn tag t) n text b k text₁ b₁ r → Does (accessIn tag t) n text b k text₁ b₁ r
+module _ (tag t : List ℕ) {out b b₁ : List ℕ} {k : ℕ} {r : Outcome} where
+  pub access-insert : {out₁ : List ℕ} → getD t 0 0 < 64 → Does (insertsIn tag t) out b k out₁ b₁ r → Does (accessIn tag t) out b k out₁ b₁ r
   unfolding accessIn pick
   access-insert h p = does-by (λ w. rw (lt-ltb (getD t 0 0) 64 h)) p
 
-  pub access-store : (x : List ℕ) → 64 ≤ getD t 0 0 → getD t 0 0 < 80 → n + k ≤ mostLineBytes → x ≡ storedIn tag t → Changes (stores (getD t 1 0) x) b k b₁ r → Does (accessIn tag t) n text b k text b₁ r
+  pub access-store : (x : List ℕ) → 64 ≤ getD t 0 0 → getD t 0 0 < 80 → k ≤ mostLineBytes → x ≡ storedIn tag t → Changes (stores (getD t 1 0) x) b k b₁ r → Does (accessIn tag t) out b k out b₁ r
   unfolding accessIn pick
   access-store x g h l e p =
-      does-by (λ w. rw (le-ltb (getD t 0 0) 64 g, lt-ltb (getD t 0 0) 80 h, ← e)) (changes-does n text p l)
+      does-by (λ w. rw (le-ltb (getD t 0 0) 64 g, lt-ltb (getD t 0 0) 80 h, ← e)) (changes-does out p l)
 
-  pub access-set : {x : ℕ} → 80 ≤ getD t 0 0 → n + k ≤ mostLineBytes → x ≡ numberIn t → Changes (setsIn (getD t 0 0) (getD t 1 0) x) b k b₁ r → Does (accessIn tag t) n text b k text b₁ r
+  pub access-set : {x : ℕ} → 80 ≤ getD t 0 0 → k ≤ mostLineBytes → x ≡ numberIn t → Changes (setsIn (getD t 0 0) (getD t 1 0) x) b k b₁ r → Does (accessIn tag t) out b k out b₁ r
   unfolding accessIn pick
-  access-set h l e p = does-by (λ w. rw (le-ltb (getD t 0 0) 64 (omega arith), le-ltb (getD t 0 0) 80 h, ← e)) (changes-does n text p l)
+  access-set h l e p = does-by (λ w. rw (le-ltb (getD t 0 0) 64 (omega arith), le-ltb (getD t 0 0) 80 h, ← e)) (changes-does out p l)
 
 -- the access between its two moves
-module _ (tag t : List ℕ) {text b b₁ : List ℕ} {n k : ℕ} {r : Outcome} (l : n + k ≤ mostLineBytes) (p : Changes (movesIn 1 (getD t 0 0) (getD t 1 0)) b k b₁ r) where
-  pub action-before : {fault : Fault} {j : ℕ} → r ≡ Refused fault j → Does (actionIn tag t) n text b k text b₁ r
+module _ (tag t : List ℕ) {out b b₁ : List ℕ} {k : ℕ} {r : Outcome} (l : k ≤ mostLineBytes) (p : Changes (movesIn 1 (getD t 0 0) (getD t 1 0)) b k b₁ r) where
+  pub action-before : {fault : Fault} {j : ℕ} → r ≡ Refused fault j → Does (actionIn tag t) out b k out b₁ r
   unfolding actionIn
-  action-before e = does-stop (movesIn 3 (getD t 0 0) (getD t 1 0)) (does-stop (accessIn tag t) (changes-does n text p l) e) e
+  action-before e = does-stop (movesIn 3 (getD t 0 0) (getD t 1 0)) (does-stop (accessIn tag t) (changes-does out p l) e) e
 
-  pub action-after : {m : ℕ} {text₂ b₂ b₃ : List ℕ} {s u : Outcome} → r ≡ Made m → Does (accessIn tag t) n text b₁ m text₂ b₂ s → Onward (movesIn 3 (getD t 0 0) (getD t 1 0)) b₂ s b₃ u
-      → Does (actionIn tag t) n text b k text₂ b₃ u
+  pub action-after : {m : ℕ} {out₂ b₂ b₃ : List ℕ} {s u : Outcome} → r ≡ Made m → Does (accessIn tag t) out b₁ m out₂ b₂ s → Onward (movesIn 3 (getD t 0 0) (getD t 1 0)) b₂ s b₃ u
+      → Does (actionIn tag t) out b k out₂ b₃ u
   unfolding actionIn
-  action-after {s = s} e q x = does-onward s (does-then (changes-does n text p l) e q) x
+  action-after {s = s} e q x = does-onward s (does-then (changes-does out p l) e q) x
 
 -- the text of the tag
 module _ (line pat ends t : List ℕ) where
@@ -180,7 +171,7 @@ module _ (line pat ends t : List ℕ) where
   unfolding taggedIn pick
   tagged-none f e = rw (ne-eqb (getD t 0 0) 41 f, e)
 
-pub acts-tagged : (line pat ends t : List ℕ) {tag text b text₁ b₁ : List ℕ} {n k : ℕ} {r : Outcome} → tag ≡ taggedIn line pat ends t → Does (actionIn tag t) n text b k text₁ b₁ r → Does (actsIn line pat ends t) n text b k text₁ b₁ r
+pub acts-tagged : (line pat ends t : List ℕ) {tag out b out₁ b₁ : List ℕ} {k : ℕ} {r : Outcome} → tag ≡ taggedIn line pat ends t → Does (actionIn tag t) out b k out₁ b₁ r → Does (actsIn line pat ends t) out b k out₁ b₁ r
 unfolding actsIn
 acts-tagged line pat ends t e p = does-by (λ w. ap (λ (x : List ℕ). actionIn x t w) (sym e)) p
 
@@ -210,31 +201,31 @@ module _ (f : List ℕ → Work → Done) where
   unfolding actIn
   acts-none w = refl
 
--- from the moment of text₁, b₁ and k on the items rest are still to be done
-pub record Rest (f : List ℕ → Work → Done) (n : ℕ) (items text b rest text₁ b₁ : List ℕ) (k : ℕ) : Type 0 where
-  pub on : (text₂ b₂ : List ℕ) (r : Outcome) → Does (actIn f 0 rest) n text₁ b₁ k text₂ b₂ r → Does (actIn f 0 items) n text b 0 text₂ b₂ r
+-- from the moment of out₁, b₁ and k on the items rest are still to be done
+pub record Rest (f : List ℕ → Work → Done) (items out b : List ℕ) (size : ℕ) (rest out₁ b₁ : List ℕ) (k : ℕ) : Type 0 where
+  pub on : (out₂ b₂ : List ℕ) (r : Outcome) → Does (actIn f 0 rest) out₁ b₁ k out₂ b₂ r → Does (actIn f 0 items) out b size out₂ b₂ r
 
-pub rest-all : {f : List ℕ → Work → Done} {n : ℕ} {items text b : List ℕ} → Rest f n items text b items text b 0
-rest-all = record { on = λ text₂ b₂ r p. p }
+pub rest-all : {f : List ℕ → Work → Done} {items out b : List ℕ} {size : ℕ} → Rest f items out b size items out b size
+rest-all = record { on = λ out₂ b₂ r p. p }
 
-module _ (f : List ℕ → Work → Done) {n k : ℕ} (items : List ℕ) {text b text₁ b₁ : List ℕ} (at : ℕ) (rest : Rest f n items text b (drop at items) text₁ b₁ k) where
-  pub rest-end : length items ≤ at → IsState b₁ → n + k ≤ mostLineBytes → Does (actIn f 0 items) n text b 0 text₁ b₁ (Made k)
-  rest-end h s l = rest .on text₁ b₁ (Made k) (does-by (λ w. ap (λ (x : List ℕ). actIn f 0 x w) (drop-of-length-le items {i = at} h) ∙ acts-none f w) (does-none s l))
+module _ (f : List ℕ → Work → Done) {size k : ℕ} (items : List ℕ) {out b out₁ b₁ : List ℕ} (at : ℕ) (rest : Rest f items out b size (drop at items) out₁ b₁ k) where
+  pub rest-end : length items ≤ at → IsState b₁ → k ≤ mostLineBytes → Does (actIn f 0 items) out b size out₁ b₁ (Made k)
+  rest-end h s l = rest .on out₁ b₁ (Made k) (does-by (λ w. ap (λ (x : List ℕ). actIn f 0 x w) (drop-of-length-le items {i = at} h) ∙ acts-none f w) (does-none s l))
 
-  module _ (h : at < length items) (t : List ℕ) (e : t ≡ drop at items) {text₂ b₂ : List ℕ} {r : Outcome} (p : Does (f t) n text₁ b₁ k text₂ b₂ r) where
+  module _ (h : at < length items) (t : List ℕ) (e : t ≡ drop at items) {out₂ b₂ : List ℕ} {r : Outcome} (p : Does (f t) out₁ b₁ k out₂ b₂ r) where
     cons : (w : Work) → actIn f 0 (drop at items) w ≡ (f t w >>= actIn f 0 (drop (at + actionSize t) items))
     cons w =
         acts-cons f (drop at items) w (let z = length-drop at items in omega arith)
         ∙ ap (λ (x : List ℕ). f x w >>= actIn f 0 (drop (actionSize x) (drop at items))) (sym e)
         ∙ ap (λ (x : List ℕ). f t w >>= actIn f 0 x) (drop-drop (actionSize t) at items)
 
-    pub rest-stop : {fault : Fault} {j : ℕ} → r ≡ Refused fault j → Does (actIn f 0 items) n text b 0 text₂ b₂ r
-    rest-stop g = rest .on text₂ b₂ r (does-by cons (does-stop (actIn f 0 (drop (at + actionSize t) items)) p g))
+    pub rest-stop : {fault : Fault} {j : ℕ} → r ≡ Refused fault j → Does (actIn f 0 items) out b size out₂ b₂ r
+    rest-stop g = rest .on out₂ b₂ r (does-by cons (does-stop (actIn f 0 (drop (at + actionSize t) items)) p g))
 
-    pub rest-next : {j size : ℕ} → r ≡ Made j → size ≡ actionSize t → Rest f n items text b (drop (at + size) items) text₂ b₂ j
-    rest-next {j} {size} g q =
+    pub rest-next : {j n : ℕ} → r ≡ Made j → n ≡ actionSize t → Rest f items out b size (drop (at + n) items) out₂ b₂ j
+    rest-next {j} {n} g q =
         record {
-          on = λ text₃ b₃ u x. rest .on text₃ b₃ u (does-by (λ w. cons w ∙ ap (λ (y : ℕ). f t w >>= actIn f 0 (drop (at + y) items)) (sym q)) (does-then p g x));
+          on = λ out₃ b₃ u x. rest .on out₃ b₃ u (does-by (λ w. cons w ∙ ap (λ (y : ℕ). f t w >>= actIn f 0 (drop (at + y) items)) (sym q)) (does-then p g x));
         }
 
 -- an action that fits stands where nothing but such actions do

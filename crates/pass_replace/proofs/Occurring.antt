@@ -1,11 +1,10 @@
 -- An occurrence, from the slot of its macro.
 use Prim.Native.Nat.{ℕ, _+_, _-_, _≤_}
 use mathlib.Core.Path.{_≡_, refl, sym, ap, _∙_, subst}
-use mathlib.Core.List.{List, _++_, map, append-nil}
+use mathlib.Core.List.{List, _++_, map}
 use native.Mathlib.Omega.{arith}
 use lib.ListN.{length, take, drop}
-use lib.Seq.{paste, take-add, drop-drop, take-paste, drop-paste, length-take-le}
-use Rattle.macros.specs.Bounds.{mostLineBytes}
+use lib.Seq.{take-add, drop-drop}
 use Rattle.macros.specs.Macro.{Piece, Action, Macro}
 use Rattle.macros.specs.Macro.Action.{call}
 use Rattle.form_table.specs.Form.{slotBytes, bodyBytes, patternItems, replacementItems, callsItems, body, slot}
@@ -16,12 +15,11 @@ use Rattle.lines.specs.Matching.{Division, stops}
 use Rattle.lines.specs.Replacing.{Work, occur}
 use Rattle.form_table.proofs.Actions.{calls-items}
 use Rattle.form_table.proofs.Actions.{slot-length}
-use Rattle.pass_replace.specs.Contract.{IsSlot, IsDivided, Lent, doneOf, sizeOf, Occurs}
+use Rattle.pass_replace.specs.Contract.{IsSlot, IsDivided, Lent, Occurs}
 use Rattle.pass_replace.specs.Tags.{Divided}
 use Rattle.pass_replace.specs.Acting.{actIn, actsIn, Fits}
-use Rattle.pass_replace.specs.Moments.{Does, behind}
+use Rattle.pass_replace.specs.Moments.{Does}
 use Rattle.refusals.specs.declared.Outcome.{Outcome}
-use Rattle.refusals.specs.declared.Outcome.the-variants.{Made, Refused}
 use Rattle.pass_replace.proofs.Braces.{tag-is}
 use Rattle.pass_replace.proofs.Decoding.{actions-do, both-do, both-items, actions-fit, both-formed}
 
@@ -109,14 +107,6 @@ module _ {s ends t b out : List ℕ} {size : ℕ} (h : Lent s ends t b out size)
 
 -- THE CONTRACT
 
-behind-size : (n : ℕ) (o : Outcome) → sizeOf (behind n o) ≡ n + sizeOf o
-behind-size n (Made k) = refl
-behind-size n (Refused f k) = refl
-
-behind-done : (n : ℕ) (o : Outcome) (v : Work) → doneOf (behind n o) v ≡ doneOf o v
-behind-done n (Made k) v = refl
-behind-done n (Refused f k) v = refl
-
 module _ {s ends t b out : List ℕ} {size : ℕ} (h : Lent s ends t b out size) {x y z : ℕ} (p : x ≡ twoAt s 2) (q : y ≡ twoAt s 4) (r : z ≡ twoAt s 6) where
   abbrev pat : List ℕ
   pat = take (8 + x - 8) (drop 8 s)
@@ -134,32 +124,10 @@ module _ {s ends t b out : List ℕ} {size : ℕ} (h : Lent s ends t b out size)
       ∙ ap (λ (l : List ℕ). actIn (actsIn t (patternItems es) ends) 0 l w) (items-all s m (e .macro) ∙ sym (items-here s m (e .macro) p q r))
       ∙ ap (λ (l : List ℕ). actIn (actsIn t l ends) 0 items w) (sym (pattern-here s m (e .macro) p))
 
-  pub occurs : {text text₁ b₁ out₁ : List ℕ} {done o : Outcome} → Does (actIn (actsIn t pat ends) 0 items) size text b 0 text₁ b₁ done → length text₁ ≡ mostLineBytes → o ≡ behind size done → out₁ ≡ paste out size text₁ (sizeOf done)
-      → Occurs s ends t b b₁ out out₁ size o
-  occurs {text} {text₁} {b₁} {out₁} {done} {o} does long answer bytes =
-      let few : size + sizeOf done ≤ mostLineBytes = does .fits in
-      let room : length out ≡ mostLineBytes = h .room in
-      let n : sizeOf o ≡ size + sizeOf done = ap sizeOf (answer) ∙ behind-size size done in
-      let head : length (take size out) ≡ size = length-take-le size out (omega arith) in
+  pub occurs : {b₁ out₁ : List ℕ} {r : Outcome} → Does (actIn (actsIn t pat ends) 0 items) out b size out₁ b₁ r → Occurs s ends t b b₁ out out₁ size r
+  occurs does =
       record {
-        comes = λ m d e w im.
-            let v = does .comes (take size out) head w (record { line = im .line ∙ sym (append-nil (take size out)); size = let g = im .size in omega arith; state = im .state }) in (
-              v .0,
-              same-step m d e w ∙ v .1 ∙ sym (behind-done size done (v .0)) ∙ ap (λ (a : Outcome). doneOf a (v .0)) (sym (answer)),
-              record {
-                line =
-                    v .2 .line
-                    ∙ sym (take-paste out size text₁ (sizeOf done) (omega arith) (omega arith))
-                    ∙ ap (take (size + sizeOf done)) (sym bytes)
-                    ∙ ap (λ (k : ℕ). take k out₁) (sym n);
-                size = let g = v .2 .size in omega arith;
-                state = v .2 .state;
-              },
-            );
-        past =
-            ap (λ (k : ℕ). drop k out₁) n
-            ∙ ap (drop (size + sizeOf done)) bytes
-            ∙ drop-paste out size text₁ (sizeOf done) (omega arith) (omega arith)
-            ∙ ap (λ (k : ℕ). drop k out) (sym n);
-        within = omega arith;
+        comes = λ m d e w im. let v = does .comes w im in (v .0, same-step m d e w ∙ v .1, v .2);
+        past = does .past;
+        within = does .fits;
       }

@@ -4,8 +4,8 @@ use mathlib.Core.Path.{_≡_, refl, sym, ap, _∙_, subst}
 use mathlib.Core.List.{List, [], _∷_, _++_, append-assoc, append-nil}
 use native.Mathlib.Omega.{arith}
 use borrow.Author.Tests.{le-leb, lt-leb}
-use lib.ListN.{length, take}
-use lib.Seq.{paste, take-paste, take-length}
+use lib.ListN.{length, take, drop}
+use lib.Seq.{paste, take-paste, drop-paste, take-length, drop-drop}
 use Rattle.macros.specs.Bounds.{mostLineBytes}
 use Rattle.lines.specs.Replacing.{Work, Done, _>>=_, unless, onto, puts}
 use Rattle.lines.specs.Replacing.Done.{bad, good}
@@ -21,62 +21,71 @@ use Rattle.refusals.specs.declared.Outcome.the-variants.{Made, Refused}
 
 -- ONE AFTER THE OTHER
 
-pub does-then : {f g : Work → Done} {n k j : ℕ} {text b text₁ b₁ text₂ b₂ : List ℕ} {r s : Outcome} → Does f n text b k text₁ b₁ r → r ≡ Made j → Does g n text₁ b₁ j text₂ b₂ s
-    → Does (λ w. f w >>= g) n text b k text₂ b₂ s
-does-then {f} {g} {n} {k} {j} {text} {b} {text₁} {b₁} p e q =
-    let p′ : Does f n text b k text₁ b₁ (Made j) = subst (λ (o : Outcome). Does f n text b k text₁ b₁ o) e p in
+past-on : (a b : List ℕ) {j k : ℕ} → j ≤ k → drop j a ≡ drop j b → drop k a ≡ drop k b
+past-on a b {j} {k} h e =
+    let n : j + (k - j) ≡ k = omega arith in
+    subst (λ (i : ℕ). drop i a ≡ drop i b) n (sym (drop-drop (k - j) j a) ∙ ap (drop (k - j)) e ∙ drop-drop (k - j) j b)
+
+pub does-then : {f g : Work → Done} {k j : ℕ} {out b out₁ b₁ out₂ b₂ : List ℕ} {r s : Outcome} → Does f out b k out₁ b₁ r → r ≡ Made j → Does g out₁ b₁ j out₂ b₂ s
+    → Does (λ w. f w >>= g) out b k out₂ b₂ s
+does-then {f} {g} {k} {j} {out} {b} {out₁} {b₁} {s = s} p e q =
+    let p′ : Does f out b k out₁ b₁ (Made j) = subst (λ (o : Outcome). Does f out b k out₁ b₁ o) e p in
+    let z : j ≤ sizeOf s = q .grows in
     record {
-      comes = λ head l w m.
-          let x = p′ .comes head l w m in
-          let y = q .comes head l (x .0) (x .2) in
-          (y .0, ap (λ (a : Done). a >>= g) (x .1) ∙ y .1, y .2);
+      comes = λ w m. let x = p′ .comes w m in let y = q .comes (x .0) (x .2) in (y .0, ap (λ (a : Done). a >>= g) (x .1) ∙ y .1, y .2);
       state = q .state;
+      grows = let y = p′ .grows in omega arith;
       fits = q .fits;
+      past = q .past ∙ past-on out₁ out z (p′ .past);
     }
 
-pub does-stop : (g : Work → Done) {f : Work → Done} {n k j : ℕ} {text b text₁ b₁ : List ℕ} {r : Outcome} {fault : Fault} → Does f n text b k text₁ b₁ r → r ≡ Refused fault j → Does (λ w. f w >>= g) n text b k text₁ b₁ r
-does-stop g {f} {n} {k} {j} {text} {b} {text₁} {b₁} {r} {fault} p e =
-    let p′ : Does f n text b k text₁ b₁ (Refused fault j) = subst (λ (o : Outcome). Does f n text b k text₁ b₁ o) e p in
-    subst (λ (o : Outcome). Does (λ w. f w >>= g) n text b k text₁ b₁ o) (sym e)
+pub does-stop : (g : Work → Done) {f : Work → Done} {k j : ℕ} {out b out₁ b₁ : List ℕ} {r : Outcome} {fault : Fault} → Does f out b k out₁ b₁ r → r ≡ Refused fault j → Does (λ w. f w >>= g) out b k out₁ b₁ r
+does-stop g {f} {k} {j} {out} {b} {out₁} {b₁} {r} {fault} p e =
+    let p′ : Does f out b k out₁ b₁ (Refused fault j) = subst (λ (o : Outcome). Does f out b k out₁ b₁ o) e p in
+    subst (λ (o : Outcome). Does (λ w. f w >>= g) out b k out₁ b₁ o) (sym e)
     (record {
-      comes = λ head l w m. let x = p′ .comes head l w m in (x .0, ap (λ (a : Done). a >>= g) (x .1), x .2);
+      comes = λ w m. let x = p′ .comes w m in (x .0, ap (λ (a : Done). a >>= g) (x .1), x .2);
       state = p′ .state;
+      grows = p′ .grows;
       fits = p′ .fits;
+      past = p′ .past;
     })
 
 -- the same step by another name
-pub does-by : {f g : Work → Done} {n k : ℕ} {text b text₁ b₁ : List ℕ} {r : Outcome} → ((w : Work) → g w ≡ f w) → Does f n text b k text₁ b₁ r → Does g n text b k text₁ b₁ r
-does-by h p = record { comes = λ head l w m. let x = p .comes head l w m in (x .0, h w ∙ x .1, x .2); state = p .state; fits = p .fits }
+pub does-by : {f g : Work → Done} {k : ℕ} {out b out₁ b₁ : List ℕ} {r : Outcome} → ((w : Work) → g w ≡ f w) → Does f out b k out₁ b₁ r → Does g out b k out₁ b₁ r
+does-by h p = record { comes = λ w m. let x = p .comes w m in (x .0, h w ∙ x .1, x .2); state = p .state; grows = p .grows; fits = p .fits; past = p .past }
 
-pub does-room : {f : Work → Done} {n k j : ℕ} {text b text₁ b₁ : List ℕ} {r : Outcome} → Does f n text b k text₁ b₁ r → r ≡ Made j → n + j ≤ mostLineBytes
-does-room {n = n} p e = subst (λ (o : Outcome). n + sizeOf o ≤ mostLineBytes) e (p .fits)
+pub does-room : {f : Work → Done} {k j : ℕ} {out b out₁ b₁ : List ℕ} {r : Outcome} → Does f out b k out₁ b₁ r → r ≡ Made j → j ≤ mostLineBytes
+does-room p e = subst (λ (o : Outcome). sizeOf o ≤ mostLineBytes) e (p .fits)
 
 -- nothing is done
-pub does-none : {n k : ℕ} {text b : List ℕ} → IsState b → n + k ≤ mostLineBytes → Does good n text b k text b (Made k)
-does-none s h = record { comes = λ head l w m. (w, refl, m); state = s; fits = h }
+pub does-none : {k : ℕ} {out b : List ℕ} → IsState b → k ≤ mostLineBytes → Does good out b k out b (Made k)
+does-none s h = record { comes = λ w m. (w, refl, m); state = s; grows = omega arith; fits = h; past = refl }
 
 -- CHANGES OF THE STATE
 
 pub changes-by : {f g : Work → Done} {b b₁ : List ℕ} {k : ℕ} {r : Outcome} → ((w : Work) → g w ≡ f w) → Changes f b k b₁ r → Changes g b k b₁ r
 changes-by h p = record { comes = λ w g. let x = p .comes w g in (x .0, h w ∙ x .1, x .2, x .3); state = p .state; size = p .size }
 
-pub changes-does : {f : Work → Done} {b b₁ : List ℕ} {k : ℕ} {r : Outcome} (n : ℕ) (text : List ℕ) → Changes f b k b₁ r → n + k ≤ mostLineBytes → Does f n text b k text b₁ r
+pub changes-does : {f : Work → Done} {b b₁ : List ℕ} {k : ℕ} {r : Outcome} (out : List ℕ) → Changes f b k b₁ r → k ≤ mostLineBytes → Does f out b k out b₁ r
 unfolding textOf
-changes-does {k = k} {r = r} n text p h =
+changes-does {k = k} {r = r} out p h =
     let z : sizeOf r ≡ k = p .size in
     record {
-      comes = λ head l w m.
+      comes = λ w m.
           let x = p .comes w (m .state) in (
             x .0,
             x .1,
             record {
-              line = ap (λ (o : List ℕ). onto o []) (x .2 .out) ∙ m .line ∙ ap (λ (j : ℕ). head ++ take j text) (sym z);
-              size = x .2 .size ∙ m .size ∙ ap (λ (j : ℕ). length head + j) (sym z);
+              line = ap (λ (o : List ℕ). onto o []) (x .2 .out) ∙ m .line ∙ ap (λ (j : ℕ). take j out) (sym z);
+              size = x .2 .size ∙ m .size ∙ sym z;
               state = x .3;
             },
           );
       state = p .state;
+      grows = omega arith;
       fits = omega arith;
+      past = refl;
     }
 
 -- a change behind what was done, or nothing behind a refusal
@@ -97,11 +106,11 @@ onward-made {f} {b} {b₁} {s} {r} e p =
 pub onward-stop : {f : Work → Done} {b : List ℕ} {s : Outcome} {fault : Fault} {j : ℕ} → s ≡ Refused fault j → Onward f b s b s
 onward-stop e = record { made = λ k g. absurd (apart (sym g ∙ e)); refused = λ fault j g. (refl, refl) }
 
-pub does-onward : {f g : Work → Done} {n k : ℕ} {text b text₁ b₁ b₂ : List ℕ} (s : Outcome) {r : Outcome} → Does f n text b k text₁ b₁ s → Onward g b₁ s b₂ r → Does (λ w. f w >>= g) n text b k text₁ b₂ r
-does-onward {text₁ = text₁} (Made j) p q = does-then p refl (changes-does _ text₁ (q .made j refl) (p .fits))
-does-onward {f} {g} {n} {k} {text} {b} {text₁} {b₁} {b₂} (Refused fault j) p q =
+pub does-onward : {f g : Work → Done} {k : ℕ} {out b out₁ b₁ b₂ : List ℕ} (s : Outcome) {r : Outcome} → Does f out b k out₁ b₁ s → Onward g b₁ s b₂ r → Does (λ w. f w >>= g) out b k out₁ b₂ r
+does-onward {out₁ = out₁} (Made j) p q = does-then p refl (changes-does out₁ (q .made j refl) (p .fits))
+does-onward {f} {g} {k} {out} {b} {out₁} {b₁} {b₂} (Refused fault j) p q =
     let z = q .refused fault j refl in
-    subst (λ (o : Outcome). Does (λ w. f w >>= g) n text b k text₁ b₂ o) (sym (z .1)) (subst (λ (x : List ℕ). Does (λ w. f w >>= g) n text b k text₁ x (Refused fault j)) (sym (z .0)) (does-stop g p refl))
+    subst (λ (o : Outcome). Does (λ w. f w >>= g) out b k out₁ b₂ o) (sym (z .1)) (subst (λ (x : List ℕ). Does (λ w. f w >>= g) out b k out₁ x (Refused fault j)) (sym (z .0)) (does-stop g p refl))
 
 pub changes-none : {b : List ℕ} {k : ℕ} → IsState b → Changes good b k b (Made k)
 changes-none s = record { comes = λ w h. (w, refl, record { out = refl; size = refl }, h); state = s; size = refl }
@@ -135,42 +144,46 @@ onto-end (b ∷ o) r = onto-end o (b ∷ r) ∙ sym (append-assoc (onto o []) (b
 joined : (l o : List ℕ) → onto (onto l o) [] ≡ onto o [] ++ l
 joined l o = ontos l o [] ∙ ap (onto o) (append-nil l) ∙ onto-end o l
 
-pub inserts-by : {bytes bytes₁ text text₁ : List ℕ} {n k : ℕ} {r : Outcome} → bytes ≡ bytes₁ → Inserts bytes n text k text₁ r → Inserts bytes₁ n text k text₁ r
-inserts-by {text = text} {text₁ = text₁} {n = n} {k = k} {r = r} e p = subst (λ (x : List ℕ). Inserts x n text k text₁ r) e p
+pub inserts-by : {bytes bytes₁ out out₁ : List ℕ} {k : ℕ} {r : Outcome} → bytes ≡ bytes₁ → Inserts bytes out k out₁ r → Inserts bytes₁ out k out₁ r
+inserts-by {out = out} {out₁ = out₁} {k = k} {r = r} e p = subst (λ (x : List ℕ). Inserts x out k out₁ r) e p
 
-pub put-refused : {bytes text : List ℕ} {n k : ℕ} → Room text n k → 1054 - (n + k) < length bytes → Inserts bytes n text k text (Refused NewLineTooLong k)
+pub put-refused : {bytes out : List ℕ} {k : ℕ} → Room out k → 1054 - k < length bytes → Inserts bytes out k out (Refused NewLineTooLong k)
 unfolding puts unless
-put-refused {bytes} {text} {n} {k} r h =
+put-refused {bytes} {out} {k} r h =
     record {
       does = λ b s.
           record {
-            comes = λ head l w m. (w, rw (lt-leb (w .size + length bytes) mostLineBytes (let z = m .size in let y = r .fits in omega arith)), m);
+            comes = λ w m. (w, rw (lt-leb (w .size + length bytes) mostLineBytes (let z = m .size in let y = r .fits in omega arith)), m);
             state = s;
+            grows = omega arith;
             fits = r .fits;
+            past = refl;
           };
     }
 
-pub put-made : {bytes text text₁ : List ℕ} {n k : ℕ} → Room text n k → length bytes ≤ 1054 - (n + k) → text₁ ≡ paste text k bytes (length bytes) → Inserts bytes n text k text₁ (Made (k + length bytes))
+pub put-made : {bytes out out₁ : List ℕ} {k : ℕ} → Room out k → length bytes ≤ 1054 - k → out₁ ≡ paste out k bytes (length bytes) → Inserts bytes out k out₁ (Made (k + length bytes))
 unfolding puts unless textOf
-put-made {bytes} {text} {text₁} {n} {k} r h e =
+put-made {bytes} {out} {out₁} {k} r h e =
     let f = r .fits in
     let g = r .room in
-    let taken : take (k + length bytes) text₁ ≡ take k text ++ bytes =
-    ap (take (k + length bytes)) e ∙ take-paste text k bytes (length bytes) (omega arith) (omega arith) ∙ ap (λ (x : List ℕ). take k text ++ x) (take-length bytes) in
+    let taken : take (k + length bytes) out₁ ≡ take k out ++ bytes =
+    ap (take (k + length bytes)) e ∙ take-paste out k bytes (length bytes) (omega arith) (omega arith) ∙ ap (λ (x : List ℕ). take k out ++ x) (take-length bytes) in
     record {
       does = λ b s.
           record {
-            comes = λ head l w m.
+            comes = λ w m.
                 let z = m .size in (
                   record { out = onto bytes (w .out); size = w .size + length bytes; state = w .state },
                   rw (le-leb (w .size + length bytes) mostLineBytes (omega arith)),
                   record {
-                    line = joined bytes (w .out) ∙ ap (λ (x : List ℕ). x ++ bytes) (m .line) ∙ append-assoc head (take k text) bytes ∙ ap (λ (x : List ℕ). head ++ x) (sym taken);
+                    line = joined bytes (w .out) ∙ ap (λ (x : List ℕ). x ++ bytes) (m .line) ∙ sym taken;
                     size = omega arith;
                     state = m .state;
                   },
                 );
             state = s;
+            grows = omega arith;
             fits = omega arith;
+            past = ap (drop (k + length bytes)) e ∙ drop-paste out k bytes (length bytes) (omega arith) (omega arith);
           };
     }

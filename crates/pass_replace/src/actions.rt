@@ -22,27 +22,26 @@ fn access(
     span: Span,
     t: &[u8],
     state: &mut [u8],
-    base: usize,
-    text: &mut [u8],
-    k: usize,
+    out: &mut [u8],
+    size: usize,
 ) -> Outcome
-    requires { ⌜ Cut (now line) (span .from) (span .to) × Fit (now t) × IsState (now state) × Room (now text) base k ⌝ }
-    ensures { λ r. ⌜ Does (accessIn (slice (span .from) (span .to) (now (line .entry))) (now (t .entry))) base (now (text .entry)) (now (state .entry)) k (now (text .exit)) (now (state .exit)) r ⌝ }
+    requires { ⌜ Cut (now line) (span .from) (span .to) × Fit (now t) × IsState (now state) × Room (now out) size ⌝ }
+    ensures { λ r. ⌜ Does (accessIn (slice (span .from) (span .to) (now (line .entry))) (now (t .entry))) (now (out .entry)) (now (state .entry)) size (now (out .exit)) (now (state .exit)) r ⌝ }
 {
     let code = t[0];
     let i = t[1];
     if code < 64 {
-        return insert(line, span, t, state, base, text, k);
+        return insert(line, span, t, state, out, size);
     }
     if code < 72 {
         let from = span.from;
         let to = span.to;
-        return store(state, i, &line[from..to], k);
+        return store(state, i, &line[from..to], size);
     }
     if code < 80 {
-        return store(state, i, text_in(t), k);
+        return store(state, i, text_in(t), size);
     }
-    set(state, code, i, number_at(t, 2), k)
+    set(state, code, i, number_at(t, 2), size)
 }
 
 // "the pointer moves before or after the access"; the counter likewise.
@@ -51,20 +50,19 @@ fn action(
     span: Span,
     t: &[u8],
     state: &mut [u8],
-    base: usize,
-    text: &mut [u8],
-    k: usize,
+    out: &mut [u8],
+    size: usize,
 ) -> Outcome
-    requires { ⌜ Cut (now line) (span .from) (span .to) × Fit (now t) × IsState (now state) × Room (now text) base k ⌝ }
-    ensures { λ r. ⌜ Does (actionIn (slice (span .from) (span .to) (now (line .entry))) (now (t .entry))) base (now (text .entry)) (now (state .entry)) k (now (text .exit)) (now (state .exit)) r ⌝ }
+    requires { ⌜ Cut (now line) (span .from) (span .to) × Fit (now t) × IsState (now state) × Room (now out) size ⌝ }
+    ensures { λ r. ⌜ Does (actionIn (slice (span .from) (span .to) (now (line .entry))) (now (t .entry))) (now (out .entry)) (now (state .entry)) size (now (out .exit)) (now (state .exit)) r ⌝ }
 {
     let code = t[0];
     let i = t[1];
-    let ready = shift(state, code, i, 1, Outcome::Made(k));
+    let ready = shift(state, code, i, 1, Outcome::Made(size));
     let Outcome::Made(m) = ready else {
         return ready;
     };
-    let done = access(line, span, t, state, base, text, m);
+    let done = access(line, span, t, state, out, m);
     shift(state, code, i, 3, done)
 }
 
@@ -83,30 +81,30 @@ fn span_of(pat: &[u8], ends: &[u16], t: &[u8]) -> Span
     Span { from: 0, to: 0 }
 }
 
-// The actions, left to right. What they insert is put together in `text`; base bytes of the new line stand before it.
+// The actions, left to right. What they insert goes straight to the new line, behind its size bytes.
 pub(crate) fn act(
     pat: &[u8],
     ends: &[u16],
     line: &[u8],
     items: &[u8],
     state: &mut [u8],
-    base: usize,
-    text: &mut [u8],
+    out: &mut [u8],
+    size: usize,
 ) -> Outcome
-    requires { ⌜ Divided (now pat) (now ends) (now line) × Fits (now items) × IsState (now state) × Room (now text) base 0 ⌝ }
-    ensures { λ r. ⌜ Does (actIn (actsIn (now (line .entry)) (now (pat .entry)) (now (ends .entry))) 0 (now (items .entry))) base (now (text .entry)) (now (state .entry)) 0 (now (text .exit)) (now (state .exit)) r ⌝ }
+    requires { ⌜ Divided (now pat) (now ends) (now line) × Fits (now items) × IsState (now state) × Room (now out) size ⌝ }
+    ensures { λ r. ⌜ Does (actIn (actsIn (now (line .entry)) (now (pat .entry)) (now (ends .entry))) 0 (now (items .entry))) (now (out .entry)) (now (state .entry)) size (now (out .exit)) (now (state .exit)) r ⌝ }
 {
-    let mut k = 0;
+    let mut end = size;
     let mut at = 0;
     while at < items.len() {
         let t = &items[at..];
         let span = span_of(pat, ends, t);
-        let done = action(line, span, t, state, base, text, k);
+        let done = action(line, span, t, state, out, end);
         let Outcome::Made(m) = done else {
             return done;
         };
-        k = m;
+        end = m;
         at += action_size(t);
     }
-    Outcome::Made(k)
+    Outcome::Made(end)
 }

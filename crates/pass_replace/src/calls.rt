@@ -1,4 +1,4 @@
-// What a call changes (01, part 4): pointers, counters and entries. The answer hands on k, the bytes of the text so far.
+// What a call changes (01, part 4): pointers, counters and entries. The answer hands on k, the bytes of the new line so far.
 use crate::setting::set_entry;
 use crate::setting::set_increment;
 use crate::setting::set_pointer;

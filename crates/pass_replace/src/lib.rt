@@ -8,33 +8,7 @@ mod texts;
 use actions::act;
 use form_items::two_at;
 use refusals::Outcome;
-use texts::copy;
-ghost use mathlib.Core.Path.{_≡_};
-ghost use Prim.Native.Nat.{_+_, _≤_};
-ghost use Rattle.macros.specs.Bounds.{mostLineBytes};
-ghost use Rattle.pass_replace.specs.Contract.{Lent, Occurs, sizeOf};
-ghost use Rattle.pass_replace.specs.Moments.{behind as behindOf};
-
-// The bytes that an answer tells of.
-fn size_of(done: Outcome) -> usize
-    ensures { λ r. ⌜ r ≡ sizeOf done ⌝ }
-{
-    match done {
-        Outcome::Made(k) => k,
-        Outcome::Refused(_, k) => k,
-    }
-}
-
-// The answer with size bytes in front of its own.
-fn behind(done: Outcome, size: usize) -> Outcome
-    requires { ⌜ size + sizeOf done ≤ mostLineBytes ⌝ }
-    ensures { λ r. ⌜ r ≡ behindOf size done ⌝ }
-{
-    match done {
-        Outcome::Made(k) => Outcome::Made(size + k),
-        Outcome::Refused(fault, k) => Outcome::Refused(fault, size + k),
-    }
-}
+ghost use Rattle.pass_replace.specs.Contract.{Lent, Occurs};
 
 // "For each occurrence replacement and then commands act, left to right": the macro of a slot, with the division whose spans end where `ends` says.
 // The commands' items stand behind the replacement's, and are actions too.
@@ -52,17 +26,13 @@ pub fn occurrence(
     let pattern = 8 + two_at(slot, 2);
     let replacement = pattern + two_at(slot, 4);
     let commands = replacement + two_at(slot, 6);
-    let mut text = [0u8; 1054];
-    let done = act(
+    act(
         &slot[8..pattern],
         ends,
         line,
         &slot[pattern..commands],
         state,
+        out,
         size,
-        &mut text,
-    );
-    let k = size_of(done);
-    copy(out, size, &text[..k]);
-    behind(done, size)
+    )
 }

@@ -31,16 +31,16 @@ pub(crate) fn copy(out: &mut [u8], at: usize, bytes: &[u8])
     }
 }
 
-// A text is inserted. 32 "as if each byte went straight to the new line", where base bytes stand before the text's.
-fn put(text: &mut [u8], base: usize, k: usize, bytes: &[u8]) -> Outcome
-    requires { ⌜ Room (now text) base k ⌝ }
-    ensures { λ r. ⌜ Inserts (now (bytes .entry)) base (now (text .entry)) k (now (text .exit)) r ⌝ }
+// A text joins the new line, which has size bytes. 32: "the new line's 1,055th byte".
+fn put(out: &mut [u8], size: usize, bytes: &[u8]) -> Outcome
+    requires { ⌜ Room (now out) size ⌝ }
+    ensures { λ r. ⌜ Inserts (now (bytes .entry)) (now (out .entry)) size (now (out .exit)) r ⌝ }
 {
-    if 1054 - (base + k) < bytes.len() {
-        return Outcome::Refused(Fault::NewLineTooLong, k);
+    if 1054 - size < bytes.len() {
+        return Outcome::Refused(Fault::NewLineTooLong, size);
     }
-    copy(text, k, bytes);
-    Outcome::Made(k + bytes.len())
+    copy(out, size, bytes);
+    Outcome::Made(size + bytes.len())
 }
 
 fn figure(v: u32) -> u8
@@ -71,13 +71,13 @@ pub(crate) fn is_within(a: u8, z: u8, b: u8) -> bool
 }
 
 // `#(i)`.
-fn put_value(v: u32, base: usize, text: &mut [u8], k: usize) -> Outcome
-    requires { ⌜ (v ≤ mostCounter) × Room (now text) base k ⌝ }
-    ensures { λ r. ⌜ Inserts (digits v) base (now (text .entry)) k (now (text .exit)) r ⌝ }
+fn put_value(v: u32, out: &mut [u8], size: usize) -> Outcome
+    requires { ⌜ (v ≤ mostCounter) × Room (now out) size ⌝ }
+    ensures { λ r. ⌜ Inserts (digits v) (now (out .entry)) size (now (out .exit)) r ⌝ }
 {
     let mut figures = [0u8; 9];
     let n = put_digits(&mut figures, v);
-    put(text, base, k, &figures[..n])
+    put(out, size, &figures[..n])
 }
 
 // "The text of a tag or stack call is handed out as a part of the line or of the stack memory."
@@ -99,20 +99,19 @@ pub(crate) fn insert<'a>(
     span: Span,
     t: &[u8],
     state: &'a [u8],
-    base: usize,
-    text: &mut [u8],
-    k: usize,
+    out: &mut [u8],
+    size: usize,
 ) -> Outcome
-    requires { ⌜ Cut (now line) (span .from) (span .to) × Fit (now t) × IsState (now state) × Room (now text) base k ⌝ }
-    ensures { λ r. ⌜ Does (insertsIn (slice (span .from) (span .to) (now (line .entry))) (now (t .entry))) base (now (text .entry)) (now (state .entry)) k (now (text .exit)) (now (state .entry)) r ⌝ }
+    requires { ⌜ Cut (now line) (span .from) (span .to) × Fit (now t) × IsState (now state) × Room (now out) size ⌝ }
+    ensures { λ r. ⌜ Does (insertsIn (slice (span .from) (span .to) (now (line .entry))) (now (t .entry))) (now (out .entry)) (now (state .entry)) size (now (out .exit)) (now (state .entry)) r ⌝ }
 {
     let code = t[0];
     let i = t[1];
     if code == 40 {
-        return put(text, base, k, &t[1..2]);
+        return put(out, size, &t[1..2]);
     }
     if is_within(56, 63, code) {
-        return put_value(value(state, i), base, text, k);
+        return put_value(value(state, i), out, size);
     }
-    put(text, base, k, part(line, span, state, code, i))
+    put(out, size, part(line, span, state, code, i))
 }

@@ -2,12 +2,12 @@
 mod parts;
 mod said;
 
+use libc::STDOUT_FILENO;
 use line_answer::Answer;
 use parts::Parts;
 use parts::read_parts;
 use program_in::next_line;
 use program_in::start;
-use program_out::flush;
 use program_out::put_text;
 use said::answer_said;
 use said::refusal_said;
@@ -21,18 +21,9 @@ ghost use Rattle.program.specs.Run.{Ran};
 // "Budget 10,000".
 const BUDGET: u32 = 10000;
 
-// The program, with the name of its macro file. No contract can say what is read or written, so this one says that the program ends; what the parts below do is said by theirs.
-pub fn run(name: &[u8])
-    ensures { λ r. ⌜ r ≡ tt ⌝ }
-{
-    let mut table: [u8; 98304] = [0; 98304];
-    let mut said = [0u8; 1100];
-    let n = read_and_answer(&mut table, &mut said, name);
-    flush(&said, n);
-}
-
-// Reads the file and answers the lines. "A refused file gives `! N 0` and nothing more", which the caller writes.
-fn read_and_answer(table: &mut [u8; 98304], said: &mut [u8; 1100], name: &[u8]) -> usize
+// The program, with the name of its macro file and a memory for the table: reads the file and answers the lines.
+// "A refused file gives `! N 0` and nothing more": these first bytes of `said` are left for the caller to write.
+pub fn run(table: &mut [u8; 98304], said: &mut [u8; 1100], name: &[u8]) -> usize
     requires { ⌜ (now table ≡ replicate 98304 0) × (1100 ≡ length (now said)) ⌝ }
     ensures { λ r. ⌜ Within r (now (said .exit)) × Ran (now (table .exit)) (take r (now (said .exit))) ⌝ }
 {
@@ -74,7 +65,14 @@ fn each_line(
         reading = next_line(block, line, reading);
         number += 1;
     }
-    flush(out, used);
+    write_held(out, used);
+}
+
+// Writes out what is held.
+fn write_held(out: &[u8], used: usize)
+    requires { ⌜ used ≤ length (now out) ⌝ }
+{
+    io::write_all(STDOUT_FILENO, &out[..used]);
 }
 
 // Feeds the line that is held, and puts what there is to say.

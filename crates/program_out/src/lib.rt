@@ -35,11 +35,3 @@ pub fn put_text(out: &mut [u8], used: usize, text: &[u8]) -> usize
     io::write_all(STDOUT_FILENO, text);
     0
 }
-
-// Writes out what is held.
-pub fn flush(held: &[u8], used: usize)
-    requires { ⌜ used ≤ length (now held) ⌝ }
-    ensures { λ r. ⌜ r ≡ tt ⌝ }
-{
-    io::write_all(STDOUT_FILENO, &held[..used]);
-}

@@ -9,25 +9,28 @@ use native.Mathlib.Nat.{add-zero}
 use lib.ListN.{length}
 use lib.Dec.{eqb}
 use borrow.Author.Tests.{ne-eqb, leb-true}
-use Rattle.macros.specs.Macro.{Member, Mark, Piece, Macro, pick, among, within, lower, markByte}
-use Rattle.macros.specs.Macro.PatternUnit.{callOf}
-use Rattle.macros.specs.Macro.Piece.{start, end}
+use Rattle.macros.specs.Macro.{Closure, Member, Mark, PatternUnit, Piece, Macro, pick, among, within, lower, markByte}
+use Rattle.macros.specs.Macro.Closure.{once, oneOrMore, zeroOrMore}
+use Rattle.macros.specs.Macro.PatternUnit.{literal, kind, class, callOf}
+use Rattle.macros.specs.Macro.Piece.{element, start, end}
 use Rattle.macros.specs.Read.{Part, skips, breaks, escaped, signs, kindDigit}
 use Rattle.macros.specs.Read.Held.{unit, starred}
 use Rattle.macros.specs.Read.Part.{pattern, patternEscape, opened, patternCalled}
-use Rattle.form_table.specs.Form.{unitCode, unitOperand, unitRest, membersItems, pieceItems}
+use Rattle.form_table.specs.Form.{unitRest, membersItems, pieceItems}
+use Rattle.form_element.specs.Element.{unitOf, elementOf, itemOf}
+use Rattle.form_element.proofs.Items.{unit-item}
 use Rattle.read_scan.specs.Scan.{faultOf, run, Here, Passes, Stays, Calls, wrongCall}
 use Rattle.form_items.specs.Items.{Wrote}
 use Rattle.read_pattern.specs.Class.{Classed, Classing}
-use Rattle.read_pattern.specs.Pattern.{unitOf, pieceOf, headItems, markAt, Joins, Made, Makes, MakesOne, atQuery, atMark, atCall, atClass, atFresh, negOf, IsClass, Inner, Pieces, itemFault, classFault, elementFault}
+use Rattle.read_pattern.specs.Pattern.{markAt, Joins, Made, Makes, MakesOne, atQuery, atMark, atCall, atClass, atFresh, negOf, IsClass, Inner, Pieces, itemFault, classFault, elementFault}
 use Rattle.read_scan.specs.declared.Fault.{Fault}
 use Rattle.read_scan.specs.declared.Fault.the-variants.{Incomplete, NoUnit}
 use Rattle.read_scan.specs.declared.Next.{Next}
 use Rattle.read_scan.specs.declared.Next.the-variants.{Byte, Refused as NoByte}
-use Rattle.read_pattern.specs.declared.Unit.{Unit as CodeUnit}
-use Rattle.read_pattern.specs.declared.Unit.the-variants.{Literal, Kind, Class, ClassNot, StackCall, CounterCall}
-use Rattle.read_pattern.specs.declared.Closure.the-variants.{Once, OneOrMore, ZeroOrMore}
-use Rattle.read_pattern.specs.declared.Element.{Element}
+use Rattle.form_element.specs.declared.Unit.{Unit as CodeUnit}
+use Rattle.form_element.specs.declared.Unit.the-variants.{Literal, Kind}
+use Rattle.form_element.specs.declared.Closure.the-variants.{Once, OneOrMore, ZeroOrMore}
+use Rattle.form_element.specs.declared.Element.{Element}
 use Rattle.read_pattern.specs.declared.Item.{Item}
 use Rattle.read_pattern.specs.declared.Item.the-variants.{Got, Refused as NoItem}
 use Rattle.read_pattern.specs.declared.Put.{Put}
@@ -43,7 +46,7 @@ module _ (u : CodeUnit) (n : ℕ) {s : List ℕ} {a p : ℕ} {r : Next} (x : Pas
   unfolding skips
   joins-fault {f} {q} e g =
       let y : Passes s a p (NoByte f q) = rw e at x in
-      rw (g ∙ ap itemFault e) (record { is = (y .found, λ xs ps ms. y .answer _ ms refl) })
+      rw (g ∙ ap itemFault e) (record { is = (y .found, λ v ps ms. y .answer _ ms refl) })
 
   module _ {b q : ℕ} (e : r ≡ Byte b q) where
     pub behind-unit : Passes s a p (Byte b q)
@@ -61,23 +64,23 @@ module _ (u : CodeUnit) (n : ℕ) {s : List ℕ} {a p : ℕ} {r : Next} (x : Pas
             record {
               further = behind-unit .found .0;
               reached = reached-at (here .stands);
+              its = once;
               same = refl;
-              answer = λ xs ps ms. behind-unit .answer _ ms refl ∙ unit-once here ms ps (unitOf u xs) f;
+              answer = λ v ps ms. behind-unit .answer _ ms refl ∙ unit-once here ms ps v f;
             },
           );
         }
 
     module _ (f : b ≡ 42) {t : Next} (z : Passes s a (q + 1) t) where
-      star : (xs : List Member) (ps : List Piece) (ms : List Macro)
-          → run s a ms false p (pattern (unit (unitOf u xs)) ps) ≡ run s a ms false (q + 1) (pattern (starred (unitOf u xs)) ps)
+      star : (w : PatternUnit) (ps : List Piece) (ms : List Macro) → run s a ms false p (pattern (unit w) ps) ≡ run s a ms false (q + 1) (pattern (starred w) ps)
       unfolding skips
-      star xs ps ms = behind-unit .answer _ ms refl ∙ unit-star here ms ps (unitOf u xs) f
+      star w ps ms = behind-unit .answer _ ms refl ∙ unit-star here ms ps w f
 
       pub joins-star-fault : {g : Fault} {v : ℕ} {o : Item} → t ≡ NoByte g v → o ≡ itemFault t → Joins s a p u n o
       unfolding skips
       joins-star-fault {g} {v} h i =
           let w : Passes s a (q + 1) (NoByte g v) = rw h at z in
-          rw (i ∙ ap itemFault h) (record { is = (w .found, λ xs ps ms. star xs ps ms ∙ w .answer _ ms refl) })
+          rw (i ∙ ap itemFault h) (record { is = (w .found, λ x ps ms. star x ps ms ∙ w .answer _ ms refl) })
 
       module _ {d v : ℕ} (h : t ≡ Byte d v) where
         pub behind-star : Passes s a (q + 1) (Byte d v)
@@ -92,8 +95,9 @@ module _ (u : CodeUnit) (n : ℕ) {s : List ℕ} {a p : ℕ} {r : Next} (x : Pas
                 record {
                   further = omega (arith, behind-unit .found .0, behind-star .found .0);
                   reached = reached-behind (behind-star .found .1 .stands);
+                  its = zeroOrMore;
                   same = refl;
-                  answer = λ xs ps ms. star xs ps ms ∙ (behind-star .answer _ ms refl ∙ star-dash (behind-star .found .1) ms ps (unitOf u xs) k);
+                  answer = λ w ps ms. star w ps ms ∙ (behind-star .answer _ ms refl ∙ star-dash (behind-star .found .1) ms ps w k);
                 },
               );
             }
@@ -107,37 +111,40 @@ module _ (u : CodeUnit) (n : ℕ) {s : List ℕ} {a p : ℕ} {r : Next} (x : Pas
                 record {
                   further = omega (arith, behind-unit .found .0, behind-star .found .0);
                   reached = reached-at (behind-star .found .1 .stands);
+                  its = oneOrMore;
                   same = refl;
-                  answer = λ xs ps ms. star xs ps ms ∙ (behind-star .answer _ ms refl ∙ star-more (behind-star .found .1) ms ps (unitOf u xs) k);
+                  answer = λ w ps ms. star w ps ms ∙ (behind-star .answer _ ms refl ∙ star-more (behind-star .found .1) ms ps w k);
                 },
               );
             }
 
 -- FROM A UNIT TO ITS ELEMENT
 
--- the unit u is read from v up to w, with its rest written, and then its closure
-pub made : {s : List ℕ} {a p v w : ℕ} {F : List Piece → Part} {old out : List ℕ} {i n : ℕ} {o : Item} (u : CodeUnit) (xs : List Member)
-    → Joins s a w u n o → v ≤ w → n ≤ i + 2 * (w - v) → Wrote old out i (unitRest (unitOf u xs)) → n ≡ i + length (unitRest (unitOf u xs))
-    → ((ps : List Piece) (ms : List Macro) → run s a ms false p (F ps) ≡ run s a ms false w (pattern (unit (unitOf u xs)) ps)) → Makes s a p v F old out i o
-made {o = Got e q m} u xs j h k w c f =
+-- the unit x is read from v up to w, with its rest written, and then its closure
+pub made : {s : List ℕ} {a p v w : ℕ} {F : List Piece → Part} {old out : List ℕ} {i n : ℕ} {o : Item} (x : PatternUnit)
+    → Joins s a w (unitOf x) n o → v ≤ w → n ≤ i + 2 * (w - v) → Wrote old out i (unitRest x) → n ≡ i + length (unitRest x)
+    → ((ps : List Piece) (ms : List Macro) → run s a ms false p (F ps) ≡ run s a ms false w (pattern (unit x) ps)) → Makes s a p v F old out i o
+made {o = Got e q m} x j h k w c f =
     record {
       is = record {
-        xs = xs;
+        itsUnit = x;
+        itsClosure = j .is .1 .its;
+        same = j .is .1 .same;
         further = omega (arith, j .is .1 .further);
         reached = j .is .1 .reached;
         room = omega (arith, j .is .0, j .is .1 .further);
-        answer = λ ps ms. f ps ms ∙ j .is .1 .answer xs ps ms;
-        wrote = rw (j .is .1 .same) w;
-        used = rw (j .is .1 .same) (omega (arith, j .is .0));
+        answer = λ ps ms. f ps ms ∙ j .is .1 .answer x ps ms;
+        wrote = w;
+        used = omega (arith, j .is .0);
       };
     }
-made {o = NoItem g q} u xs j h k w c f = record { is = (j .is .0, λ ps ms. f ps ms ∙ j .is .1 xs ps ms) }
+made {o = NoItem g q} x j h k w c f = record { is = (j .is .0, λ ps ms. f ps ms ∙ j .is .1 x ps ms) }
 
--- a unit with nothing behind its head
-made-one : {s : List ℕ} {a p v w : ℕ} {F : List Piece → Part} {n : ℕ} {o : Item} (u : CodeUnit) → unitRest (unitOf u []) ≡ []
-    → Joins s a w u n o → v ≤ w → ((ps : List Piece) (ms : List Macro) → run s a ms false p (F ps) ≡ run s a ms false w (pattern (unit (unitOf u [])) ps))
+-- a unit with nothing behind its item
+made-one : {s : List ℕ} {a p v w : ℕ} {F : List Piece → Part} {n : ℕ} {o : Item} (x : PatternUnit) → unitRest x ≡ []
+    → Joins s a w (unitOf x) n o → v ≤ w → ((ps : List Piece) (ms : List Macro) → run s a ms false p (F ps) ≡ run s a ms false w (pattern (unit x) ps))
     → (out : List ℕ) → Makes s a p v F out out n o
-made-one {n = n} u e j h f out = made u [] j h (omega arith) (rw e (wrote-none out n)) (rw e (sym (add-zero n))) f
+made-one {n = n} x e j h f out = made x j h (omega arith) (rw e (wrote-none out n)) (rw e (sym (add-zero n))) f
 
 -- the same, begun earlier in another state
 pub made-from : {s : List ℕ} {a p v w k : ℕ} {F G : List Piece → Part} {old out : List ℕ} {n : ℕ} {o : Item}
@@ -145,7 +152,9 @@ pub made-from : {s : List ℕ} {a p v w k : ℕ} {F G : List Piece → Part} {ol
 made-from {o = Got e q m} j h f =
     record {
       is = record {
-        xs = j .is .xs;
+        itsUnit = j .is .itsUnit;
+        itsClosure = j .is .itsClosure;
+        same = j .is .same;
         further = omega (arith, j .is .further);
         reached = j .is .reached;
         room = omega (arith, j .is .room, j .is .further);
@@ -156,21 +165,21 @@ made-from {o = Got e q m} j h f =
     }
 made-from {o = NoItem g q} j h f = record { is = (j .is .0, λ ps ms. f ps ms ∙ j .is .1 ps ms) }
 
-literal-rest : (b : ℕ) → unitRest (unitOf (Literal b) []) ≡ []
+literal-rest : (b : ℕ) → unitRest (literal b) ≡ []
 unfolding unitRest
 literal-rest b = refl
 
-kind-rest : (k : ℕ) → unitRest (unitOf (Kind k) []) ≡ []
+kind-rest : (k : ℕ) → unitRest (kind k) ≡ []
 unfolding unitRest
 kind-rest k = refl
 
-call-rest : (u : CodeUnit) (m : Mark) (i : ℕ) → unitOf u [] ≡ callOf m i → unitRest (unitOf u []) ≡ []
+call-rest : (m : Mark) (i : ℕ) → unitRest (callOf m i) ≡ []
 unfolding unitRest
-call-rest u m i e = rw e refl
+call-rest m i = refl
 
-class-rest : (u : CodeUnit) (xs : List Member) → IsClass u → unitRest (unitOf u xs) ≡ membersItems xs
+class-rest : (neg : Bool) (xs : List Member) → unitRest (class neg xs) ≡ membersItems xs
 unfolding unitRest
-class-rest u xs e = rw (e xs) refl
+class-rest neg xs = refl
 
 -- BEHIND `\`
 
@@ -188,7 +197,7 @@ module _ (n : ℕ) {s : List ℕ} {a p : ℕ} {r : Next} (x : Stays s a p r) whe
     escape-made {l} {o} g j =
         let y = escape-stays .found in
         let i : Joins s a (p + 1) (Literal l) n o = rw (y .0) at j in
-        made-one (Literal l) (literal-rest l) i (omega arith) (λ ps ms. escape-on (y .1) ms ps ∙ rw g refl)
+        made-one (literal l) (literal-rest l) i (omega arith) (λ ps ms. escape-on (y .1) ms ps ∙ rw g refl)
 
 -- BEHIND `?`
 
@@ -213,13 +222,13 @@ module _ (n : ℕ) {s : List ℕ} {a p : ℕ} {r : Next} (x : Passes s a p r) wh
     pub query-kind : {o : Item} → kindDigit b ≡ true → Joins s a (q + 1) (Kind (b - 48)) n o → MakesOne s a p atQuery n o
     unfolding skips
     query-kind f j =
-        made-one (Kind (b - 48)) (kind-rest _) j (omega (arith, behind-sign .found .0))
+        made-one (kind (b - 48)) (kind-rest _) j (omega (arith, behind-sign .found .0))
         (λ ps ms. behind-sign .answer _ ms refl ∙ query-digit (behind-sign .found .1) ms ps f)
 
     pub query-itself : {o : Item} → kindDigit b ≡ false → Joins s a q (Literal 63) n o → MakesOne s a p atQuery n o
     unfolding skips
     query-itself f j =
-        made-one (Literal 63) (literal-rest 63) j (behind-sign .found .0)
+        made-one (literal 63) (literal-rest 63) j (behind-sign .found .0)
         (λ ps ms. behind-sign .answer _ ms refl ∙ query-literal (behind-sign .found .1) ms ps f)
 
     pub mark-called : (m : ℕ) {o : Item} → b ≡ 40 → MakesOne s a (q + 1) (atCall m) n o → MakesOne s a p (atMark m) n o
@@ -231,7 +240,7 @@ module _ (n : ℕ) {s : List ℕ} {a p : ℕ} {r : Next} (x : Passes s a p r) wh
     pub mark-itself : (m : ℕ) {o : Item} → markByte (markAt m) ≡ m → (b ≡ 40 → ⊥) → Joins s a q (Literal m) n o → MakesOne s a p (atMark m) n o
     unfolding skips
     mark-itself m g f j =
-        made-one (Literal m) (literal-rest m) j (behind-sign .found .0)
+        made-one (literal m) (literal-rest m) j (behind-sign .found .0)
         (λ ps ms. behind-sign .answer _ ms refl ∙ (mark-literal (behind-sign .found .1) ms ps (markAt m) f ∙ rw g refl))
 
 and-left : (x y : Bool) → (x && y) ≡ true → x ≡ true
@@ -287,11 +296,12 @@ module _ (m n : ℕ) {s : List ℕ} {a p : ℕ} {r : Next} (x : Calls s a p r) w
             let y = the-end .found in
             record { is = (omega (arith, y .1 .stands .there), λ ps ms. to-end ps ms ∙ rw k (called-wrong (y .1) ms ps (markAt m) i g (y .2))) }
 
-        pub called-made : (u : CodeUnit) {o : Item} → b ≡ 41 → unitOf u [] ≡ callOf (markAt m) i → Joins s a (v + 1) u n o → MakesOne s a p (atCall m) n o
-        called-made u g k j =
+        pub called-made : (u : CodeUnit) {o : Item} → b ≡ 41 → u ≡ unitOf (callOf (markAt m) i) → Joins s a (v + 1) u n o → MakesOne s a p (atCall m) n o
+        called-made u {o} g k j =
             let y = the-end .found in
-            made-one u (call-rest u (markAt m) i k) j (omega (arith, y .0, the-letter .found .0))
-            (λ ps ms. to-end ps ms ∙ (called-end (y .1) ms ps (markAt m) i g ∙ rw k refl))
+            let w : Joins s a (v + 1) (unitOf (callOf (markAt m) i)) n o = rw (sym k) j in
+            made-one (callOf (markAt m) i) (call-rest (markAt m) i) w (omega (arith, y .0, the-letter .found .0))
+            (λ ps ms. to-end ps ms ∙ called-end (y .1) ms ps (markAt m) i g)
 
 -- BEHIND `[`
 
@@ -306,10 +316,11 @@ module _ (u : CodeUnit) {s : List ℕ} {a p : ℕ} {old out : List ℕ} {n : ℕ
     classed = let y : Classing s a p old out n (PutAt q j) = rw e at x in y .is
 
     pub class-made : {o : Item} → IsClass u → Joins s a q u j o → Makes s a p p (atClass (negOf u)) old out n o
-    class-made f k =
+    class-made {o} f k =
         let y = classed in
-        made u (y .xs) k (y .further) (y .room) (rw (class-rest u (y .xs) f) (y .wrote)) (rw (class-rest u (y .xs) f) (y .used))
-        (λ ps ms. y .answer ps (negOf u) ms ∙ rw (f (y .xs)) refl)
+        let w : Joins s a q (unitOf (class (negOf u) (y .xs))) j o = rw (f (y .xs)) k in
+        made (class (negOf u) (y .xs)) w (y .further) (y .room) (rw (class-rest (negOf u) (y .xs)) (y .wrote)) (rw (class-rest (negOf u) (y .xs)) (y .used))
+        (λ ps ms. y .answer ps (negOf u) ms)
 
 module _ {s : List ℕ} {a p : ℕ} {r : Next} (x : Stays s a p r) where
   pub opened-fault : (n : ℕ) (old out : List ℕ) {f : Fault} {q : ℕ} {o : Item} → r ≡ NoByte f q → o ≡ itemFault r → Makes s a p p opened old out n o
@@ -379,35 +390,23 @@ element-literal {b = b} x n out i c d e f g h k l m j =
     let f2 = or-false-r (eqb b 39) _ f in
     let f3 = or-false-l (eqb b 59) _ f2 in
     let f4 = or-false-l (eqb b 10) _ (or-false-r (eqb b 59) _ f2) in
-    made-one (Literal b) (literal-rest b) j (omega arith)
+    made-one (literal b) (literal-rest b) j (omega arith)
     (λ ps ms. at-literal x ms ps (simp (ne-eqb _ _ (i .0), f3, f4, ne-eqb _ _ e, ne-eqb _ _ g, ne-eqb _ _ h, ne-eqb _ _ c, ne-eqb _ _ d, ne-eqb _ _ (i .1), ne-eqb _ _ (i .2))) k l m) out
 
 -- ITS ITEMS
 
-code-same : (u : CodeUnit) (xs : List Member) → unitCode (unitOf u []) ≡ unitCode (unitOf u xs)
-unfolding unitCode
-code-same (Literal b) xs = refl
-code-same (Kind k) xs = refl
-code-same Class xs = refl
-code-same ClassNot xs = refl
-code-same (StackCall i) xs = refl
-code-same (CounterCall i) xs = refl
-
-operand-same : (u : CodeUnit) (xs : List Member) → unitOperand (unitOf u []) ≡ unitOperand (unitOf u xs)
-unfolding unitOperand
-operand-same (Literal b) xs = refl
-operand-same (Kind k) xs = refl
-operand-same Class xs = refl
-operand-same ClassNot xs = refl
-operand-same (StackCall i) xs = refl
-operand-same (CounterCall i) xs = refl
-
-head-same : (e : Element) (xs : List Member) → headItems e ++ unitRest (unitOf (e .unit) xs) ≡ pieceItems (pieceOf e xs)
+-- the item of an element before what was written behind it
+element-wrote : {old mid out : List ℕ} {n : ℕ} (u : PatternUnit) (c : Closure) → n + 2 ≤ length old → n + 2 ≤ length mid → Wrote old mid (n + 2) (unitRest u)
+    → Wrote mid out n (itemOf (elementOf (element u c))) → Wrote old out n (pieceItems (element u c))
 unfolding pieceItems
-head-same e xs = rw (code-same (e .unit) xs, operand-same (e .unit) xs) refl
+element-wrote u c h k v w = wrote-before h k v (rw (unit-item u c) at w)
+
+element-long : (n : ℕ) {m : ℕ} (u : PatternUnit) (c : Closure) → m ≡ n + 2 + length (unitRest u) → m ≡ n + length (pieceItems (element u c))
+unfolding pieceItems
+element-long n u c e = omega arith
 
 module _ {s : List ℕ} {a p b : ℕ} (x : Here s a p b) (n : ℕ) {old : List ℕ} where
-  pub piece-start : {out : List ℕ} → b ≡ 94 → Wrote old out n (3 ∷ 0 ∷ []) → Pieces s a p old out n (PutAt (p + 1) (n + 2))
+  pub piece-start : {out : List ℕ} → b ≡ 94 → Wrote old out n (pieceItems start) → Pieces s a p old out n (PutAt (p + 1) (n + 2))
   unfolding pieceItems
   piece-start e w =
       record {
@@ -423,7 +422,7 @@ module _ {s : List ℕ} {a p b : ℕ} (x : Here s a p b) (n : ℕ) {old : List �
         };
       }
 
-  pub piece-end : {out : List ℕ} → b ≡ 36 → Wrote old out n (4 ∷ 0 ∷ []) → Pieces s a p old out n (PutAt (p + 1) (n + 2))
+  pub piece-end : {out : List ℕ} → b ≡ 36 → Wrote old out n (pieceItems end) → Pieces s a p old out n (PutAt (p + 1) (n + 2))
   unfolding pieceItems
   piece-end e w =
       record {
@@ -449,18 +448,19 @@ module _ {s : List ℕ} {a p b : ℕ} (x : Here s a p b) (n : ℕ) {old : List �
       pub its-element : Made s a p (p + 1) atFresh old mid (n + 2) e q m
       its-element = let w : Makes s a p (p + 1) atFresh old mid (n + 2) (Got e q m) = rw f at y in w .is
 
-      pub piece-element : {out : List ℕ} → n + 2 ≤ length old → n + 2 ≤ length mid → Wrote mid out n (headItems e) → Pieces s a p old out n (PutAt q m)
-      piece-element h k w =
+      pub piece-element : {out : List ℕ} → n + 2 ≤ length old → n + 2 ≤ length mid → Wrote mid out n (itemOf e) → Pieces s a p old out n (PutAt q m)
+      piece-element {out} h k w =
           let z = its-element in
+          let v : Wrote mid out n (itemOf (elementOf (element (z .itsUnit) (z .itsClosure)))) = rw (z .same) at w in
           record {
             is = record {
-              piece = pieceOf e (z .xs);
+              piece = element (z .itsUnit) (z .itsClosure);
               counts = tt;
               further = omega (arith, z .further);
               reached = z .reached;
               room = omega (arith, z .room, z .further);
               answer = z .answer;
-              wrote = rw (sym (head-same e (z .xs))) (wrote-before h k (z .wrote) w);
-              used = rw (sym (head-same e (z .xs))) (omega (arith, z .used));
+              wrote = element-wrote (z .itsUnit) (z .itsClosure) h k (z .wrote) v;
+              used = element-long n (z .itsUnit) (z .itsClosure) (z .used);
             };
           }

@@ -119,8 +119,8 @@ module _ {s : List ℕ} {a : ℕ} where
       }
 
   -- a brace with what is inside
-  grown-brace : {p q : ℕ} {f g : Far} {x y z o : List ℕ} → Here s a p 123 → f .tags < 99 → Wrote x y (f .used) (1 ∷ 0 ∷ []) → Here s a q 125
-      → Grown s a (p + 1) (behindLeft f) q g y z → Wrote z o (g .used) (2 ∷ 0 ∷ []) → Grown s a p f (q + 1) (behindRight g) x o
+  grown-brace : {p q : ℕ} {f g : Far} {x y z o : List ℕ} → Here s a p 123 → f .tags < 99 → Wrote x y (f .used) (pieceItems left) → Here s a q 125
+      → Grown s a (p + 1) (behindLeft f) q g y z → Wrote z o (g .used) (pieceItems right) → Grown s a p f (q + 1) (behindRight g) x o
   unfolding itemsOf pieceItems tags elements depth
   grown-brace {f = f} {g = g} b h w d k v =
       record {
@@ -204,7 +204,7 @@ module _ {s : List ℕ} {a p v : ℕ} {f g : Far} {x y : List ℕ} (k : Grown s 
         grown-element = grown-then there (grown-piece its-piece)
 
     -- a brace, and what was read inside it
-    module _ (h : b ≡ 123) (t : g .tags < 99) {mid : List ℕ} (w : Wrote y mid (g .used) (1 ∷ 0 ∷ [])) where
+    module _ (h : b ≡ 123) (t : g .tags < 99) {mid : List ℕ} (w : Wrote y mid (g .used) (pieceItems left)) where
       brace : Here s a q 123
       brace = rw h at near
 
@@ -221,7 +221,7 @@ module _ {s : List ℕ} {a p v : ℕ} {f g : Far} {x y : List ℕ} (k : Grown s 
         pub inner-ends : {m : ℕ} {j : Far} → o ≡ Closed m j → Ends s a (q + 1) (behindLeft g) m j mid out 125
         inner-ends {m} {j} n = let c : Reads s a (q + 1) (behindLeft g) mid out (Closed m j) = rw n at inner in c .is
 
-        pub grown-closed : {fin : List ℕ} {m : ℕ} {j : Far} → o ≡ Closed m j → Wrote out fin (j .used) (2 ∷ 0 ∷ []) → Grown s a p f (m + 1) (behindRight j) x fin
+        pub grown-closed : {fin : List ℕ} {m : ℕ} {j : Far} → o ≡ Closed m j → Wrote out fin (j .used) (pieceItems right) → Grown s a p f (m + 1) (behindRight j) x fin
         grown-closed n v = let c = inner-ends n in grown-then there (grown-brace brace t w (c .here) (c .grown) v)
 
         pub reads-inner : (fin : List ℕ) → Unclosed o → Reads s a p f x fin (innerFault o)
@@ -300,8 +300,8 @@ module _ {s : List ℕ} {a : ℕ} {x y : List ℕ} {r : Inside} (z : Reads s a (
 -- ALL LENT BYTES
 
 module _ {s : List ℕ} {a : ℕ} {old out : List ℕ} {r : Whole} (x : Begins s a old out r) where
-  pub starts-pattern : {q t j : ℕ} → r ≡ Pattern q t j → Starts s a old out r
-  starts-pattern e = record { begins = x; zeros = rw e tt }
+  pub starts-pattern : {q t j : ℕ} → r ≡ Pattern q t j → Starts s a old out (Pattern q t j)
+  starts-pattern e = record { begins = rw e at x; zeros = tt }
 
   pub starts-fault : {f : Fault} {q : ℕ} → r ≡ NoWhole f q → {fin : List ℕ} {k : ℕ} → Wrote out fin 0 (replicate k 0) → k ≡ length fin → length fin ≡ length old → Starts s a old fin (NoWhole f q)
   starts-fault e {fin} {k} w g h = record { begins = rw e at x; zeros = wrote-all w (length-replicate {A = ℕ} k 0 ∙ g) ∙ ap (λ (n : ℕ). replicate {A = ℕ} n 0) (g ∙ h) }

@@ -7,26 +7,25 @@ use lib.Dec.{ltb, eqb}
 use lib.ListN.{length, replicate}
 use Rattle.macros.specs.Bounds.{mostMacroBytes, mostTags}
 use Rattle.macros.specs.Macro.{Closure, Member, Mark, PatternUnit, Piece, Macro, pick, tags, elements, depth}
-use Rattle.macros.specs.Macro.Closure.{once, oneOrMore, zeroOrMore}
 use Rattle.macros.specs.Macro.Mark.{stack, counter}
-use Rattle.macros.specs.Macro.PatternUnit.{literal, kind, class, callOf}
+use Rattle.macros.specs.Macro.PatternUnit.{class}
 use Rattle.macros.specs.Macro.Piece.{element, start, end, left, right}
 use Rattle.macros.specs.Read.{Part}
 use Rattle.macros.specs.Read.Held.{nothing, unit, query, marked}
 use Rattle.macros.specs.Read.Last.{free}
 use Rattle.macros.specs.Read.Part.{pattern, members, patternCall, awaitSymbol}
 use Rattle.macros.specs.Read.Read.{refusedAt}
-use Rattle.form_table.specs.Form.{closureCode, unitCode, unitOperand, unitRest, pieceItems, patternItems}
+use Rattle.form_table.specs.Form.{unitRest, pieceItems, patternItems}
+use Rattle.form_element.specs.Element.{unitOf, codeClosure, elementOf}
 use Rattle.read_scan.specs.Scan.{faultOf, run, Here, Reached}
 use Rattle.form_items.specs.Items.{Wrote, itemsOf}
 use Rattle.read_scan.specs.declared.Fault.the-variants.{Incomplete, BadBrace}
 use Rattle.read_scan.specs.declared.Next.{Next}
 use Rattle.read_scan.specs.declared.Next.the-variants.{Byte, Refused as NoByte}
-use Rattle.read_pattern.specs.declared.Unit.{Unit as CodeUnit}
-use Rattle.read_pattern.specs.declared.Unit.the-variants.{Literal, Kind, Class, ClassNot, StackCall, CounterCall}
-use Rattle.read_pattern.specs.declared.Closure.{Closure as CodeClosure}
-use Rattle.read_pattern.specs.declared.Closure.the-variants.{Once, OneOrMore, ZeroOrMore}
-use Rattle.read_pattern.specs.declared.Element.{Element}
+use Rattle.form_element.specs.declared.Unit.{Unit as CodeUnit}
+use Rattle.form_element.specs.declared.Unit.the-variants.{Literal, Kind, Class, ClassNot, StackCall, CounterCall, Start, End, Left, Right}
+use Rattle.form_element.specs.declared.Closure.{Closure as CodeClosure}
+use Rattle.form_element.specs.declared.Element.{Element}
 use Rattle.read_pattern.specs.declared.Item.{Item}
 use Rattle.read_pattern.specs.declared.Item.the-variants.{Got, Refused as NoItem}
 use Rattle.read_pattern.specs.declared.Put.{Put}
@@ -37,29 +36,6 @@ use Rattle.read_pattern.specs.declared.Inside.the-variants.{Closed, Quot
 use Rattle.read_pattern.specs.declared.Whole.{Whole}
 use Rattle.read_pattern.specs.declared.Whole.the-variants.{Pattern, Refused as NoWhole}
 
--- the unit of a code's unit and, for a class, its members
-abbrev pub unitOf : CodeUnit → List Member → PatternUnit
-unitOf (Literal b) xs = literal b
-unitOf (Kind n) xs = kind n
-unitOf Class xs = class false xs
-unitOf ClassNot xs = class true xs
-unitOf (StackCall i) xs = callOf stack i
-unitOf (CounterCall i) xs = callOf counter i
-
--- the closure of the code's
-abbrev pub closureOf : CodeClosure → Closure
-closureOf Once = once
-closureOf OneOrMore = oneOrMore
-closureOf ZeroOrMore = zeroOrMore
-
--- the piece of an element and, for a class, its members
-abbrev pub pieceOf : Element → List Member → Piece
-pieceOf e xs = element (unitOf (e .unit) xs) (closureOf (e .closure))
-
--- the first item of an element; its members do not matter
-abbrev pub headItems : Element → List ℕ
-headItems e = (4 * unitCode (unitOf (e .unit) []) + closureCode (closureOf (e .closure))) ∷ unitOperand (unitOf (e .unit) []) ∷ []
-
 -- an element, the place behind it and the end of what is written of it
 abbrev pub gotItem : CodeUnit → CodeClosure → ℕ → ℕ → Item
 gotItem u c q n = Got (record { unit = u; closure = c }) q n
@@ -68,35 +44,38 @@ gotItem u c q n = Got (record { unit = u; closure = c }) q n
 abbrev pub markAt : ℕ → Mark
 markAt b = pick (eqb b 38) stack counter
 
--- the unit u, read before place p, with its closure read up to q
+-- e is u with the closure that is read from place p up to q, behind any unit
 pub record Joined (s : List ℕ) (a p : ℕ) (u : CodeUnit) (e : Element) (q : ℕ) : Type 0 where
   pub further : p ≤ q
   pub reached : Reached s a q
-  pub same : e .unit ≡ u
-  pub answer : (xs : List Member) (ps : List Piece) (ms : List Macro)
-      → run s a ms false p (pattern (unit (unitOf u xs)) ps) ≡ run s a ms false q (pattern nothing (pieceOf e xs ∷ ps))
+  pub its : Closure
+  pub same : e ≡ record { unit = u; closure = codeClosure its }
+  pub answer : (v : PatternUnit) (ps : List Piece) (ms : List Macro)
+      → run s a ms false p (pattern (unit v) ps) ≡ run s a ms false q (pattern nothing (element v its ∷ ps))
 
 -- the element with its closure, or the refusal
 abbrev pub JoinsBy : List ℕ → ℕ → ℕ → CodeUnit → ℕ → Item → Type 0
 JoinsBy s a p u n (Got e q m) = (m ≡ n) × Joined s a p u e q
 JoinsBy s a p u n (NoItem f q) =
-    (q ≤ length s) × ((xs : List Member) (ps : List Piece) (ms : List Macro) → run s a ms false p (pattern (unit (unitOf u xs)) ps) ≡ refusedAt (faultOf f) q)
+    (q ≤ length s) × ((v : PatternUnit) (ps : List Piece) (ms : List Macro) → run s a ms false p (pattern (unit v) ps) ≡ refusedAt (faultOf f) q)
 
 -- what reading a closure from p on says, by the answer
 pub record Joins (s : List ℕ) (a p : ℕ) (u : CodeUnit) (n : ℕ) (r : Item) : Type 0 where
   pub is : JoinsBy s a p u n r
 
--- from the state F at p the machine reads the element e up to q, at v or further; what stands behind its head is written from n up to m
+-- from the state F at p the machine reads the element e up to q, at v or further; what stands behind its item is written from n up to m
 pub record Made (s : List ℕ) (a p v : ℕ) (F : List Piece → Part) (old out : List ℕ) (n : ℕ) (e : Element) (q m : ℕ) : Type 0 where
-  pub xs : List Member
+  pub itsUnit : PatternUnit
+  pub itsClosure : Closure
+  pub same : e ≡ elementOf (element itsUnit itsClosure)
   pub further : v ≤ q
   pub reached : Reached s a q
   pub room : m ≤ n + 2 * (q - v)
-  pub answer : (ps : List Piece) (ms : List Macro) → run s a ms false p (F ps) ≡ run s a ms false q (pattern nothing (pieceOf e xs ∷ ps))
-  pub wrote : Wrote old out n (unitRest (unitOf (e .unit) xs))
-  pub used : m ≡ n + length (unitRest (unitOf (e .unit) xs))
+  pub answer : (ps : List Piece) (ms : List Macro) → run s a ms false p (F ps) ≡ run s a ms false q (pattern nothing (element itsUnit itsClosure ∷ ps))
+  pub wrote : Wrote old out n (unitRest itsUnit)
+  pub used : m ≡ n + length (unitRest itsUnit)
 
--- the element and what is written behind its head, or the refusal
+-- the element and what is written behind its item, or the refusal
 abbrev pub MakesBy : List ℕ → ℕ → ℕ → ℕ → (List Piece → Part) → List ℕ → List ℕ → ℕ → Item → Type 0
 MakesBy s a p v F old out n (Got e q m) = Made s a p v F old out n e q m
 MakesBy s a p v F old out n (NoItem f q) = (q ≤ length s) × ((ps : List Piece) (ms : List Macro) → run s a ms false p (F ps) ≡ refusedAt (faultOf f) q)
@@ -105,7 +84,7 @@ MakesBy s a p v F old out n (NoItem f q) = (q ≤ length s) × ((ps : List Piece
 pub record Makes (s : List ℕ) (a p v : ℕ) (F : List Piece → Part) (old out : List ℕ) (n : ℕ) (r : Item) : Type 0 where
   pub is : MakesBy s a p v F old out n r
 
--- the same of an element that has nothing behind its head, whatever the lent bytes are
+-- the same of an element that has nothing behind its item, whatever the lent bytes are
 abbrev pub MakesOne : List ℕ → ℕ → ℕ → (List Piece → Part) → ℕ → Item → Type 0
 MakesOne s a p F n r = (out : List ℕ) → Makes s a p p F out out n r
 
@@ -137,10 +116,14 @@ negOf Class = false
 negOf ClassNot = true
 negOf (StackCall i) = false
 negOf (CounterCall i) = false
+negOf Start = false
+negOf End = false
+negOf Left = false
+negOf Right = false
 
 -- that the code's unit is a class
 abbrev pub IsClass : CodeUnit → Type 0
-IsClass u = (xs : List Member) → unitOf u xs ≡ class (negOf u) xs
+IsClass u = (xs : List Member) → unitOf (class (negOf u) xs) ≡ u
 
 -- room for two bytes for each byte that the macro may still have from p on
 abbrev pub Room : List ℕ → ℕ → ℕ → ℕ → Type 0

@@ -1,32 +1,11 @@
 // Reads patterns. What each answer says of the machine of the definitions stands in specs/.
-mod codes;
 pub mod pattern;
 
+use form_element::Element;
 use read_scan::Fault;
 
 // The tags of a pattern.
 pub(crate) const MOST_TAGS: usize = 99;
-
-// What a closure may follow. The members of a class stand in the lent bytes, behind its head.
-pub(crate) enum Unit {
-    Literal(u8),
-    Kind(u8),
-    Class,
-    ClassNot,
-    StackCall(u8),
-    CounterCall(u8),
-}
-
-pub(crate) enum Closure {
-    Once,
-    OneOrMore,
-    ZeroOrMore,
-}
-
-pub(crate) struct Element {
-    pub(crate) unit: Unit,
-    pub(crate) closure: Closure,
-}
 
 // An element, the place behind it, and the end of what is written of it.
 pub(crate) enum Item {

@@ -1,7 +1,5 @@
 // Reads a pattern and writes its items. Everywhere s is the file, a the place of the macro's first quote, and out the lent bytes.
 use crate::ClassByte;
-use crate::Closure;
-use crate::Element;
 use crate::Far;
 use crate::Inside;
 use crate::Item;
@@ -9,23 +7,16 @@ use crate::Last;
 use crate::MOST_TAGS;
 use crate::Put;
 use crate::Taken;
-use crate::Unit;
 use crate::Whole;
-use crate::codes::CLASS;
-use crate::codes::CLASS_END;
-use crate::codes::CLASS_NOT;
-use crate::codes::COUNTER_CALL;
-use crate::codes::END;
-use crate::codes::KIND;
-use crate::codes::LEFT;
-use crate::codes::LITERAL;
-use crate::codes::RANGE;
-use crate::codes::RANGE_END;
-use crate::codes::RIGHT;
-use crate::codes::SINGLE;
-use crate::codes::STACK_CALL;
-use crate::codes::START;
+use form_element::Closure;
+use form_element::Element;
+use form_element::Unit;
+use form_element::put_element;
 use form_items::clear;
+use form_items::codes::CLASS_END;
+use form_items::codes::RANGE;
+use form_items::codes::RANGE_END;
+use form_items::codes::SINGLE;
 use form_items::put_item;
 use read_bytes::escaped_byte;
 use read_bytes::is_break;
@@ -39,19 +30,21 @@ use read_scan::scan::next_byte;
 use read_scan::scan::wrong_byte;
 ghost use mathlib.Core.Path.{_≡_};
 ghost use mathlib.Core.Bool.{true};
-ghost use mathlib.Core.List.{[], _∷_};
 ghost use Prim.Native.Nat.{_≤_, _<_, _+_};
 ghost use lib.ListN.{length};
 ghost use Rattle.macros.specs.Bounds.{mostTags};
 ghost use Rattle.macros.specs.Macro.{upper, isRange, markByte};
 ghost use Rattle.macros.specs.Macro.PatternUnit.{callOf};
+ghost use Rattle.macros.specs.Macro.Piece.{left, right};
 ghost use Rattle.macros.specs.Read.{kindDigit};
 ghost use Rattle.macros.specs.Read.Part.{patternEscape, opened};
-ghost use Rattle.form_table.specs.Form.{closureCode, slotBytes};
+ghost use Rattle.form_table.specs.Form.{slotBytes, pieceItems};
+ghost use Rattle.form_element.specs.Element.{unitOf};
+ghost use Rattle.form_element.specs.declared.Closure.the-variants.{Once};
 ghost use Rattle.read_scan.specs.Scan.{Reached, Here};
 ghost use Rattle.form_items.specs.Items.{Wrote};
 ghost use Rattle.read_pattern.specs.Class.{Meeting, Plain, Taking, pending, lastItems, Classing, byteFault, putFault};
-ghost use Rattle.read_pattern.specs.Pattern.{Joins, Makes, MakesOne, Pieces, Reads, Begins, Starts, Inner, Room, IsClass, atQuery, atMark, atCall, atClass, atFresh, markAt, negOf, unitOf, closureOf, headItems, gotItem, behindLeft, behindRight, behindElement, itemFault, classFault, elementFault, insideFault, pieceFault, innerFault, wholeFault};
+ghost use Rattle.read_pattern.specs.Pattern.{Joins, Makes, MakesOne, Pieces, Reads, Begins, Starts, Inner, Room, IsClass, atQuery, atMark, atCall, atClass, atFresh, markAt, negOf, gotItem, behindLeft, behindRight, behindElement, itemFault, classFault, elementFault, insideFault, pieceFault, innerFault, wholeFault};
 
 fn got(unit: Unit, closure: Closure, at: usize, end: usize) -> Item
     ensures { λ r. ⌜ r ≡ gotItem unit closure at end ⌝ }
@@ -117,7 +110,7 @@ fn query(s: &[u8], a: usize, at: usize, end: usize) -> Item
 
 // A call of a stack or of a counter, by its sign.
 fn call_unit(sign: u8, i: u8) -> Unit
-    ensures { λ r. ⌜ unitOf r [] ≡ callOf (markAt sign) i ⌝ }
+    ensures { λ r. ⌜ r ≡ unitOf (callOf (markAt sign) i) ⌝ }
 {
     if sign == b'&' {
         return Unit::StackCall(i);
@@ -329,62 +322,44 @@ fn element(s: &[u8], out: &mut [u8], a: usize, at: usize, b: u8, n: usize) -> It
     with_closure(s, a, Unit::Literal(b), at + 1, n)
 }
 
-fn closure_code(c: Closure) -> u8
-    ensures { λ r. ⌜ (r ≡ closureCode (closureOf c)) × (r ≤ 2) ⌝ }
+// What has no closure.
+fn once(unit: Unit) -> Element
+    ensures { λ r. ⌜ r ≡ record { unit = unit; closure = Once } ⌝ }
 {
-    match c {
-        Closure::Once => 0,
-        Closure::OneOrMore => 1,
-        Closure::ZeroOrMore => 2,
+    Element {
+        unit,
+        closure: Closure::Once,
     }
 }
 
-// Stores the head of an element: its unit's code with its closure's, and the unit's byte.
-fn put_head(out: &mut [u8], n: usize, e: Element)
-    requires { ⌜ n + 1 < length (now out) ⌝ }
-    ensures { λ _. ⌜ Wrote (now (out .entry)) (now (out .exit)) n (headItems e) ⌝ }
-{
-    let closure = e.closure;
-    let k = closure_code(closure);
-    let unit = e.unit;
-    match unit {
-        Unit::Literal(b) => put_item(out, n, LITERAL + k, b),
-        Unit::Kind(m) => put_item(out, n, KIND + k, m),
-        Unit::StackCall(i) => put_item(out, n, STACK_CALL + k, i),
-        Unit::CounterCall(i) => put_item(out, n, COUNTER_CALL + k, i),
-        Unit::Class => put_item(out, n, CLASS + k, 0),
-        Unit::ClassNot => put_item(out, n, CLASS_NOT + k, 0),
-    }
-}
-
-// An element, `^` or `$`. The head stands before a class's members and is stored last, with the closure.
+// An element, `^` or `$`. Its item stands before a class's members and is stored last, with the closure.
 fn piece(s: &[u8], out: &mut [u8], a: usize, at: usize, b: u8, n: usize) -> Put
     requires { ⌜ Here (now s) a at b × Inner b × Room (now out) a at n ⌝ }
     ensures { λ r. ⌜ Pieces (now (s .entry)) a at (now (out .entry)) (now (out .exit)) n r ⌝ }
 {
     if b == b'^' {
-        put_item(out, n, START, 0);
+        put_element(out, n, once(Unit::Start));
         return Put::At(at + 1, n + 2);
     }
     if b == b'$' {
-        put_item(out, n, END, 0);
+        put_element(out, n, once(Unit::End));
         return Put::At(at + 1, n + 2);
     }
     let item = element(s, out, a, at, b, n + 2);
     let Item::Got(e, q, end) = item else {
         return element_fault(item);
     };
-    put_head(out, n, e);
+    put_element(out, n, e);
     Put::At(q, end)
 }
 
 // A left brace: one tag more.
 fn open_tag(out: &mut [u8], far: Far) -> Far
     requires { ⌜ (far .tags < mostTags) × (far .used + 1 < length (now out)) ⌝ }
-    ensures { λ r. ⌜ (r ≡ behindLeft far) × Wrote (now (out .entry)) (now (out .exit)) (far .used) (1 ∷ 0 ∷ []) ⌝ }
+    ensures { λ r. ⌜ (r ≡ behindLeft far) × Wrote (now (out .entry)) (now (out .exit)) (far .used) (pieceItems left) ⌝ }
 {
     let n = far.used;
-    put_item(out, n, LEFT, 0);
+    put_element(out, n, once(Unit::Left));
     Far {
         tags: far.tags + 1,
         some: far.some,
@@ -392,12 +367,13 @@ fn open_tag(out: &mut [u8], far: Far) -> Far
     }
 }
 
+// A right brace: the tag is complete.
 fn close_tag(out: &mut [u8], far: Far) -> Far
     requires { ⌜ far .used + 1 < length (now out) ⌝ }
-    ensures { λ r. ⌜ (r ≡ behindRight far) × Wrote (now (out .entry)) (now (out .exit)) (far .used) (2 ∷ 0 ∷ []) ⌝ }
+    ensures { λ r. ⌜ (r ≡ behindRight far) × Wrote (now (out .entry)) (now (out .exit)) (far .used) (pieceItems right) ⌝ }
 {
     let n = far.used;
-    put_item(out, n, RIGHT, 0);
+    put_element(out, n, once(Unit::Right));
     Far {
         tags: far.tags,
         some: far.some,
@@ -476,18 +452,18 @@ fn pieces(s: &[u8], out: &mut [u8], a: usize) -> Whole
     Whole::Refused(Fault::NoElement, q)
 }
 
-// The same; a refusal leaves zeros in the lent bytes.
+// The pattern of the macro whose first quote stands at a; a refusal leaves zeros in the lent bytes.
 pub fn whole(s: &[u8], out: &mut [u8], a: usize) -> Whole
     requires { ⌜ (a < length (now s)) × (slotBytes ≤ length (now out)) ⌝ }
     ensures { λ r. ⌜ Starts (now (s .entry)) a (now (out .entry)) (now (out .exit)) r ⌝ }
 {
     let read = pieces(s, out, a);
-    let Whole::Refused(f, q) = read else {
+    let Whole::Pattern(q, tags, used) = read else {
+        let size = out.len();
+        clear(out, 0, size);
         return read;
     };
-    let size = out.len();
-    clear(out, 0, size);
-    Whole::Refused(f, q)
+    Whole::Pattern(q, tags, used)
 }
 
 // REFUSALS HANDED ON, each with its place. Callers hand on nothing else, so the other arms are never taken.

@@ -8,7 +8,7 @@ pub enum Fault {
     CounterTooHigh,
 }
 
-// How many bytes there are then; or a refusal, with the bytes by then. They are bytes of the new line in what `occurrence` of `replacing` returns, and of its scratch text inside `replacing`.
+// The bytes that the new line has then; or a refusal, with the bytes that it has by then.
 pub enum Outcome {
     Made(usize),
     Refused(Fault, usize),

@@ -3,8 +3,8 @@ use crate::hex::put_hex;
 use crate::lends::no_state;
 use crate::lends::no_table;
 use crate::lends::other_size;
+use libc::STDOUT_FILENO;
 use line_answer::Answer;
-use program_out::flush;
 use program_out::put_text;
 ghost use Prim.Native.Nat.{_≤_};
 ghost use lib.ListN.{length};
@@ -16,7 +16,14 @@ pub(crate) fn write_reply(out: &mut [u8; 4096], text: &[u8; 32768], which: u8, a
     let a = put_head(out, form, answer);
     let b = put_tail(out, a, text, form, answer.length);
     let c = put_text(out, b, b"\n");
-    flush(out, c);
+    write_held(out, c);
+}
+
+// Writes out what is held.
+fn write_held(out: &[u8], used: usize)
+    requires { ⌜ used ≤ length (now out) ⌝ }
+{
+    io::write_all(STDOUT_FILENO, &out[..used]);
 }
 
 // The form of an answer: its command's, or 6 for a refusal. The answer to `feed` has one form.

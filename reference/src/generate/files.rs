@@ -1,6 +1,6 @@
 //! Macro files: good ones, damaged ones, and tokens in any order.
 
-use super::{any_macro, Random, SPECIAL};
+use super::{any_macro, Random, HIGH, SPECIAL};
 use crate::macros::{Action, Class, Item, Macro};
 use crate::spell::{shortest_spelling, Shortest};
 use crate::spelling::{spell_macro, Rule};
@@ -78,7 +78,11 @@ pub fn good_file(random: &mut Random, odd: bool, count: usize) -> Vec<u8> {
 pub fn damaged_file(random: &mut Random, mut file: Vec<u8>) -> Vec<u8> {
     for _ in 0..1 + random.below(3) {
         let place = random.below(file.len() + 1);
-        let byte = if random.one_in(40) { 0 } else { *random.pick(SPECIAL) };
+        let byte = match random.below(40) {
+            0 => 0,
+            1 | 2 => *random.pick(HIGH),
+            _ => *random.pick(SPECIAL),
+        };
         match random.below(5) {
             0 | 1 => file.insert(place, byte),
             2 if place < file.len() => file[place] = byte,
@@ -98,11 +102,17 @@ const TOKENS: &[&str] = &[
     " ", "\t", "\n", "\"", "{1}", "(", "&", "#", "&(1,a)", "&(a:x:)", "#(a=5)", "\u{7f}",
 ];
 
+/// Bytes over 127 as a class's member, as a range's end, and alone.
+const HIGH_TOKENS: &[&[u8]] = &[b"[\xe9]", b"[a-\xe9]", b"[\xc0-\xd6]", b"\xe9"];
+
 /// Tokens in any order, sometimes after the start of a good macro.
 pub fn shuffled_file(random: &mut Random) -> Vec<u8> {
     let starts = ["", "", "'", "'a'='", "'{a}'='", "'a'=''", "'{a}'<'{1}'", "'['", "'a'='b';"];
     let mut file = random.pick(&starts).as_bytes().to_vec();
     for _ in 0..1 + random.below(12) {
+        if random.one_in(20) {
+            file.extend(*random.pick(HIGH_TOKENS));
+        }
         file.extend_from_slice(random.pick(TOKENS).as_bytes());
     }
     file

@@ -1,6 +1,6 @@
 //! Lines for a table, control lines among them, and cases of both.
 
-use super::{damaged_file, good_file, Case, Random};
+use super::{damaged_file, good_file, Case, Random, HIGH};
 use crate::kinds::is_kind;
 use crate::macros::{Closure, Element, Item, Macro, Unit};
 use crate::read::read_file;
@@ -25,7 +25,8 @@ fn matched_text(random: &mut Random, pattern: &[Item]) -> Vec<u8> {
 
 fn matched_byte(random: &mut Random, unit: &Unit) -> Option<u8> {
     let fits = |random: &mut Random, test: &dyn Fn(u8) -> bool| {
-        let found: Vec<u8> = b"ab1-A; ~".iter().copied().filter(|byte| test(*byte)).collect();
+        let bytes: &[u8] = if random.one_in(4) { HIGH } else { b"ab1-A; ~" };
+        let found: Vec<u8> = bytes.iter().copied().filter(|byte| test(*byte)).collect();
         if found.is_empty() {
             None
         } else {
@@ -41,6 +42,11 @@ fn matched_byte(random: &mut Random, unit: &Unit) -> Option<u8> {
     }
 }
 
+fn any_byte(random: &mut Random) -> u8 {
+    let bytes: &[u8] = if random.one_in(12) { HIGH } else { b"aab1-c " };
+    *random.pick(bytes)
+}
+
 /// A line: often bytes that one of the macros could match.
 pub fn any_line(random: &mut Random, table: &[Macro]) -> Vec<u8> {
     if random.one_in(8) {
@@ -49,7 +55,8 @@ pub fn any_line(random: &mut Random, table: &[Macro]) -> Vec<u8> {
     let mut line = Vec::new();
     for _ in 0..1 + random.below(3) {
         if random.one_in(2) || table.is_empty() {
-            line.extend((0..random.below(5)).map(|_| *random.pick(b"aab1-c ")));
+            let length = random.below(5);
+            line.extend((0..length).map(|_| any_byte(random)));
         } else {
             let of = random.below(table.len());
             line.extend(matched_text(random, &table[of].pattern));

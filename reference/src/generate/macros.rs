@@ -1,6 +1,6 @@
 //! Macros of a few elements and actions.
 
-use super::{Random, SPECIAL};
+use super::{Random, HIGH, SPECIAL};
 use crate::macros::{
     Action, Class, Closure, Element, Item, Macro, Member, Move, Sign, Symbol, Unit,
 };
@@ -62,6 +62,7 @@ fn any_unit(random: &mut Random, odd: bool) -> Unit {
 fn any_byte(random: &mut Random, odd: bool) -> u8 {
     match odd {
         true if random.one_in(20) => 1 + random.below(255) as u8,
+        _ if random.one_in(20) => *random.pick(HIGH),
         true => *random.pick(SPECIAL),
         false => *random.pick(PLAIN),
     }

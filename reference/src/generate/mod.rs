@@ -52,3 +52,6 @@ impl Random {
 
 /// Bytes with a meaning of their own somewhere in a macro file.
 const SPECIAL: &[u8] = b"$^*[]?&#(){}/\\';-~:=<,+ \"\n\t123ab";
+
+/// Bytes over 127: letters of both cases, the signs between them, and others.
+const HIGH: &[u8] = b"\xe9\xc9\xdf\xff\xc0\xd6\xd8\xde\xf6\xf8\xd7\xf7\xaa\xb5\xba\xbf\x80";

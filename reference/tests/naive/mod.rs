@@ -1,7 +1,10 @@
 //! All divisions, listed straight from 01, part 3, and a pass put together
 //! from them in the words of demand 3. Slow; for small cases only.
 
-use m7_reference::kinds::is_kind;
+#[allow(dead_code)]
+pub mod letters;
+
+use letters::is_kind;
 use m7_reference::macros::{Closure, Element, Item, Macro, Unit};
 use m7_reference::matching::Division;
 use m7_reference::refusal::Refusal;

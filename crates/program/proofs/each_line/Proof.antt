@@ -45,8 +45,8 @@ loop-less c = search needs
 loop-again : tie.Need-loop-again Inv-loop μ-loop
 loop-again c = (search needs, search needs, search needs, search needs, λ a l. lines-more (c .before .before .before .before .before .before .before .before .before .before .before .before .loop .inv .4 a l) (c .before .before .before .before .before .before .before .before .before .before .if1 .taken) (c .before .before .before .before .before .answer-line .ensures .0) (c .before .before .next-line2 .ensures) refl)
 
-flush-requires : tie.Need-flush-requires Inv-loop μ-loop
-flush-requires c κs = search needs
+write-held-requires : tie.Need-write-held-requires Inv-loop μ-loop
+write-held-requires c κs = search needs
 
 same-length : tie.Need-same-length Inv-loop μ-loop
 same-length c = search needs
@@ -68,6 +68,6 @@ each-line-spec =
     add-number
     loop-less
     loop-again
-    flush-requires
+    write-held-requires
     same-length
     returns)

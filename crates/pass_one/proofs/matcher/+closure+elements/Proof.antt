@@ -3,7 +3,8 @@ use mathlib.Core.Path.{refl, sym, _∙_}
 use native.Mathlib.Omega.{arith}
 use borrow.Author.Tests.{eqb-true}
 use lib.ListN.{length, length-set}
-use Rattle.pass_one.proofs.TryLaws.{again-wide, read-inside, stands, tried-done, tried-nothing, tried-more, tried-ended, next-trying, next-inside, copied-marked, at-small, in-row, in-ends, place-small}
+use Rattle.pass_one.proofs.ItemLaws.{piece-here}
+use Rattle.pass_one.proofs.TryLaws.{again-wide, read-inside, stands, element-here, tried-done, tried-nothing, tried-more, tried-ended, next-trying, next-inside, copied-marked, at-small, in-row, in-ends, place-small}
 use Rattle.pass_one.proofs.RowLaws.{row-small, start-place, start-small, copied-first, copied-none, upper-repeating, copied-upper, lower-repeating, copied-lower, count-inside}
 use mir.Val.{Fits}
 use mir.Syntax.{w16, w64}
@@ -21,7 +22,7 @@ use Rattle.pass_marks.proofs.is_marked.Reads as is-marked-reads
 use Rattle.pass_marks.proofs.set_mark.Reads as set-mark-reads
 use Rattle.pass_one.proofs.matcher.most_copies.Reads as most-copies-reads
 use Rattle.pass_one.proofs.unit.behind.Reads as behind-reads
-use Rattle.pass_one.proofs.unit.element_at.Reads as element-at-reads
+use Rattle.form_element.proofs.element_at.Reads as element-at-reads
 use Rattle.pass_one.proofs.matcher.ended.Reads as ended-reads
 use Rattle.pass_one.proofs.unit.lead_at.Reads as lead-at-reads
 use Rattle.pass_one.proofs.unit.may_repeat.Reads as may-repeat-reads
@@ -142,13 +143,13 @@ elements-returns : (t : ℕ) → elements-lts.Need-returns (element-at-reads.Ask
 elements-returns t c = tried-done (c .before .before .before .before .before .before .args .items .now) (c .before .before .before .before .before .before .args .kinds .now) (c .before .before .before .before .before .before .args .state .now) (c .before .before .before .before .before .before .args .line .now) (c .before .before .before .before .before .before .args .at) (c .before .before .before .before .before .before .args .p) (c .before .before .before .before .before .before .args .marks .now) (c .before .before .before .before .before .before .args .ends .now) (c .before .before .before .before .before .before .pre .1) (c .if1 .taken)
 
 elements-element-at-requires : (t : ℕ) → elements-lts.Need-element-at-requires (element-at-reads.Asked, element-at-reads.Learnt, width-of-reads.Asked, width-of-reads.Learnt, lead-at-reads.Asked, lead-at-reads.Learnt, behind-reads.Asked, behind-reads.Learnt, may-repeat-reads.Asked, may-repeat-reads.Learnt, is-marked-reads.Asked, is-marked-reads.Learnt, most-copies-reads.Asked, most-copies-reads.Learnt, closure-below t, closure.Post, elements-below t, elements.Post, ended-reads.Asked, ended-reads.Learnt) (elements-at t) elements.Post
-elements-element-at-requires t c κs = stands _ _ _ _ _ _ _ _ (c .before .before .before .before .before .before .pre .1) (c .if1 .left)
+elements-element-at-requires t c κs = piece-here _ _ (stands _ _ _ _ _ _ _ _ (c .before .before .before .before .before .before .pre .1) (c .if1 .left))
 
 elements-width-of-requires : (t : ℕ) → elements-lts.Need-width-of-requires (element-at-reads.Asked, element-at-reads.Learnt, width-of-reads.Asked, width-of-reads.Learnt, lead-at-reads.Asked, lead-at-reads.Learnt, behind-reads.Asked, behind-reads.Learnt, may-repeat-reads.Asked, may-repeat-reads.Learnt, is-marked-reads.Asked, is-marked-reads.Learnt, most-copies-reads.Asked, most-copies-reads.Learnt, closure-below t, closure.Post, elements-below t, elements.Post, ended-reads.Asked, ended-reads.Learnt) (elements-at t) elements.Post
-elements-width-of-requires t c κs = (c .before .before .before .before .before .before .before .pre .1 .given .state, c .element-at .ensures .unit .letter)
+elements-width-of-requires t c κs = (c .before .before .before .before .before .before .before .pre .1 .given .state, (element-here _ _ _ _ _ _ _ _ (c .before .before .before .before .before .before .before .pre .1) (c .before .if1 .left) _ (c .element-at .ensures)) .unit .letter)
 
 elements-lead-at-requires : (t : ℕ) → elements-lts.Need-lead-at-requires (element-at-reads.Asked, element-at-reads.Learnt, width-of-reads.Asked, width-of-reads.Learnt, lead-at-reads.Asked, lead-at-reads.Learnt, behind-reads.Asked, behind-reads.Learnt, may-repeat-reads.Asked, may-repeat-reads.Learnt, is-marked-reads.Asked, is-marked-reads.Learnt, most-copies-reads.Asked, most-copies-reads.Learnt, closure-below t, closure.Post, elements-below t, elements.Post, ended-reads.Asked, ended-reads.Learnt) (elements-at t) elements.Post
-elements-lead-at-requires t c κs = record { copying = record { unit = c .before .element-at .ensures .unit; table = c .before .before .before .before .before .before .before .before .pre .1 .given .table; state = c .before .before .before .before .before .before .before .before .pre .1 .given .state; place = c .before .before .before .before .before .before .before .before .pre .1 .place }; wide = c .width-of .ensures }
+elements-lead-at-requires t c κs = record { copying = record { unit = (element-here _ _ _ _ _ _ _ _ (c .before .before .before .before .before .before .before .before .pre .1) (c .before .before .if1 .left) _ (c .before .element-at .ensures)) .unit; table = c .before .before .before .before .before .before .before .before .pre .1 .given .table; state = c .before .before .before .before .before .before .before .before .pre .1 .given .state; place = c .before .before .before .before .before .before .before .before .pre .1 .place }; wide = c .width-of .ensures }
 
 elements-enum-known-q : (t : ℕ) → elements-lts.Need-enum-known-q (element-at-reads.Asked, element-at-reads.Learnt, width-of-reads.Asked, width-of-reads.Learnt, lead-at-reads.Asked, lead-at-reads.Learnt, behind-reads.Asked, behind-reads.Learnt, may-repeat-reads.Asked, may-repeat-reads.Learnt, is-marked-reads.Asked, is-marked-reads.Learnt, most-copies-reads.Asked, most-copies-reads.Learnt, closure-below t, closure.Post, elements-below t, elements.Post, ended-reads.Asked, ended-reads.Learnt) (elements-at t) elements.Post
 elements-enum-known-q t c = c .match .keys1
@@ -157,28 +158,28 @@ elements-enum-told : (t : ℕ) → elements-lts.Need-enum-told (element-at-reads
 elements-enum-told t c = c .match .keys2
 
 elements-returns-2 : (t : ℕ) → elements-lts.Need-returns-2 (element-at-reads.Asked, element-at-reads.Learnt, width-of-reads.Asked, width-of-reads.Learnt, lead-at-reads.Asked, lead-at-reads.Learnt, behind-reads.Asked, behind-reads.Learnt, may-repeat-reads.Asked, may-repeat-reads.Learnt, is-marked-reads.Asked, is-marked-reads.Learnt, most-copies-reads.Asked, most-copies-reads.Learnt, closure-below t, closure.Post, elements-below t, elements.Post, ended-reads.Asked, ended-reads.Learnt) (elements-at t) elements.Post
-elements-returns-2 t c = tried-nothing (c .before .before .before .before .before .before .before .before .before .before .before .args .items .now) (c .before .before .before .before .before .before .before .before .before .before .before .args .state .now) (c .before .before .before .before .before .before .before .before .before .before .before .args .line .now) (c .before .before .before .before .before .before .before .before .before .before .before .args .at) (c .before .before .before .before .before .before .before .before .before .before .before .args .p) (c .before .before .before .before .before .if1 .left) (c .before .before .before .before .element-at .result) (c .before .before .before .width-of .result) (c .before .before .lead-at .result) (record { is = c .before .before .before .before .element-at .ensures; wide = c .before .before .before .width-of .ensures; lead = c .before .before .lead-at .ensures }) (c .before .before .before .before .before .before .before .before .before .before .before .args .marks .now) (c .before .before .before .before .before .before .before .before .before .before .before .args .ends .now) (c .before .before .before .before .before .before .before .before .before .before .before .pre .1 .noted) (c .enum-told .given .1)
+elements-returns-2 t c = tried-nothing (c .before .before .before .before .before .before .before .before .before .before .before .args .items .now) (c .before .before .before .before .before .before .before .before .before .before .before .args .state .now) (c .before .before .before .before .before .before .before .before .before .before .before .args .line .now) (c .before .before .before .before .before .before .before .before .before .before .before .args .at) (c .before .before .before .before .before .before .before .before .before .before .before .args .p) (c .before .before .before .before .before .if1 .left) (c .before .before .before .before .element-at .result) (c .before .before .before .width-of .result) (c .before .before .lead-at .result) (record { is = element-here _ _ _ _ _ _ _ _ (c .before .before .before .before .before .before .before .before .before .before .before .pre .1) (c .before .before .before .before .before .if1 .left) _ (c .before .before .before .before .element-at .ensures); wide = c .before .before .before .width-of .ensures; lead = c .before .before .lead-at .ensures }) (c .before .before .before .before .before .before .before .before .before .before .before .args .marks .now) (c .before .before .before .before .before .before .before .before .before .before .before .args .ends .now) (c .before .before .before .before .before .before .before .before .before .before .before .pre .1 .noted) (c .enum-told .given .1)
 
 elements-behind-requires : (t : ℕ) → elements-lts.Need-behind-requires (element-at-reads.Asked, element-at-reads.Learnt, width-of-reads.Asked, width-of-reads.Learnt, lead-at-reads.Asked, lead-at-reads.Learnt, behind-reads.Asked, behind-reads.Learnt, may-repeat-reads.Asked, may-repeat-reads.Learnt, is-marked-reads.Asked, is-marked-reads.Learnt, most-copies-reads.Asked, most-copies-reads.Learnt, closure-below t, closure.Post, elements-below t, elements.Post, ended-reads.Asked, ended-reads.Learnt) (elements-at t) elements.Post
-elements-behind-requires t c κs = c .before .before .before .before .before .element-at .ensures .unit
+elements-behind-requires t c κs = (element-here _ _ _ _ _ _ _ _ (c .before .before .before .before .before .before .before .before .before .before .before .before .pre .1) (c .before .before .before .before .before .before .if1 .left) _ (c .before .before .before .before .before .element-at .ensures)) .unit
 
 elements-may-repeat-requires : (t : ℕ) → elements-lts.Need-may-repeat-requires (element-at-reads.Asked, element-at-reads.Learnt, width-of-reads.Asked, width-of-reads.Learnt, lead-at-reads.Asked, lead-at-reads.Learnt, behind-reads.Asked, behind-reads.Learnt, may-repeat-reads.Asked, may-repeat-reads.Learnt, is-marked-reads.Asked, is-marked-reads.Learnt, most-copies-reads.Asked, most-copies-reads.Learnt, closure-below t, closure.Post, elements-below t, elements.Post, ended-reads.Asked, ended-reads.Learnt) (elements-at t) elements.Post
 elements-may-repeat-requires t c κs = tt
 
 elements-is-marked-requires : (t : ℕ) → elements-lts.Need-is-marked-requires (element-at-reads.Asked, element-at-reads.Learnt, width-of-reads.Asked, width-of-reads.Learnt, lead-at-reads.Asked, lead-at-reads.Learnt, behind-reads.Asked, behind-reads.Learnt, may-repeat-reads.Asked, may-repeat-reads.Learnt, is-marked-reads.Asked, is-marked-reads.Learnt, most-copies-reads.Asked, most-copies-reads.Learnt, closure-below t, closure.Post, elements-below t, elements.Post, ended-reads.Asked, ended-reads.Learnt) (elements-at t) elements.Post
-elements-is-marked-requires t c κs = in-row _ _ _ _ _ (c .before .before .before .before .before .before .before .before .before .before .before .before .before .before .before .before .pre .1 .given) (c .before .before .before .before .before .before .before .before .before .element-at .ensures .unit .stands) _ _ (c .before .before .before .before .before .before .before .before .before .before .before .before .before .before .before .before .pre .1 .noted .size) (read-inside (c .before .before .before .before .before .before .before .before .before .before .before .before .before .before .before .before .args .items .now) (c .before .before .before .before .before .before .before .before .before .before .before .before .before .before .before .before .args .state .now) (c .before .before .before .before .before .before .before .before .before .before .before .before .before .before .before .before .args .line .now) (c .before .before .before .before .before .before .before .before .before .before .before .before .before .before .before .before .args .at) (c .before .before .before .before .before .before .before .before .before .before .before .before .before .before .before .before .args .p) (c .before .before .before .before .before .before .before .before .before .element-at .result) (c .before .before .before .before .before .before .before .before .width-of .result) (c .before .before .before .before .before .before .before .lead-at .result) _ (record { is = c .before .before .before .before .before .before .before .before .before .element-at .ensures; wide = c .before .before .before .before .before .before .before .before .width-of .ensures; lead = c .before .before .before .before .before .before .before .lead-at .ensures }) (c .before .before .before .before .before .before .before .before .before .before .before .before .before .before .before .before .pre .1 .given .state) (c .before .before .before .before .before .before .before .before .before .before .before .before .before .before .before .before .pre .1 .place) (c .before .before .before .before .before .q .given .1))
+elements-is-marked-requires t c κs = in-row _ _ _ _ _ (c .before .before .before .before .before .before .before .before .before .before .before .before .before .before .before .before .pre .1 .given) ((element-here _ _ _ _ _ _ _ _ (c .before .before .before .before .before .before .before .before .before .before .before .before .before .before .before .before .pre .1) (c .before .before .before .before .before .before .before .before .before .before .if1 .left) _ (c .before .before .before .before .before .before .before .before .before .element-at .ensures)) .unit .stands) _ _ (c .before .before .before .before .before .before .before .before .before .before .before .before .before .before .before .before .pre .1 .noted .size) (read-inside (c .before .before .before .before .before .before .before .before .before .before .before .before .before .before .before .before .args .items .now) (c .before .before .before .before .before .before .before .before .before .before .before .before .before .before .before .before .args .state .now) (c .before .before .before .before .before .before .before .before .before .before .before .before .before .before .before .before .args .line .now) (c .before .before .before .before .before .before .before .before .before .before .before .before .before .before .before .before .args .at) (c .before .before .before .before .before .before .before .before .before .before .before .before .before .before .before .before .args .p) (c .before .before .before .before .before .before .before .before .before .element-at .result) (c .before .before .before .before .before .before .before .before .width-of .result) (c .before .before .before .before .before .before .before .lead-at .result) _ (record { is = element-here _ _ _ _ _ _ _ _ (c .before .before .before .before .before .before .before .before .before .before .before .before .before .before .before .before .pre .1) (c .before .before .before .before .before .before .before .before .before .before .if1 .left) _ (c .before .before .before .before .before .before .before .before .before .element-at .ensures); wide = c .before .before .before .before .before .before .before .before .width-of .ensures; lead = c .before .before .before .before .before .before .before .lead-at .ensures }) (c .before .before .before .before .before .before .before .before .before .before .before .before .before .before .before .before .pre .1 .given .state) (c .before .before .before .before .before .before .before .before .before .before .before .before .before .before .before .before .pre .1 .place) (c .before .before .before .before .before .q .given .1))
 
 elements-same-length : (t : ℕ) → elements-lts.Need-same-length (element-at-reads.Asked, element-at-reads.Learnt, width-of-reads.Asked, width-of-reads.Learnt, lead-at-reads.Asked, lead-at-reads.Learnt, behind-reads.Asked, behind-reads.Learnt, may-repeat-reads.Asked, may-repeat-reads.Learnt, is-marked-reads.Asked, is-marked-reads.Learnt, most-copies-reads.Asked, most-copies-reads.Learnt, closure-below t, closure.Post, elements-below t, elements.Post, ended-reads.Asked, ended-reads.Learnt) (elements-at t) elements.Post
 elements-same-length t c = refl
 
 elements-returns-3 : (t : ℕ) → elements-lts.Need-returns-3 (element-at-reads.Asked, element-at-reads.Learnt, width-of-reads.Asked, width-of-reads.Learnt, lead-at-reads.Asked, lead-at-reads.Learnt, behind-reads.Asked, behind-reads.Learnt, may-repeat-reads.Asked, may-repeat-reads.Learnt, is-marked-reads.Asked, is-marked-reads.Learnt, most-copies-reads.Asked, most-copies-reads.Learnt, closure-below t, closure.Post, elements-below t, elements.Post, ended-reads.Asked, ended-reads.Learnt) (elements-at t) elements.Post
-elements-returns-3 t c = tried-more (c .before .before .before .before .before .before .before .before .before .before .before .before .before .before .before .before .before .before .args .items .now) (c .before .before .before .before .before .before .before .before .before .before .before .before .before .before .before .before .before .before .args .state .now) (c .before .before .before .before .before .before .before .before .before .before .before .before .before .before .before .before .before .before .args .line .now) (c .before .before .before .before .before .before .before .before .before .before .before .before .before .before .before .before .before .before .args .at) (c .before .before .before .before .before .before .before .before .before .before .before .before .before .before .before .before .before .before .args .p) (c .before .before .before .before .before .before .before .before .before .before .before .before .if1 .left) (c .before .before .before .before .before .before .before .before .before .before .before .element-at .result) (c .before .before .before .before .before .before .before .before .before .before .width-of .result) (c .before .before .before .before .before .before .before .before .before .lead-at .result) (record { is = c .before .before .before .before .before .before .before .before .before .before .before .element-at .ensures; wide = c .before .before .before .before .before .before .before .before .before .before .width-of .ensures; lead = c .before .before .before .before .before .before .before .before .before .lead-at .ensures }) _ (c .before .before .before .before .before .before .before .q .given .1) (sym (c .before .before .before .before .may-repeat .ensures) ∙ c .before .before .before .if2 .taken) _ _ _ _ (copied-marked _ _ _ _ _ _ _ (c .before .before .before .before .before .before .before .before .before .before .before .before .before .before .before .before .before .before .pre .1 .noted) (place-small _ _ _ _ _ (c .before .before .before .before .before .before .before .before .before .before .before .before .before .before .before .before .before .before .pre .1 .given) (read-inside (c .before .before .before .before .before .before .before .before .before .before .before .before .before .before .before .before .before .before .args .items .now) (c .before .before .before .before .before .before .before .before .before .before .before .before .before .before .before .before .before .before .args .state .now) (c .before .before .before .before .before .before .before .before .before .before .before .before .before .before .before .before .before .before .args .line .now) (c .before .before .before .before .before .before .before .before .before .before .before .before .before .before .before .before .before .before .args .at) (c .before .before .before .before .before .before .before .before .before .before .before .before .before .before .before .before .before .before .args .p) (c .before .before .before .before .before .before .before .before .before .before .before .element-at .result) (c .before .before .before .before .before .before .before .before .before .before .width-of .result) (c .before .before .before .before .before .before .before .before .before .lead-at .result) _ (record { is = c .before .before .before .before .before .before .before .before .before .before .before .element-at .ensures; wide = c .before .before .before .before .before .before .before .before .before .before .width-of .ensures; lead = c .before .before .before .before .before .before .before .before .before .lead-at .ensures }) (c .before .before .before .before .before .before .before .before .before .before .before .before .before .before .before .before .before .before .pre .1 .given .state) (c .before .before .before .before .before .before .before .before .before .before .before .before .before .before .before .before .before .before .pre .1 .place) (c .before .before .before .before .before .before .before .q .given .1))) (eqb-true _ _ (sym (c .before .is-marked .ensures) ∙ c .if3 .taken)))
+elements-returns-3 t c = tried-more (c .before .before .before .before .before .before .before .before .before .before .before .before .before .before .before .before .before .before .args .items .now) (c .before .before .before .before .before .before .before .before .before .before .before .before .before .before .before .before .before .before .args .state .now) (c .before .before .before .before .before .before .before .before .before .before .before .before .before .before .before .before .before .before .args .line .now) (c .before .before .before .before .before .before .before .before .before .before .before .before .before .before .before .before .before .before .args .at) (c .before .before .before .before .before .before .before .before .before .before .before .before .before .before .before .before .before .before .args .p) (c .before .before .before .before .before .before .before .before .before .before .before .before .if1 .left) (c .before .before .before .before .before .before .before .before .before .before .before .element-at .result) (c .before .before .before .before .before .before .before .before .before .before .width-of .result) (c .before .before .before .before .before .before .before .before .before .lead-at .result) (record { is = element-here _ _ _ _ _ _ _ _ (c .before .before .before .before .before .before .before .before .before .before .before .before .before .before .before .before .before .before .pre .1) (c .before .before .before .before .before .before .before .before .before .before .before .before .if1 .left) _ (c .before .before .before .before .before .before .before .before .before .before .before .element-at .ensures); wide = c .before .before .before .before .before .before .before .before .before .before .width-of .ensures; lead = c .before .before .before .before .before .before .before .before .before .lead-at .ensures }) _ (c .before .before .before .before .before .before .before .q .given .1) (sym (c .before .before .before .before .may-repeat .ensures) ∙ c .before .before .before .if2 .taken) _ _ _ _ (copied-marked _ _ _ _ _ _ _ (c .before .before .before .before .before .before .before .before .before .before .before .before .before .before .before .before .before .before .pre .1 .noted) (place-small _ _ _ _ _ (c .before .before .before .before .before .before .before .before .before .before .before .before .before .before .before .before .before .before .pre .1 .given) (read-inside (c .before .before .before .before .before .before .before .before .before .before .before .before .before .before .before .before .before .before .args .items .now) (c .before .before .before .before .before .before .before .before .before .before .before .before .before .before .before .before .before .before .args .state .now) (c .before .before .before .before .before .before .before .before .before .before .before .before .before .before .before .before .before .before .args .line .now) (c .before .before .before .before .before .before .before .before .before .before .before .before .before .before .before .before .before .before .args .at) (c .before .before .before .before .before .before .before .before .before .before .before .before .before .before .before .before .before .before .args .p) (c .before .before .before .before .before .before .before .before .before .before .before .element-at .result) (c .before .before .before .before .before .before .before .before .before .before .width-of .result) (c .before .before .before .before .before .before .before .before .before .lead-at .result) _ (record { is = element-here _ _ _ _ _ _ _ _ (c .before .before .before .before .before .before .before .before .before .before .before .before .before .before .before .before .before .before .pre .1) (c .before .before .before .before .before .before .before .before .before .before .before .before .if1 .left) _ (c .before .before .before .before .before .before .before .before .before .before .before .element-at .ensures); wide = c .before .before .before .before .before .before .before .before .before .before .width-of .ensures; lead = c .before .before .before .before .before .before .before .before .before .lead-at .ensures }) (c .before .before .before .before .before .before .before .before .before .before .before .before .before .before .before .before .before .before .pre .1 .given .state) (c .before .before .before .before .before .before .before .before .before .before .before .before .before .before .before .before .before .before .pre .1 .place) (c .before .before .before .before .before .before .before .q .given .1))) (eqb-true _ _ (sym (c .before .is-marked .ensures) ∙ c .if3 .taken)))
 
 elements-most-copies-requires : (t : ℕ) → elements-lts.Need-most-copies-requires (element-at-reads.Asked, element-at-reads.Learnt, width-of-reads.Asked, width-of-reads.Learnt, lead-at-reads.Asked, lead-at-reads.Learnt, behind-reads.Asked, behind-reads.Learnt, may-repeat-reads.Asked, may-repeat-reads.Learnt, is-marked-reads.Asked, is-marked-reads.Learnt, most-copies-reads.Asked, most-copies-reads.Learnt, closure-below t, closure.Post, elements-below t, elements.Post, ended-reads.Asked, ended-reads.Learnt) (elements-at t) elements.Post
-elements-most-copies-requires t c κs = record { given = c .before .before .before .before .before .before .before .before .before .before .before .before .before .before .before .before .before .before .before .pre .1 .given; size = c .before .before .before .before .before .before .before .before .before .before .before .before .before .before .before .before .before .before .before .pre .1 .noted .size; sound = c .before .before .before .before .before .before .before .before .before .before .before .before .before .before .before .before .before .before .before .pre .1 .noted .sound; unit = c .before .before .before .before .before .before .before .before .before .before .before .before .element-at .ensures .unit; wide = c .before .before .before .before .before .before .before .before .before .before .before .width-of .ensures; some = again-wide (c .before .before .before .before .before .before .before .before .before .before .before .before .element-at .result .closure) (c .before .before .before .before .before .before .before .before .before .before .before .width-of .result) (sym (c .before .before .before .before .before .may-repeat .ensures) ∙ c .before .before .before .before .if2 .taken); place = (read-inside (c .before .before .before .before .before .before .before .before .before .before .before .before .before .before .before .before .before .before .before .args .items .now) (c .before .before .before .before .before .before .before .before .before .before .before .before .before .before .before .before .before .before .before .args .state .now) (c .before .before .before .before .before .before .before .before .before .before .before .before .before .before .before .before .before .before .before .args .line .now) (c .before .before .before .before .before .before .before .before .before .before .before .before .before .before .before .before .before .before .before .args .at) (c .before .before .before .before .before .before .before .before .before .before .before .before .before .before .before .before .before .before .before .args .p) (c .before .before .before .before .before .before .before .before .before .before .before .before .element-at .result) (c .before .before .before .before .before .before .before .before .before .before .before .width-of .result) (c .before .before .before .before .before .before .before .before .before .before .lead-at .result) _ (record { is = c .before .before .before .before .before .before .before .before .before .before .before .before .element-at .ensures; wide = c .before .before .before .before .before .before .before .before .before .before .before .width-of .ensures; lead = c .before .before .before .before .before .before .before .before .before .before .lead-at .ensures }) (c .before .before .before .before .before .before .before .before .before .before .before .before .before .before .before .before .before .before .before .pre .1 .given .state) (c .before .before .before .before .before .before .before .before .before .before .before .before .before .before .before .before .before .before .before .pre .1 .place) (c .before .before .before .before .before .before .before .before .q .given .1)) }
+elements-most-copies-requires t c κs = record { given = c .before .before .before .before .before .before .before .before .before .before .before .before .before .before .before .before .before .before .before .pre .1 .given; size = c .before .before .before .before .before .before .before .before .before .before .before .before .before .before .before .before .before .before .before .pre .1 .noted .size; sound = c .before .before .before .before .before .before .before .before .before .before .before .before .before .before .before .before .before .before .before .pre .1 .noted .sound; unit = (element-here _ _ _ _ _ _ _ _ (c .before .before .before .before .before .before .before .before .before .before .before .before .before .before .before .before .before .before .before .pre .1) (c .before .before .before .before .before .before .before .before .before .before .before .before .before .if1 .left) _ (c .before .before .before .before .before .before .before .before .before .before .before .before .element-at .ensures)) .unit; wide = c .before .before .before .before .before .before .before .before .before .before .before .width-of .ensures; some = again-wide (c .before .before .before .before .before .before .before .before .before .before .before .before .element-at .result .closure) (c .before .before .before .before .before .before .before .before .before .before .before .width-of .result) (sym (c .before .before .before .before .before .may-repeat .ensures) ∙ c .before .before .before .before .if2 .taken); place = (read-inside (c .before .before .before .before .before .before .before .before .before .before .before .before .before .before .before .before .before .before .before .args .items .now) (c .before .before .before .before .before .before .before .before .before .before .before .before .before .before .before .before .before .before .before .args .state .now) (c .before .before .before .before .before .before .before .before .before .before .before .before .before .before .before .before .before .before .before .args .line .now) (c .before .before .before .before .before .before .before .before .before .before .before .before .before .before .before .before .before .before .before .args .at) (c .before .before .before .before .before .before .before .before .before .before .before .before .before .before .before .before .before .before .before .args .p) (c .before .before .before .before .before .before .before .before .before .before .before .before .element-at .result) (c .before .before .before .before .before .before .before .before .before .before .before .width-of .result) (c .before .before .before .before .before .before .before .before .before .before .lead-at .result) _ (record { is = element-here _ _ _ _ _ _ _ _ (c .before .before .before .before .before .before .before .before .before .before .before .before .before .before .before .before .before .before .before .pre .1) (c .before .before .before .before .before .before .before .before .before .before .before .before .before .if1 .left) _ (c .before .before .before .before .before .before .before .before .before .before .before .before .element-at .ensures); wide = c .before .before .before .before .before .before .before .before .before .before .before .width-of .ensures; lead = c .before .before .before .before .before .before .before .before .before .before .lead-at .ensures }) (c .before .before .before .before .before .before .before .before .before .before .before .before .before .before .before .before .before .before .before .pre .1 .given .state) (c .before .before .before .before .before .before .before .before .before .before .before .before .before .before .before .before .before .before .before .pre .1 .place) (c .before .before .before .before .before .before .before .before .q .given .1)) }
 
 elements-closure-requires : (t : ℕ) → elements-lts.Need-closure-requires (element-at-reads.Asked, element-at-reads.Learnt, width-of-reads.Asked, width-of-reads.Learnt, lead-at-reads.Asked, lead-at-reads.Learnt, behind-reads.Asked, behind-reads.Learnt, may-repeat-reads.Asked, may-repeat-reads.Learnt, is-marked-reads.Asked, is-marked-reads.Learnt, most-copies-reads.Asked, most-copies-reads.Learnt, closure-below t, closure.Post, elements-below t, elements.Post, ended-reads.Asked, ended-reads.Learnt) (elements-at t) elements.Post
-elements-closure-requires t c κs = let k = c .before .before .most-copies .ensures .row .inside in let w = again-wide (c .before .before .before .before .before .before .before .before .before .before .before .before .before .before .before .element-at .result .closure) (c .before .before .before .before .before .before .before .before .before .before .before .before .before .before .width-of .result) (sym (c .before .before .before .before .before .before .before .before .may-repeat .ensures) ∙ c .before .before .before .before .before .before .before .if2 .taken) in let l = count-inside _ _ _ _ w k in let s = c .before .before .before .before .before .before .before .before .before .before .before .before .before .before .before .before .before .before .before .before .before .before .pre .1 .given .short in let m = c .before .before .before .before .before .before .before .before .before .before .before .before .before .before .before .before .before .before .before .before .before .before .pre .0 in (omega arith, record { given = c .before .before .before .before .before .before .before .before .before .before .before .before .before .before .before .before .before .before .before .before .before .before .pre .1 .given; noted = c .before .before .before .before .before .before .before .before .before .before .before .before .before .before .before .before .before .before .before .before .before .before .pre .1 .noted; stands = c .before .before .before .before .before .before .before .before .before .before .before .before .before .before .before .element-at .ensures .unit .stands; behind = c .before .before .before .before .before .before .before .before .before .behind .ensures; some = w; most = c .before .before .most-copies .ensures })
+elements-closure-requires t c κs = let k = c .before .before .most-copies .ensures .row .inside in let w = again-wide (c .before .before .before .before .before .before .before .before .before .before .before .before .before .before .before .element-at .result .closure) (c .before .before .before .before .before .before .before .before .before .before .before .before .before .before .width-of .result) (sym (c .before .before .before .before .before .before .before .before .may-repeat .ensures) ∙ c .before .before .before .before .before .before .before .if2 .taken) in let l = count-inside _ _ _ _ w k in let s = c .before .before .before .before .before .before .before .before .before .before .before .before .before .before .before .before .before .before .before .before .before .before .pre .1 .given .short in let m = c .before .before .before .before .before .before .before .before .before .before .before .before .before .before .before .before .before .before .before .before .before .before .pre .0 in (omega arith, record { given = c .before .before .before .before .before .before .before .before .before .before .before .before .before .before .before .before .before .before .before .before .before .before .pre .1 .given; noted = c .before .before .before .before .before .before .before .before .before .before .before .before .before .before .before .before .before .before .before .before .before .before .pre .1 .noted; stands = (element-here _ _ _ _ _ _ _ _ (c .before .before .before .before .before .before .before .before .before .before .before .before .before .before .before .before .before .before .before .before .before .before .pre .1) (c .before .before .before .before .before .before .before .before .before .before .before .before .before .before .before .before .if1 .left) _ (c .before .before .before .before .before .before .before .before .before .before .before .before .before .before .before .element-at .ensures)) .unit .stands; behind = c .before .before .before .before .before .before .before .before .before .behind .ensures; some = w; most = c .before .before .most-copies .ensures })
 
 elements-same-length-2 : (t : ℕ) → elements-lts.Need-same-length-2 (element-at-reads.Asked, element-at-reads.Learnt, width-of-reads.Asked, width-of-reads.Learnt, lead-at-reads.Asked, lead-at-reads.Learnt, behind-reads.Asked, behind-reads.Learnt, may-repeat-reads.Asked, may-repeat-reads.Learnt, is-marked-reads.Asked, is-marked-reads.Learnt, most-copies-reads.Asked, most-copies-reads.Learnt, closure-below t, closure.Post, elements-below t, elements.Post, ended-reads.Asked, ended-reads.Learnt) (elements-at t) elements.Post
 elements-same-length-2 t c = c .before .before .before .before .closure .ensures .kept .noted .size ∙ sym (c .before .before .before .before .before .before .before .before .before .before .before .before .before .before .before .before .before .before .before .before .before .before .before .before .before .before .before .pre .1 .noted .size)
@@ -187,13 +188,13 @@ elements-same-length-3 : (t : ℕ) → elements-lts.Need-same-length-3 (element-
 elements-same-length-3 t c = c .before .before .before .before .closure .ensures .kept .noted .count ∙ sym (c .before .before .before .before .before .before .before .before .before .before .before .before .before .before .before .before .before .before .before .before .before .before .before .before .before .before .before .pre .1 .noted .count)
 
 elements-returns-4 : (t : ℕ) → elements-lts.Need-returns-4 (element-at-reads.Asked, element-at-reads.Learnt, width-of-reads.Asked, width-of-reads.Learnt, lead-at-reads.Asked, lead-at-reads.Learnt, behind-reads.Asked, behind-reads.Learnt, may-repeat-reads.Asked, may-repeat-reads.Learnt, is-marked-reads.Asked, is-marked-reads.Learnt, most-copies-reads.Asked, most-copies-reads.Learnt, closure-below t, closure.Post, elements-below t, elements.Post, ended-reads.Asked, ended-reads.Learnt) (elements-at t) elements.Post
-elements-returns-4 t c = tried-more (c .before .before .before .before .before .before .before .before .before .before .before .before .before .before .before .before .before .before .before .before .before .before .before .before .before .before .before .args .items .now) (c .before .before .before .before .before .before .before .before .before .before .before .before .before .before .before .before .before .before .before .before .before .before .before .before .before .before .before .args .state .now) (c .before .before .before .before .before .before .before .before .before .before .before .before .before .before .before .before .before .before .before .before .before .before .before .before .before .before .before .args .line .now) (c .before .before .before .before .before .before .before .before .before .before .before .before .before .before .before .before .before .before .before .before .before .before .before .before .before .before .before .args .at) (c .before .before .before .before .before .before .before .before .before .before .before .before .before .before .before .before .before .before .before .before .before .before .before .before .before .before .before .args .p) (c .before .before .before .before .before .before .before .before .before .before .before .before .before .before .before .before .before .before .before .before .before .if1 .left) (c .before .before .before .before .before .before .before .before .before .before .before .before .before .before .before .before .before .before .before .before .element-at .result) (c .before .before .before .before .before .before .before .before .before .before .before .before .before .before .before .before .before .before .before .width-of .result) (c .before .before .before .before .before .before .before .before .before .before .before .before .before .before .before .before .before .before .lead-at .result) (record { is = c .before .before .before .before .before .before .before .before .before .before .before .before .before .before .before .before .before .before .before .before .element-at .ensures; wide = c .before .before .before .before .before .before .before .before .before .before .before .before .before .before .before .before .before .before .before .width-of .ensures; lead = c .before .before .before .before .before .before .before .before .before .before .before .before .before .before .before .before .before .before .lead-at .ensures }) _ (c .before .before .before .before .before .before .before .before .before .before .before .before .before .before .before .before .q .given .1) (sym (c .before .before .before .before .before .before .before .before .before .before .before .before .before .may-repeat .ensures) ∙ c .before .before .before .before .before .before .before .before .before .before .before .before .if2 .taken) _ _ _ _ (c .before .before .before .before .closure .ensures)
+elements-returns-4 t c = tried-more (c .before .before .before .before .before .before .before .before .before .before .before .before .before .before .before .before .before .before .before .before .before .before .before .before .before .before .before .args .items .now) (c .before .before .before .before .before .before .before .before .before .before .before .before .before .before .before .before .before .before .before .before .before .before .before .before .before .before .before .args .state .now) (c .before .before .before .before .before .before .before .before .before .before .before .before .before .before .before .before .before .before .before .before .before .before .before .before .before .before .before .args .line .now) (c .before .before .before .before .before .before .before .before .before .before .before .before .before .before .before .before .before .before .before .before .before .before .before .before .before .before .before .args .at) (c .before .before .before .before .before .before .before .before .before .before .before .before .before .before .before .before .before .before .before .before .before .before .before .before .before .before .before .args .p) (c .before .before .before .before .before .before .before .before .before .before .before .before .before .before .before .before .before .before .before .before .before .if1 .left) (c .before .before .before .before .before .before .before .before .before .before .before .before .before .before .before .before .before .before .before .before .element-at .result) (c .before .before .before .before .before .before .before .before .before .before .before .before .before .before .before .before .before .before .before .width-of .result) (c .before .before .before .before .before .before .before .before .before .before .before .before .before .before .before .before .before .before .lead-at .result) (record { is = element-here _ _ _ _ _ _ _ _ (c .before .before .before .before .before .before .before .before .before .before .before .before .before .before .before .before .before .before .before .before .before .before .before .before .before .before .before .pre .1) (c .before .before .before .before .before .before .before .before .before .before .before .before .before .before .before .before .before .before .before .before .before .if1 .left) _ (c .before .before .before .before .before .before .before .before .before .before .before .before .before .before .before .before .before .before .before .before .element-at .ensures); wide = c .before .before .before .before .before .before .before .before .before .before .before .before .before .before .before .before .before .before .before .width-of .ensures; lead = c .before .before .before .before .before .before .before .before .before .before .before .before .before .before .before .before .before .before .lead-at .ensures }) _ (c .before .before .before .before .before .before .before .before .before .before .before .before .before .before .before .before .q .given .1) (sym (c .before .before .before .before .before .before .before .before .before .before .before .before .before .may-repeat .ensures) ∙ c .before .before .before .before .before .before .before .before .before .before .before .before .if2 .taken) _ _ _ _ (c .before .before .before .before .closure .ensures)
 
 elements-elements-requires : (t : ℕ) → elements-lts.Need-elements-requires (element-at-reads.Asked, element-at-reads.Learnt, width-of-reads.Asked, width-of-reads.Learnt, lead-at-reads.Asked, lead-at-reads.Learnt, behind-reads.Asked, behind-reads.Learnt, may-repeat-reads.Asked, may-repeat-reads.Learnt, is-marked-reads.Asked, is-marked-reads.Learnt, most-copies-reads.Asked, most-copies-reads.Learnt, closure-below t, closure.Post, elements-below t, elements.Post, ended-reads.Asked, ended-reads.Learnt) (elements-at t) elements.Post
-elements-elements-requires t c κs = let m = c .before .before .before .before .before .before .before .before .before .before .before .before .before .before .before .before .before .pre .0 in let i = next-inside _ _ _ (c .before .before .before .before .before .before .before .before .before .before .element-at .ensures .unit .stands) (c .before .before .before .before .behind .ensures) in (omega arith, next-trying _ _ _ _ _ _ _ _ _ (c .before .before .before .before .before .before .before .before .before .before .before .before .before .before .before .before .before .pre .1 .given) (c .before .before .before .before .before .before .before .before .before .before .before .before .before .before .before .before .before .pre .1 .noted) (c .before .before .before .before .before .before .before .before .before .before .element-at .ensures .unit .stands) (c .before .before .before .before .behind .ensures) (read-inside (c .before .before .before .before .before .before .before .before .before .before .before .before .before .before .before .before .before .args .items .now) (c .before .before .before .before .before .before .before .before .before .before .before .before .before .before .before .before .before .args .state .now) (c .before .before .before .before .before .before .before .before .before .before .before .before .before .before .before .before .before .args .line .now) (c .before .before .before .before .before .before .before .before .before .before .before .before .before .before .before .before .before .args .at) (c .before .before .before .before .before .before .before .before .before .before .before .before .before .before .before .before .before .args .p) (c .before .before .before .before .before .before .before .before .before .before .element-at .result) (c .before .before .before .before .before .before .before .before .before .width-of .result) (c .before .before .before .before .before .before .before .before .lead-at .result) _ (record { is = c .before .before .before .before .before .before .before .before .before .before .element-at .ensures; wide = c .before .before .before .before .before .before .before .before .before .width-of .ensures; lead = c .before .before .before .before .before .before .before .before .lead-at .ensures }) (c .before .before .before .before .before .before .before .before .before .before .before .before .before .before .before .before .before .pre .1 .given .state) (c .before .before .before .before .before .before .before .before .before .before .before .before .before .before .before .before .before .pre .1 .place) (c .before .before .before .before .before .before .q .given .1)))
+elements-elements-requires t c κs = let m = c .before .before .before .before .before .before .before .before .before .before .before .before .before .before .before .before .before .pre .0 in let i = next-inside _ _ _ ((element-here _ _ _ _ _ _ _ _ (c .before .before .before .before .before .before .before .before .before .before .before .before .before .before .before .before .before .pre .1) (c .before .before .before .before .before .before .before .before .before .before .before .if1 .left) _ (c .before .before .before .before .before .before .before .before .before .before .element-at .ensures)) .unit .stands) (c .before .before .before .before .behind .ensures) in (omega arith, next-trying _ _ _ _ _ _ _ _ _ (c .before .before .before .before .before .before .before .before .before .before .before .before .before .before .before .before .before .pre .1 .given) (c .before .before .before .before .before .before .before .before .before .before .before .before .before .before .before .before .before .pre .1 .noted) ((element-here _ _ _ _ _ _ _ _ (c .before .before .before .before .before .before .before .before .before .before .before .before .before .before .before .before .before .pre .1) (c .before .before .before .before .before .before .before .before .before .before .before .if1 .left) _ (c .before .before .before .before .before .before .before .before .before .before .element-at .ensures)) .unit .stands) (c .before .before .before .before .behind .ensures) (read-inside (c .before .before .before .before .before .before .before .before .before .before .before .before .before .before .before .before .before .args .items .now) (c .before .before .before .before .before .before .before .before .before .before .before .before .before .before .before .before .before .args .state .now) (c .before .before .before .before .before .before .before .before .before .before .before .before .before .before .before .before .before .args .line .now) (c .before .before .before .before .before .before .before .before .before .before .before .before .before .before .before .before .before .args .at) (c .before .before .before .before .before .before .before .before .before .before .before .before .before .before .before .before .before .args .p) (c .before .before .before .before .before .before .before .before .before .before .element-at .result) (c .before .before .before .before .before .before .before .before .before .width-of .result) (c .before .before .before .before .before .before .before .before .lead-at .result) _ (record { is = element-here _ _ _ _ _ _ _ _ (c .before .before .before .before .before .before .before .before .before .before .before .before .before .before .before .before .before .pre .1) (c .before .before .before .before .before .before .before .before .before .before .before .if1 .left) _ (c .before .before .before .before .before .before .before .before .before .before .element-at .ensures); wide = c .before .before .before .before .before .before .before .before .before .width-of .ensures; lead = c .before .before .before .before .before .before .before .before .lead-at .ensures }) (c .before .before .before .before .before .before .before .before .before .before .before .before .before .before .before .before .before .pre .1 .given .state) (c .before .before .before .before .before .before .before .before .before .before .before .before .before .before .before .before .before .pre .1 .place) (c .before .before .before .before .before .before .q .given .1)))
 
 elements-ended-requires : (t : ℕ) → elements-lts.Need-ended-requires (element-at-reads.Asked, element-at-reads.Learnt, width-of-reads.Asked, width-of-reads.Learnt, lead-at-reads.Asked, lead-at-reads.Learnt, behind-reads.Asked, behind-reads.Learnt, may-repeat-reads.Asked, may-repeat-reads.Learnt, is-marked-reads.Asked, is-marked-reads.Learnt, most-copies-reads.Asked, most-copies-reads.Learnt, closure-below t, closure.Post, elements-below t, elements.Post, ended-reads.Asked, ended-reads.Learnt) (elements-at t) elements.Post
-elements-ended-requires t c κs = let g = c .before .before .before .before .before .before .before .before .before .before .before .before .before .before .before .before .before .before .before .before .before .before .before .pre .1 .given in let n = c .before .before .before .before .before .elements .ensures .kept .noted .count in let l = (read-inside (c .before .before .before .before .before .before .before .before .before .before .before .before .before .before .before .before .before .before .before .before .before .before .before .args .items .now) (c .before .before .before .before .before .before .before .before .before .before .before .before .before .before .before .before .before .before .before .before .before .before .before .args .state .now) (c .before .before .before .before .before .before .before .before .before .before .before .before .before .before .before .before .before .before .before .before .before .before .before .args .line .now) (c .before .before .before .before .before .before .before .before .before .before .before .before .before .before .before .before .before .before .before .before .before .before .before .args .at) (c .before .before .before .before .before .before .before .before .before .before .before .before .before .before .before .before .before .before .before .before .before .before .before .args .p) (c .before .before .before .before .before .before .before .before .before .before .before .before .before .before .before .before .element-at .result) (c .before .before .before .before .before .before .before .before .before .before .before .before .before .before .before .width-of .result) (c .before .before .before .before .before .before .before .before .before .before .before .before .before .before .lead-at .result) _ (record { is = c .before .before .before .before .before .before .before .before .before .before .before .before .before .before .before .before .element-at .ensures; wide = c .before .before .before .before .before .before .before .before .before .before .before .before .before .before .before .width-of .ensures; lead = c .before .before .before .before .before .before .before .before .before .before .before .before .before .before .lead-at .ensures }) (c .before .before .before .before .before .before .before .before .before .before .before .before .before .before .before .before .before .before .before .before .before .before .before .pre .1 .given .state) (c .before .before .before .before .before .before .before .before .before .before .before .before .before .before .before .before .before .before .before .before .before .before .before .pre .1 .place) (c .before .before .before .before .before .before .before .before .before .before .before .before .q .given .1)) in let h = g .short in (in-ends _ _ _ _ _ g (c .before .before .before .before .before .before .before .before .before .before .before .before .before .before .before .before .element-at .ensures .unit .stands) _ n, n, omega arith)
+elements-ended-requires t c κs = let g = c .before .before .before .before .before .before .before .before .before .before .before .before .before .before .before .before .before .before .before .before .before .before .before .pre .1 .given in let n = c .before .before .before .before .before .elements .ensures .kept .noted .count in let l = (read-inside (c .before .before .before .before .before .before .before .before .before .before .before .before .before .before .before .before .before .before .before .before .before .before .before .args .items .now) (c .before .before .before .before .before .before .before .before .before .before .before .before .before .before .before .before .before .before .before .before .before .before .before .args .state .now) (c .before .before .before .before .before .before .before .before .before .before .before .before .before .before .before .before .before .before .before .before .before .before .before .args .line .now) (c .before .before .before .before .before .before .before .before .before .before .before .before .before .before .before .before .before .before .before .before .before .before .before .args .at) (c .before .before .before .before .before .before .before .before .before .before .before .before .before .before .before .before .before .before .before .before .before .before .before .args .p) (c .before .before .before .before .before .before .before .before .before .before .before .before .before .before .before .before .element-at .result) (c .before .before .before .before .before .before .before .before .before .before .before .before .before .before .before .width-of .result) (c .before .before .before .before .before .before .before .before .before .before .before .before .before .before .lead-at .result) _ (record { is = element-here _ _ _ _ _ _ _ _ (c .before .before .before .before .before .before .before .before .before .before .before .before .before .before .before .before .before .before .before .before .before .before .before .pre .1) (c .before .before .before .before .before .before .before .before .before .before .before .before .before .before .before .before .before .if1 .left) _ (c .before .before .before .before .before .before .before .before .before .before .before .before .before .before .before .before .element-at .ensures); wide = c .before .before .before .before .before .before .before .before .before .before .before .before .before .before .before .width-of .ensures; lead = c .before .before .before .before .before .before .before .before .before .before .before .before .before .before .lead-at .ensures }) (c .before .before .before .before .before .before .before .before .before .before .before .before .before .before .before .before .before .before .before .before .before .before .before .pre .1 .given .state) (c .before .before .before .before .before .before .before .before .before .before .before .before .before .before .before .before .before .before .before .before .before .before .before .pre .1 .place) (c .before .before .before .before .before .before .before .before .before .before .before .before .q .given .1)) in let h = g .short in (in-ends _ _ _ _ _ g ((element-here _ _ _ _ _ _ _ _ (c .before .before .before .before .before .before .before .before .before .before .before .before .before .before .before .before .before .before .before .before .before .before .before .pre .1) (c .before .before .before .before .before .before .before .before .before .before .before .before .before .before .before .before .before .if1 .left) _ (c .before .before .before .before .before .before .before .before .before .before .before .before .before .before .before .before .element-at .ensures)) .unit .stands) _ n, n, omega arith)
 
 elements-same-length-4 : (t : ℕ) → elements-lts.Need-same-length-4 (element-at-reads.Asked, element-at-reads.Learnt, width-of-reads.Asked, width-of-reads.Learnt, lead-at-reads.Asked, lead-at-reads.Learnt, behind-reads.Asked, behind-reads.Learnt, may-repeat-reads.Asked, may-repeat-reads.Learnt, is-marked-reads.Asked, is-marked-reads.Learnt, most-copies-reads.Asked, most-copies-reads.Learnt, closure-below t, closure.Post, elements-below t, elements.Post, ended-reads.Asked, ended-reads.Learnt) (elements-at t) elements.Post
 elements-same-length-4 t c = c .before .before .before .before .before .before .before .before .elements .ensures .kept .noted .size ∙ sym (c .before .before .before .before .before .before .before .before .before .before .before .before .before .before .before .before .before .before .before .before .before .before .before .before .before .before .pre .1 .noted .size)
@@ -202,7 +203,7 @@ elements-same-length-5 : (t : ℕ) → elements-lts.Need-same-length-5 (element-
 elements-same-length-5 t c = c .before .before .ended .kept .1 .1 .1 .0 ∙ c .before .before .before .before .before .before .before .before .elements .ensures .kept .noted .count ∙ sym (c .before .before .before .before .before .before .before .before .before .before .before .before .before .before .before .before .before .before .before .before .before .before .before .before .before .before .pre .1 .noted .count)
 
 elements-returns-5 : (t : ℕ) → elements-lts.Need-returns-5 (element-at-reads.Asked, element-at-reads.Learnt, width-of-reads.Asked, width-of-reads.Learnt, lead-at-reads.Asked, lead-at-reads.Learnt, behind-reads.Asked, behind-reads.Learnt, may-repeat-reads.Asked, may-repeat-reads.Learnt, is-marked-reads.Asked, is-marked-reads.Learnt, most-copies-reads.Asked, most-copies-reads.Learnt, closure-below t, closure.Post, elements-below t, elements.Post, ended-reads.Asked, ended-reads.Learnt) (elements-at t) elements.Post
-elements-returns-5 t c = tried-ended (c .before .before .before .before .before .before .before .before .before .before .before .before .before .before .before .before .before .before .before .before .before .before .before .before .before .before .args .items .now) (c .before .before .before .before .before .before .before .before .before .before .before .before .before .before .before .before .before .before .before .before .before .before .before .before .before .before .args .state .now) (c .before .before .before .before .before .before .before .before .before .before .before .before .before .before .before .before .before .before .before .before .before .before .before .before .before .before .args .line .now) (c .before .before .before .before .before .before .before .before .before .before .before .before .before .before .before .before .before .before .before .before .before .before .before .before .before .before .args .at) (c .before .before .before .before .before .before .before .before .before .before .before .before .before .before .before .before .before .before .before .before .before .before .before .before .before .before .args .p) (c .before .before .before .before .before .before .before .before .before .before .before .before .before .before .before .before .before .before .before .before .if1 .left) (c .before .before .before .before .before .before .before .before .before .before .before .before .before .before .before .before .before .before .before .element-at .result) (c .before .before .before .before .before .before .before .before .before .before .before .before .before .before .before .before .before .before .width-of .result) (c .before .before .before .before .before .before .before .before .before .before .before .before .before .before .before .before .before .lead-at .result) (record { is = c .before .before .before .before .before .before .before .before .before .before .before .before .before .before .before .before .before .before .before .element-at .ensures; wide = c .before .before .before .before .before .before .before .before .before .before .before .before .before .before .before .before .before .before .width-of .ensures; lead = c .before .before .before .before .before .before .before .before .before .before .before .before .before .before .before .before .before .lead-at .ensures }) _ (c .before .before .before .before .before .before .before .before .before .before .before .before .before .before .before .q .given .1) (sym (c .before .before .before .before .before .before .before .before .before .before .before .before .may-repeat .ensures) ∙ c .before .before .before .before .before .before .before .before .before .before .before .if2 .left) _ (c .before .before .before .before .before .before .before .before .before .before .before .before .before .behind .ensures) _ _ _ _ (in-ends _ _ _ _ _ (c .before .before .before .before .before .before .before .before .before .before .before .before .before .before .before .before .before .before .before .before .before .before .before .before .before .before .pre .1 .given) (c .before .before .before .before .before .before .before .before .before .before .before .before .before .before .before .before .before .before .before .element-at .ensures .unit .stands) _ (c .before .before .before .before .before .before .before .before .elements .ensures .kept .noted .count)) (read-inside (c .before .before .before .before .before .before .before .before .before .before .before .before .before .before .before .before .before .before .before .before .before .before .before .before .before .before .args .items .now) (c .before .before .before .before .before .before .before .before .before .before .before .before .before .before .before .before .before .before .before .before .before .before .before .before .before .before .args .state .now) (c .before .before .before .before .before .before .before .before .before .before .before .before .before .before .before .before .before .before .before .before .before .before .before .before .before .before .args .line .now) (c .before .before .before .before .before .before .before .before .before .before .before .before .before .before .before .before .before .before .before .before .before .before .before .before .before .before .args .at) (c .before .before .before .before .before .before .before .before .before .before .before .before .before .before .before .before .before .before .before .before .before .before .before .before .before .before .args .p) (c .before .before .before .before .before .before .before .before .before .before .before .before .before .before .before .before .before .before .before .element-at .result) (c .before .before .before .before .before .before .before .before .before .before .before .before .before .before .before .before .before .before .width-of .result) (c .before .before .before .before .before .before .before .before .before .before .before .before .before .before .before .before .before .lead-at .result) _ (record { is = c .before .before .before .before .before .before .before .before .before .before .before .before .before .before .before .before .before .before .before .element-at .ensures; wide = c .before .before .before .before .before .before .before .before .before .before .before .before .before .before .before .before .before .before .width-of .ensures; lead = c .before .before .before .before .before .before .before .before .before .before .before .before .before .before .before .before .before .lead-at .ensures }) (c .before .before .before .before .before .before .before .before .before .before .before .before .before .before .before .before .before .before .before .before .before .before .before .before .before .before .pre .1 .given .state) (c .before .before .before .before .before .before .before .before .before .before .before .before .before .before .before .before .before .before .before .before .before .before .before .before .before .before .pre .1 .place) (c .before .before .before .before .before .before .before .before .before .before .before .before .before .before .before .q .given .1)) (c .before .before .before .before .before .before .before .before .elements .ensures) _ _ (c .before .before .ended .ensures)
+elements-returns-5 t c = tried-ended (c .before .before .before .before .before .before .before .before .before .before .before .before .before .before .before .before .before .before .before .before .before .before .before .before .before .before .args .items .now) (c .before .before .before .before .before .before .before .before .before .before .before .before .before .before .before .before .before .before .before .before .before .before .before .before .before .before .args .state .now) (c .before .before .before .before .before .before .before .before .before .before .before .before .before .before .before .before .before .before .before .before .before .before .before .before .before .before .args .line .now) (c .before .before .before .before .before .before .before .before .before .before .before .before .before .before .before .before .before .before .before .before .before .before .before .before .before .before .args .at) (c .before .before .before .before .before .before .before .before .before .before .before .before .before .before .before .before .before .before .before .before .before .before .before .before .before .before .args .p) (c .before .before .before .before .before .before .before .before .before .before .before .before .before .before .before .before .before .before .before .before .if1 .left) (c .before .before .before .before .before .before .before .before .before .before .before .before .before .before .before .before .before .before .before .element-at .result) (c .before .before .before .before .before .before .before .before .before .before .before .before .before .before .before .before .before .before .width-of .result) (c .before .before .before .before .before .before .before .before .before .before .before .before .before .before .before .before .before .lead-at .result) (record { is = element-here _ _ _ _ _ _ _ _ (c .before .before .before .before .before .before .before .before .before .before .before .before .before .before .before .before .before .before .before .before .before .before .before .before .before .before .pre .1) (c .before .before .before .before .before .before .before .before .before .before .before .before .before .before .before .before .before .before .before .before .if1 .left) _ (c .before .before .before .before .before .before .before .before .before .before .before .before .before .before .before .before .before .before .before .element-at .ensures); wide = c .before .before .before .before .before .before .before .before .before .before .before .before .before .before .before .before .before .before .width-of .ensures; lead = c .before .before .before .before .before .before .before .before .before .before .before .before .before .before .before .before .before .lead-at .ensures }) _ (c .before .before .before .before .before .before .before .before .before .before .before .before .before .before .before .q .given .1) (sym (c .before .before .before .before .before .before .before .before .before .before .before .before .may-repeat .ensures) ∙ c .before .before .before .before .before .before .before .before .before .before .before .if2 .left) _ (c .before .before .before .before .before .before .before .before .before .before .before .before .before .behind .ensures) _ _ _ _ (in-ends _ _ _ _ _ (c .before .before .before .before .before .before .before .before .before .before .before .before .before .before .before .before .before .before .before .before .before .before .before .before .before .before .pre .1 .given) ((element-here _ _ _ _ _ _ _ _ (c .before .before .before .before .before .before .before .before .before .before .before .before .before .before .before .before .before .before .before .before .before .before .before .before .before .before .pre .1) (c .before .before .before .before .before .before .before .before .before .before .before .before .before .before .before .before .before .before .before .before .if1 .left) _ (c .before .before .before .before .before .before .before .before .before .before .before .before .before .before .before .before .before .before .before .element-at .ensures)) .unit .stands) _ (c .before .before .before .before .before .before .before .before .elements .ensures .kept .noted .count)) (read-inside (c .before .before .before .before .before .before .before .before .before .before .before .before .before .before .before .before .before .before .before .before .before .before .before .before .before .before .args .items .now) (c .before .before .before .before .before .before .before .before .before .before .before .before .before .before .before .before .before .before .before .before .before .before .before .before .before .before .args .state .now) (c .before .before .before .before .before .before .before .before .before .before .before .before .before .before .before .before .before .before .before .before .before .before .before .before .before .before .args .line .now) (c .before .before .before .before .before .before .before .before .before .before .before .before .before .before .before .before .before .before .before .before .before .before .before .before .before .before .args .at) (c .before .before .before .before .before .before .before .before .before .before .before .before .before .before .before .before .before .before .before .before .before .before .before .before .before .before .args .p) (c .before .before .before .before .before .before .before .before .before .before .before .before .before .before .before .before .before .before .before .element-at .result) (c .before .before .before .before .before .before .before .before .before .before .before .before .before .before .before .before .before .before .width-of .result) (c .before .before .before .before .before .before .before .before .before .before .before .before .before .before .before .before .before .lead-at .result) _ (record { is = element-here _ _ _ _ _ _ _ _ (c .before .before .before .before .before .before .before .before .before .before .before .before .before .before .before .before .before .before .before .before .before .before .before .before .before .before .pre .1) (c .before .before .before .before .before .before .before .before .before .before .before .before .before .before .before .before .before .before .before .before .if1 .left) _ (c .before .before .before .before .before .before .before .before .before .before .before .before .before .before .before .before .before .before .before .element-at .ensures); wide = c .before .before .before .before .before .before .before .before .before .before .before .before .before .before .before .before .before .before .width-of .ensures; lead = c .before .before .before .before .before .before .before .before .before .before .before .before .before .before .before .before .before .lead-at .ensures }) (c .before .before .before .before .before .before .before .before .before .before .before .before .before .before .before .before .before .before .before .before .before .before .before .before .before .before .pre .1 .given .state) (c .before .before .before .before .before .before .before .before .before .before .before .before .before .before .before .before .before .before .before .before .before .before .before .before .before .before .pre .1 .place) (c .before .before .before .before .before .before .before .before .before .before .before .before .before .before .before .q .given .1)) (c .before .before .before .before .before .before .before .before .elements .ensures) _ _ (c .before .before .ended .ensures)
 
 pub +closure+elements-spec : {M : Type 1} → statement M
 +closure+elements-spec = close μ-closure μ-elements (λ t. closure-lts.spec (elements-below t, elements.Post, set-mark-reads.Asked, set-mark-reads.Learnt, closure-below t, closure.Post)

@@ -14,10 +14,10 @@ use Rattle.pass_marks.proofs.is_marked.Reads as is-marked-reads
 use Rattle.pass_one.proofs.unit.copy_at.Reads as copy-at-reads
 
 abbrev Inv-loop : tie.InvT-loop
-Inv-loop items kinds state line at u w q marks n₀ r₀ n r = Counted items state line at w q n r
+Inv-loop items kinds state line at element w q marks n₀ r₀ n r = Counted items state line at w q n r
 
 abbrev μ-loop : tie.MeasureT-loop
-μ-loop items kinds state line at u w q marks n₀ r₀ n r = length line - r
+μ-loop items kinds state line at element w q marks n₀ r₀ n r = length line - r
 
 loop-holds : tie.Need-loop-holds Inv-loop μ-loop
 loop-holds c = count-start _ _ _ _ _ _ _ _ _ (c .before .before .before .before .pre)

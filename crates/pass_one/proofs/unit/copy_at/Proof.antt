@@ -1,12 +1,13 @@
 -- Assumes nothing.
 use Prim.Native.Nat.{ℕ}
 use mathlib.Core.Path.{_≡_, refl, _∙_}
+use mathlib.Core.Bool.{true}
 use mathlib.Core.List.{List, [], _∷_}
 use types.Run.{OneOf, miss}
 use denote.Enum.Declared.{tagOf}
-use Rattle.pass_one.proofs.unit.Unit.{the-type}
-use Rattle.pass_one.specs.declared.unit.Unit.{Unit as CodeUnit}
-use Rattle.pass_one.specs.declared.unit.Unit.the-variants.{Literal, Kind, Class, ClassNot, StackCall, CounterCall, Start, End, Brace}
+use Rattle.form_element.proofs.Unit.{the-type}
+use Rattle.form_element.specs.declared.Unit.{Unit as CodeUnit}
+use Rattle.form_element.specs.declared.Unit.the-variants.{Literal, Kind, Class, ClassNot, StackCall, CounterCall, Start, End, Left, Right}
 use Rattle.macros.specs.Macro.{Member}
 use Rattle.lines.specs.State.{State, contents}
 use Rattle.lines.specs.Matching.{byteFits, fits}
@@ -26,7 +27,20 @@ by-byte (StackCall i) h st ms p s = absurd (miss (0 ∷ 1 ∷ 2 ∷ 3 ∷ []) 4 
 by-byte (CounterCall i) h st ms p s = absurd (miss (0 ∷ 1 ∷ 2 ∷ 3 ∷ []) 5 tt h)
 by-byte Start h st ms p s = absurd (miss (0 ∷ 1 ∷ 2 ∷ 3 ∷ []) 6 tt h)
 by-byte End h st ms p s = absurd (miss (0 ∷ 1 ∷ 2 ∷ 3 ∷ []) 7 tt h)
-by-byte Brace h st ms p s = absurd (miss (0 ∷ 1 ∷ 2 ∷ 3 ∷ []) 8 tt h)
+by-byte Left h st ms p s = absurd (miss (0 ∷ 1 ∷ 2 ∷ 3 ∷ []) 8 tt h)
+by-byte Right h st ms p s = absurd (miss (0 ∷ 1 ∷ 2 ∷ 3 ∷ []) 9 tt h)
+
+brace-fits : (u : CodeUnit) → OneOf (8 ∷ 9 ∷ []) (tagOf the-type u) → (st : State) (ms : List Member) (p : ℕ) (s : List ℕ) → true ≡ fitU st u ms p s
+brace-fits (Literal c) h st ms p s = absurd (miss (8 ∷ 9 ∷ []) 0 tt h)
+brace-fits (Kind n) h st ms p s = absurd (miss (8 ∷ 9 ∷ []) 1 tt h)
+brace-fits Class h st ms p s = absurd (miss (8 ∷ 9 ∷ []) 2 tt h)
+brace-fits ClassNot h st ms p s = absurd (miss (8 ∷ 9 ∷ []) 3 tt h)
+brace-fits (StackCall i) h st ms p s = absurd (miss (8 ∷ 9 ∷ []) 4 tt h)
+brace-fits (CounterCall i) h st ms p s = absurd (miss (8 ∷ 9 ∷ []) 5 tt h)
+brace-fits Start h st ms p s = absurd (miss (8 ∷ 9 ∷ []) 6 tt h)
+brace-fits End h st ms p s = absurd (miss (8 ∷ 9 ∷ []) 7 tt h)
+brace-fits Left h st ms p s = refl
+brace-fits Right h st ms p s = refl
 
 enum-known-u : tie.Need-enum-known-u
 enum-known-u c = search needs
@@ -52,9 +66,6 @@ enum-told c = search needs
 enum-told-2 : tie.Need-enum-told-2
 enum-told-2 c = search needs
 
-enum-told-3 : tie.Need-enum-told-3
-enum-told-3 c = search needs
-
 one-at-requires : tie.Need-one-at-requires
 one-at-requires c κs = record { unit = c .before .before .before .before .pre .unit; table = c .before .before .before .before .pre .table }
 
@@ -73,10 +84,10 @@ returns-4 : tie.Need-returns-4
 returns-4 c = λ e es r st h. rw (c .enum-told2 .given .1) (end-at _ _ (c .before .before .before .before .before .pre .place))
 
 returns-5 : tie.Need-returns-5
-returns-5 c = λ e es r st h. rw (c .enum-told3 .given .1)
+returns-5 c = λ e es r st h. brace-fits (c .before .before .before .before .args .element .unit) (c .match .keys5) st (membersOf e) _ _
 
 returns-6 : tie.Need-returns-6
-returns-6 c = λ e es r st h. c .one-at .ensures e es r ∙ by-byte (c .before .before .before .before .before .args .u) (c .before .match .keys6) st (membersOf e) _ _
+returns-6 c = λ e es r st h. c .one-at .ensures e es r ∙ by-byte (c .before .before .before .before .before .args .element .unit) (c .before .match .keys6) st (membersOf e) _ _
 
 pub copy-at-spec : {M : Type 1} → statement M
 copy-at-spec =
@@ -90,7 +101,6 @@ copy-at-spec =
     has-number-requires
     enum-told
     enum-told-2
-    enum-told-3
     one-at-requires
     returns
     returns-2

@@ -5,9 +5,9 @@ use mathlib.Core.Bool.{false, not}
 use mathlib.Core.List.{List, [], _∷_}
 use types.Run.{OneOf, miss}
 use denote.Enum.Declared.{tagOf}
-use Rattle.pass_one.proofs.unit.Unit.{the-type}
-use Rattle.pass_one.specs.declared.unit.Unit.{Unit as CodeUnit}
-use Rattle.pass_one.specs.declared.unit.Unit.the-variants.{Literal, Kind, Class, ClassNot, StackCall, CounterCall, Start, End, Brace}
+use Rattle.form_element.proofs.Unit.{the-type}
+use Rattle.form_element.specs.declared.Unit.{Unit as CodeUnit}
+use Rattle.form_element.specs.declared.Unit.the-variants.{Literal, Kind, Class, ClassNot, StackCall, CounterCall, Start, End, Left, Right}
 use Rattle.macros.specs.Macro.{Member}
 use Rattle.pass_one.specs.Pieces.{holds}
 use native.Mathlib.Omega.{arith}
@@ -17,16 +17,17 @@ use borrow.Author.Needs.{needs}
 use Rattle.pass_one.proofs.unit.is_copy.Statement.{statement}
 use Rattle.pass_one.proofs.unit.is_copy.Tie as tie
 
-none : (u : CodeUnit) → OneOf (4 ∷ 5 ∷ 6 ∷ 7 ∷ 8 ∷ []) (tagOf the-type u) → (ms : List Member) (b : ℕ) → false ≡ holds u ms b
-none (Literal c) h ms b = absurd (miss (4 ∷ 5 ∷ 6 ∷ 7 ∷ 8 ∷ []) 0 tt h)
-none (Kind n) h ms b = absurd (miss (4 ∷ 5 ∷ 6 ∷ 7 ∷ 8 ∷ []) 1 tt h)
-none Class h ms b = absurd (miss (4 ∷ 5 ∷ 6 ∷ 7 ∷ 8 ∷ []) 2 tt h)
-none ClassNot h ms b = absurd (miss (4 ∷ 5 ∷ 6 ∷ 7 ∷ 8 ∷ []) 3 tt h)
+none : (u : CodeUnit) → OneOf (4 ∷ 5 ∷ 6 ∷ 7 ∷ 8 ∷ 9 ∷ []) (tagOf the-type u) → (ms : List Member) (b : ℕ) → false ≡ holds u ms b
+none (Literal c) h ms b = absurd (miss (4 ∷ 5 ∷ 6 ∷ 7 ∷ 8 ∷ 9 ∷ []) 0 tt h)
+none (Kind n) h ms b = absurd (miss (4 ∷ 5 ∷ 6 ∷ 7 ∷ 8 ∷ 9 ∷ []) 1 tt h)
+none Class h ms b = absurd (miss (4 ∷ 5 ∷ 6 ∷ 7 ∷ 8 ∷ 9 ∷ []) 2 tt h)
+none ClassNot h ms b = absurd (miss (4 ∷ 5 ∷ 6 ∷ 7 ∷ 8 ∷ 9 ∷ []) 3 tt h)
 none (StackCall i) h ms b = refl
 none (CounterCall i) h ms b = refl
 none Start h ms b = refl
 none End h ms b = refl
-none Brace h ms b = refl
+none Left h ms b = refl
+none Right h ms b = refl
 
 enum-known-u : tie.Need-enum-known-u
 enum-known-u c = search needs
@@ -70,7 +71,7 @@ unfolding inClass
 returns-4 c = λ e es r. ap not (c .is-member2 .ensures _ _ (class-members _ _ _ (c .before .before .before .before .pre .unit) (ap hasMembers (c .before .enum-told2 .given .1)) e es r)) ∙ rw (c .before .enum-told2 .given .1)
 
 returns-5 : tie.Need-returns-5
-returns-5 c = λ e es r. none (c .before .before .args .u) (c .match .keys5) _ _
+returns-5 c = λ e es r. none (c .before .before .args .element .unit) (c .match .keys5) _ _
 
 pub is-copy-spec : {M : Type 1} → statement M
 is-copy-spec =

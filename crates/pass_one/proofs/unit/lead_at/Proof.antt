@@ -9,9 +9,9 @@ use denote.Enum.Declared.{tagOf}
 use Rattle.macros.specs.Macro.{pick}
 use Rattle.pass_one.specs.Pieces.{ledTo, leadOf}
 use Rattle.pass_one.proofs.CopyFits.{copy-inside}
-use Rattle.pass_one.proofs.unit.Closure.{the-type}
-use Rattle.pass_one.specs.declared.unit.Closure.{Closure as CodeClosure}
-use Rattle.pass_one.specs.declared.unit.Closure.the-variants.{Once, OneOrMore, ZeroOrMore}
+use Rattle.form_element.proofs.Closure.{the-type}
+use Rattle.form_element.specs.declared.Closure.{Closure as CodeClosure}
+use Rattle.form_element.specs.declared.Closure.the-variants.{Once, OneOrMore, ZeroOrMore}
 use Rattle.pass_one.specs.declared.unit.Lead.the-variants.{After, Nothing}
 use Rattle.pass_one.proofs.unit.lead_at.Statement.{statement}
 use Rattle.pass_one.proofs.unit.lead_at.Tie as tie
@@ -39,13 +39,13 @@ copy-at-requires : tie.Need-copy-at-requires
 copy-at-requires c κs = c .before .before .before .before .pre .copying
 
 add-t11 : tie.Need-add-t11
-add-t11 c = let l = copy-inside (c .before .before .before .before .before .before .args .items .now) (c .before .before .before .before .before .before .args .state .now) (c .before .before .before .before .before .before .args .line .now) (c .before .before .before .before .before .before .args .at) (c .before .before .before .before .before .before .args .u) (c .before .before .before .before .before .before .args .w) (c .before .before .before .before .before .before .args .p) _ (c .before .before .before .before .before .before .pre .copying .unit .stands) (c .before .before .before .before .before .before .pre .copying .state) (c .before .before .before .before .before .before .pre .copying .place) (c .before .before .before .before .before .before .pre .wide) (c .before .copy-at .ensures) (c .if1 .taken) in omega arith
+add-t11 c = let l = copy-inside (c .before .before .before .before .before .before .args .items .now) (c .before .before .before .before .before .before .args .state .now) (c .before .before .before .before .before .before .args .line .now) (c .before .before .before .before .before .before .args .at) (c .before .before .before .before .before .before .args .element .unit) (c .before .before .before .before .before .before .args .w) (c .before .before .before .before .before .before .args .p) _ (c .before .before .before .before .before .before .pre .copying .unit .stands) (c .before .before .before .before .before .before .pre .copying .state) (c .before .before .before .before .before .before .pre .copying .place) (c .before .before .before .before .before .before .pre .wide) (c .before .copy-at .ensures) (c .if1 .taken) in omega arith
 
 returns-2 : tie.Need-returns-2
-returns-2 c = λ e es r st h. led-yes _ _ (sym (c .before .copy-at .ensures e es r st h) ∙ c .if1 .taken) ∙ sym (lead-needed (c .before .before .before .before .before .before .args .c) (c .before .before .match .keys2) _ _ _)
+returns-2 c = λ e es r st h. led-yes _ _ (sym (c .before .copy-at .ensures e es r st h) ∙ c .if1 .taken) ∙ sym (lead-needed (c .before .before .before .before .before .before .args .element .closure) (c .before .before .match .keys2) _ _ _)
 
 returns-3 : tie.Need-returns-3
-returns-3 c = λ e es r st h. led-no _ _ (sym (c .before .copy-at .ensures e es r st h) ∙ c .if1 .left) ∙ sym (lead-needed (c .before .before .before .before .before .before .args .c) (c .before .before .match .keys2) _ _ _)
+returns-3 c = λ e es r st h. led-no _ _ (sym (c .before .copy-at .ensures e es r st h) ∙ c .if1 .left) ∙ sym (lead-needed (c .before .before .before .before .before .before .args .element .closure) (c .before .before .match .keys2) _ _ _)
 
 pub lead-at-spec : {M : Type 1} → statement M
 lead-at-spec = tie.close (tie.spec enum-told returns copy-at-requires add-t11 returns-2 returns-3)

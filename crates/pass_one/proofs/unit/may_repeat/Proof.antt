@@ -6,9 +6,9 @@ use lib.Dec.{ltb}
 use types.Run.{OneOf, miss}
 use denote.Enum.Declared.{tagOf}
 use Rattle.pass_one.specs.Pieces.{again}
-use Rattle.pass_one.proofs.unit.Closure.{the-type}
-use Rattle.pass_one.specs.declared.unit.Closure.{Closure as CodeClosure}
-use Rattle.pass_one.specs.declared.unit.Closure.the-variants.{Once, OneOrMore, ZeroOrMore}
+use Rattle.form_element.proofs.Closure.{the-type}
+use Rattle.form_element.specs.declared.Closure.{Closure as CodeClosure}
+use Rattle.form_element.specs.declared.Closure.the-variants.{Once, OneOrMore, ZeroOrMore}
 use borrow.Author.Needs.{needs}
 use Rattle.pass_one.proofs.unit.may_repeat.Statement.{statement}
 use Rattle.pass_one.proofs.unit.may_repeat.Tie as tie
@@ -25,7 +25,7 @@ returns : tie.Need-returns
 returns c = search needs
 
 returns-2 : tie.Need-returns-2
-returns-2 c = sym (again-some (c .before .args .c) (c .match .keys2) _)
+returns-2 c = sym (again-some (c .before .args .element .closure) (c .match .keys2) _)
 
 pub may-repeat-spec : {M : Type 1} → statement M
 may-repeat-spec = tie.close (tie.spec enum-told returns returns-2)

@@ -4,9 +4,9 @@ use mathlib.Core.List.{[], _∷_}
 use lib.ListN.{length}
 use types.Run.{OneOf, miss}
 use denote.Enum.Declared.{tagOf}
-use Rattle.pass_one.proofs.unit.Unit.{the-type}
-use Rattle.pass_one.specs.declared.unit.Unit.{Unit as CodeUnit}
-use Rattle.pass_one.specs.declared.unit.Unit.the-variants.{Literal, Kind, Class, ClassNot, StackCall, CounterCall, Start, End, Brace}
+use Rattle.form_element.proofs.Unit.{the-type}
+use Rattle.form_element.specs.declared.Unit.{Unit as CodeUnit}
+use Rattle.form_element.specs.declared.Unit.the-variants.{Literal, Kind, Class, ClassNot, StackCall, CounterCall, Start, End, Left, Right}
 use Rattle.lines.specs.State.{State, contents}
 use Rattle.lines.specs.Matching.{width}
 use Rattle.pass_one.specs.Pieces.{widthU}
@@ -24,18 +24,20 @@ one-wide (StackCall i) h st = absurd (miss (0 ∷ 1 ∷ 2 ∷ 3 ∷ []) 4 tt h)
 one-wide (CounterCall i) h st = absurd (miss (0 ∷ 1 ∷ 2 ∷ 3 ∷ []) 5 tt h)
 one-wide Start h st = absurd (miss (0 ∷ 1 ∷ 2 ∷ 3 ∷ []) 6 tt h)
 one-wide End h st = absurd (miss (0 ∷ 1 ∷ 2 ∷ 3 ∷ []) 7 tt h)
-one-wide Brace h st = absurd (miss (0 ∷ 1 ∷ 2 ∷ 3 ∷ []) 8 tt h)
+one-wide Left h st = absurd (miss (0 ∷ 1 ∷ 2 ∷ 3 ∷ []) 8 tt h)
+one-wide Right h st = absurd (miss (0 ∷ 1 ∷ 2 ∷ 3 ∷ []) 9 tt h)
 
-none-wide : (u : CodeUnit) → OneOf (6 ∷ 7 ∷ 8 ∷ []) (tagOf the-type u) → (st : State) → 0 ≡ widthU st u
-none-wide (Literal c) h st = absurd (miss (6 ∷ 7 ∷ 8 ∷ []) 0 tt h)
-none-wide (Kind n) h st = absurd (miss (6 ∷ 7 ∷ 8 ∷ []) 1 tt h)
-none-wide Class h st = absurd (miss (6 ∷ 7 ∷ 8 ∷ []) 2 tt h)
-none-wide ClassNot h st = absurd (miss (6 ∷ 7 ∷ 8 ∷ []) 3 tt h)
-none-wide (StackCall i) h st = absurd (miss (6 ∷ 7 ∷ 8 ∷ []) 4 tt h)
-none-wide (CounterCall i) h st = absurd (miss (6 ∷ 7 ∷ 8 ∷ []) 5 tt h)
+none-wide : (u : CodeUnit) → OneOf (6 ∷ 7 ∷ 8 ∷ 9 ∷ []) (tagOf the-type u) → (st : State) → 0 ≡ widthU st u
+none-wide (Literal c) h st = absurd (miss (6 ∷ 7 ∷ 8 ∷ 9 ∷ []) 0 tt h)
+none-wide (Kind n) h st = absurd (miss (6 ∷ 7 ∷ 8 ∷ 9 ∷ []) 1 tt h)
+none-wide Class h st = absurd (miss (6 ∷ 7 ∷ 8 ∷ 9 ∷ []) 2 tt h)
+none-wide ClassNot h st = absurd (miss (6 ∷ 7 ∷ 8 ∷ 9 ∷ []) 3 tt h)
+none-wide (StackCall i) h st = absurd (miss (6 ∷ 7 ∷ 8 ∷ 9 ∷ []) 4 tt h)
+none-wide (CounterCall i) h st = absurd (miss (6 ∷ 7 ∷ 8 ∷ 9 ∷ []) 5 tt h)
 none-wide Start h st = refl
 none-wide End h st = refl
-none-wide Brace h st = refl
+none-wide Left h st = refl
+none-wide Right h st = refl
 
 enum-known-u : tie.Need-enum-known-u
 enum-known-u c = search needs
@@ -61,10 +63,10 @@ unfolding width contents
 returns-2 c = λ st h. c .number-width .ensures ∙ rw (c .before .value .ensures st h, c .before .before .before .u2 .given .1)
 
 returns-3 : tie.Need-returns-3
-returns-3 c = λ st h. none-wide (c .before .before .args .u) (c .match .keys3) st
+returns-3 c = λ st h. none-wide (c .before .before .args .element .unit) (c .match .keys3) st
 
 returns-4 : tie.Need-returns-4
-returns-4 c = λ st h. one-wide (c .before .before .args .u) (c .match .keys4) st
+returns-4 c = λ st h. one-wide (c .before .before .args .element .unit) (c .match .keys4) st
 
 pub width-of-spec : {M : Type 1} → statement M
 width-of-spec =

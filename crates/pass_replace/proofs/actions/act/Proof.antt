@@ -14,11 +14,11 @@ use Rattle.pass_replace.proofs.actions.act.Statement.{statement}
 use Rattle.pass_replace.proofs.actions.act.Tie as tie
 
 abbrev Inv-loop : tie.InvT-loop
-Inv-loop pat ends line items state₀ base text₀ k₀ at₀ state text k at = (at ≤ length items) × (length state ≡ length state₀) × (length text ≡ length text₀) × IsState state × (base + k ≤ 1054) × Fits (drop at items)
-    × Rest (actsIn line pat ends) base items text₀ state₀ (drop at items) text state k
+Inv-loop pat ends line items state₀ out₀ size end₀ at₀ state out end at = (at ≤ length items) × (length state ≡ length state₀) × (length out ≡ length out₀) × IsState state × (end ≤ 1054) × Fits (drop at items)
+    × Rest (actsIn line pat ends) items out₀ state₀ size (drop at items) out state end
 
 abbrev μ-loop : tie.MeasureT-loop
-μ-loop pat ends line items state₀ base text₀ k₀ at₀ state text k at = length items - at
+μ-loop pat ends line items state₀ out₀ size end₀ at₀ state out end at = length items - at
 
 loop-holds : tie.Need-loop-holds Inv-loop μ-loop
 loop-holds c = (omega arith, refl, refl, c .before .before .before .before .before .before .pre .2, c .before .before .before .before .before .before .pre .3 .fits, c .before .before .before .before .before .before .pre .1, rest-all)

@@ -25,10 +25,10 @@ same-length : tie.Need-same-length
 same-length c = search needs
 
 returns : tie.Need-returns
-returns c = action-before _ (c .before .before .before .before .before .before .before .before .before .before .before .before .args .t .now) (c .before .before .before .before .before .before .before .before .before .before .before .before .pre .3 .fits) (c .before .before .before .before .shift .ensures .made (c .before .before .before .before .before .before .before .before .before .before .before .before .args .k) refl) (c .enum-told .given .1)
+returns c = action-before _ (c .before .before .before .before .before .before .before .before .before .before .before .before .args .t .now) (c .before .before .before .before .before .before .before .before .before .before .before .before .pre .3 .fits) (c .before .before .before .before .shift .ensures .made (c .before .before .before .before .before .before .before .before .before .before .before .before .args .size) refl) (c .enum-told .given .1)
 
 access-requires : tie.Need-access-requires
-access-requires c κs = (c .before .before .before .before .before .before .before .before .before .before .before .before .before .before .before .pre .0, c .before .before .before .before .before .before .before .before .before .before .before .before .before .before .before .pre .1, (c .before .before .before .before .before .before .before .shift .ensures .made (c .before .before .before .before .before .before .before .before .before .before .before .before .before .before .before .args .k) refl) .state, record { room = c .before .before .before .before .before .before .before .before .before .before .before .before .before .before .before .pre .3 .room; fits = changes-room (c .before .before .before .before .before .before .before .before .before .before .before .before .before .before .before .args .base) (c .before .before .before .before .before .before .before .before .before .before .before .before .before .before .before .pre .3 .fits) (c .before .before .before .before .before .before .before .shift .ensures .made (c .before .before .before .before .before .before .before .before .before .before .before .before .before .before .before .args .k) refl) (c .before .before .before .ready .given .1) })
+access-requires c κs = (c .before .before .before .before .before .before .before .before .before .before .before .before .before .before .before .pre .0, c .before .before .before .before .before .before .before .before .before .before .before .before .before .before .before .pre .1, (c .before .before .before .before .before .before .before .shift .ensures .made (c .before .before .before .before .before .before .before .before .before .before .before .before .before .before .before .args .size) refl) .state, record { room = c .before .before .before .before .before .before .before .before .before .before .before .before .before .before .before .pre .3 .room; fits = changes-room (c .before .before .before .before .before .before .before .before .before .before .before .before .before .before .before .pre .3 .fits) (c .before .before .before .before .before .before .before .shift .ensures .made (c .before .before .before .before .before .before .before .before .before .before .before .before .before .before .before .args .size) refl) (c .before .before .before .ready .given .1) })
 
 shift-requires-2 : tie.Need-shift-requires-2
 shift-requires-2 c κs = (c .before .before .before .before .before .access .ensures .state, omega arith, omega arith, (λ h. letter-of (c .before .before .before .before .before .before .before .before .before .before .before .before .before .before .before .before .before .before .before .before .before .args .t .now) (c .before .before .before .before .before .before .before .before .before .before .before .before .before .before .before .before .before .before .before .before .before .pre .1) h))
@@ -40,7 +40,7 @@ same-length-3 : tie.Need-same-length-3
 same-length-3 c = search needs
 
 returns-2 : tie.Need-returns-2
-returns-2 c = action-after _ (c .before .before .before .before .before .before .before .before .before .before .before .before .before .before .before .before .before .before .before .before .before .before .before .before .args .t .now) (c .before .before .before .before .before .before .before .before .before .before .before .before .before .before .before .before .before .before .before .before .before .before .before .before .pre .3 .fits) (c .before .before .before .before .before .before .before .before .before .before .before .before .before .before .before .before .shift .ensures .made (c .before .before .before .before .before .before .before .before .before .before .before .before .before .before .before .before .before .before .before .before .before .before .before .before .args .k) refl) (c .before .before .before .before .before .before .before .before .before .before .before .before .ready .given .1) (c .before .before .before .before .before .before .before .before .access .ensures) (c .before .before .shift2 .ensures)
+returns-2 c = action-after _ (c .before .before .before .before .before .before .before .before .before .before .before .before .before .before .before .before .before .before .before .before .before .before .before .before .args .t .now) (c .before .before .before .before .before .before .before .before .before .before .before .before .before .before .before .before .before .before .before .before .before .before .before .before .pre .3 .fits) (c .before .before .before .before .before .before .before .before .before .before .before .before .before .before .before .before .shift .ensures .made (c .before .before .before .before .before .before .before .before .before .before .before .before .before .before .before .before .before .before .before .before .before .before .before .before .args .size) refl) (c .before .before .before .before .before .before .before .before .before .before .before .before .ready .given .1) (c .before .before .before .before .before .before .before .before .access .ensures) (c .before .before .shift2 .ensures)
 
 pub action-spec : {M : Type 1} → statement M
 action-spec =

@@ -4,9 +4,6 @@ use borrow.Author.Needs.{needs}
 use Rattle.pass_replace.proofs.texts.put.Statement.{statement}
 use Rattle.pass_replace.proofs.texts.put.Tie as tie
 
-add-if1 : tie.Need-add-if1
-add-if1 c = omega (arith, c .before .before .pre .fits)
-
 sub-if1 : tie.Need-sub-if1
 sub-if1 c = omega (arith, c .before .before .pre .fits)
 
@@ -16,8 +13,8 @@ returns c = put-refused (c .before .before .before .pre) (c .if1 .taken)
 copy-requires : tie.Need-copy-requires
 copy-requires c κs = omega (arith, c .before .before .before .before .pre .fits, c .before .before .before .before .pre .room, c .before .if1 .left)
 
-add-t6 : tie.Need-add-t6
-add-t6 c = omega (arith, c .before .before .before .before .before .before .before .pre .fits, c .before .before .before .before .if1 .left)
+add-t5 : tie.Need-add-t5
+add-t5 c = omega (arith, c .before .before .before .before .before .before .before .pre .fits, c .before .before .before .before .if1 .left)
 
 same-length : tie.Need-same-length
 same-length c = search needs
@@ -29,10 +26,9 @@ pub put-spec : {M : Type 1} → statement M
 put-spec =
     tie.close
     (tie.spec
-    add-if1
     sub-if1
     returns
     copy-requires
-    add-t6
+    add-t5
     same-length
     returns-2)

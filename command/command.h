@@ -1,0 +1,132 @@
+/* What the files of the command m7 share. */
+#ifndef M7_COMMAND_H
+#define M7_COMMAND_H
+
+#include "m7.h"
+#include <stdio.h>
+
+/* How the command ends. */
+enum { FINE = 0, REFUSED = 1, WRONG = 2 };
+
+/* A subcommand. To add one: a file with its `struct command`, its name in the
+   list of main.c, a section in m7.1, a session in test/. */
+struct command {
+    const char *name;
+    const char *words; /* what follows the name */
+    const char *does;  /* in one line */
+    const char *help;  /* the rest of what --help says */
+    int (*run)(int count, char **words);
+};
+
+extern const struct command run_command, check_command, write_command, explain_command;
+
+/* messages.c */
+
+/* Says on standard error, after "m7: ", what is wrong; the answer is WRONG. */
+int complain(const char *format, ...) __attribute__((format(printf, 1, 2)));
+/* The same for words that do not fit; it names the help to read. */
+int usage(const struct command *command, const char *format, ...) __attribute__((format(printf, 2, 3)));
+/* FINE if all of standard output was written, else WRONG and a message. */
+int output_written(void);
+
+/* options.c */
+
+struct option {
+    const char *name;  /* with its dashes */
+    const char *value; /* what its value is, or NULL if it has none */
+    const char *given; /* its value, or its name if it has none; NULL if it was not given */
+};
+
+/* Takes the options out of the words and keeps the rest in order. The answer is
+   the number of the rest, or -1 after a message. */
+int take_options(const struct command *command, int count, char **words,
+                 struct option *options, size_t known);
+/* A number in decimal digits that is at most `most`; 0 if the text is no such number. */
+int take_number(const char *text, uint32_t most, uint32_t *number);
+
+/* files.c */
+
+/* What messages call a file; "-" is standard input. */
+const char *shown_name(const char *name);
+/* Opens a file to read. NULL after a message that ends in `what to do`. */
+FILE *open_to_read(const char *name, const char *advice);
+void close_read(FILE *file);
+/* Reads a file whole, or `most` bytes of a longer one. 0 after a message. */
+int load(const char *name, const char *advice, uint8_t *bytes, size_t most, size_t *size);
+/* Replaces a file by the bytes, or leaves it as it was and says why (then 0). */
+int save(const char *name, const uint8_t *bytes, size_t size);
+/* Whether a file could be replaced, as far as is known before; 0 after a message. */
+int can_save(const char *name);
+/* Reads a line without its line feed, of a long one its first `most` bytes.
+   0 at the end of the file and after an error. */
+int next_line(FILE *file, uint8_t *line, size_t most, size_t *size);
+
+/* places.c: lines and columns count from 1, columns in bytes. */
+
+struct place {
+    size_t line, column;
+    size_t from, to; /* the line's first byte, and the byte after its last */
+};
+
+struct place place_of(const uint8_t *bytes, size_t size, size_t at);
+/* Prints the line where a byte stands, and a caret below the byte. */
+void show_line(FILE *out, const uint8_t *bytes, size_t size, size_t at);
+
+/* letters.c */
+
+/* The length of the letter in UTF-8 at the first byte and its code point, or 0
+   if the bytes there are none. */
+size_t letter_at(const uint8_t *bytes, size_t size, uint32_t *point);
+/* The columns that a letter takes on a terminal: 0, 1 or 2. */
+size_t columns_of(uint32_t point);
+/* Whether a letter is a quote of some kind other than the one that M7 knows. */
+int quote_like(uint32_t point);
+
+/* scan.c: the parts of a macro file */
+
+enum part_kind { IGNORED, SKIP, MACRO, PATTERN, REPLACEMENT, CLASS, BRACE, TAG_NUMBER, CALL, CALL_TEXT };
+
+struct part {
+    enum part_kind kind;
+    int open;        /* it is not ended */
+    size_t from, to; /* its first byte, and the byte after its last */
+};
+
+/* What an unfinished macro lacks, after the part of it that is open. */
+enum lacking { LACKS_SYMBOL, LACKS_REPLACEMENT, LACKS_END };
+
+struct scan {
+    const uint8_t *file;
+    size_t size, at, count;
+    enum lacking lacks; /* of the last macro, if it is open */
+    struct part parts[2 * (M7_FILE_BYTES + 2)];
+};
+
+/* Finds the parts in the first `size` bytes of a macro file, in which reading
+   found no fault. */
+void scan_file(struct scan *scan, const uint8_t *file, size_t size);
+
+/* tables.c */
+
+struct table {
+    const char *name;
+    size_t size;
+    uint8_t file[M7_FILE_BYTES + 1];
+    uint8_t macros[M7_TABLE_BYTES];
+    m7_answer answer; /* of reading it */
+};
+
+/* Loads and reads a macro file: FINE, REFUSED, or WRONG after a message. */
+int load_table(const char *name, struct table *table);
+/* Prints "FILE:LINE:COLUMN: KIND", then the line and a caret. */
+void show_place(FILE *out, const struct table *table, size_t at, const char *kind);
+/* Prints why a table was refused, where, and which part was open there. */
+void show_fault(FILE *out, const struct table *table);
+
+/* warnings.c */
+
+/* Prints what reads without a fault but is seldom meant, up to the first fault;
+   the answer is how many. */
+size_t show_warnings(FILE *out, const struct table *table);
+
+#endif

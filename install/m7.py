@@ -1,0 +1,166 @@
+"""The M7 engine for Python: a table of macros that rewrites lines of text.
+
+    import m7
+
+    song = m7.Song(open("song.m7", "rb").read())
+    for line in open("song.txt", "rb"):
+        try:
+            out = song.feed(line.rstrip(b"\\n"))
+        except m7.Refused as refused:
+            print(refused)
+        else:
+            if out is not None:
+                print(out.decode())
+
+Lines and macro files are bytes; what they mean is said in m7.h and in
+LANGUAGE.md. This file needs Python 3.6 or newer and the shared object of
+the library: the one that was installed with it, or the one that the environment
+names in M7_LIBRARY. A Song belongs to one thread at a time; different songs may
+run on different threads at once.
+"""
+
+import ctypes
+import os
+
+OUT, WITHHELD, CONTROL = 1, 2, 3
+BUDGET = 10000
+
+
+def _find():
+    named = os.environ.get("M7_LIBRARY")
+    here = os.path.dirname(os.path.abspath(__file__))
+    return named or os.path.join(here, os.pardir, "libm7.so.1")
+
+
+class _Answer(ctypes.Structure):
+    _fields_ = [(name, ctypes.c_uint32) for name in ("number", "place", "passes", "kind", "length")]
+
+
+def _declare(library):
+    memory, size = [ctypes.c_char_p, ctypes.c_size_t], ctypes.c_size_t
+    for name, lent in (("m7_read", 2 * memory), ("m7_write", 2 * memory), ("m7_fresh", memory),
+                       ("m7_feed", 3 * memory + [ctypes.c_uint32] + memory)):
+        function = getattr(library, name)
+        function.restype, function.argtypes = _Answer, lent
+    for name in ("m7_table_bytes", "m7_state_bytes", "m7_output_bytes", "m7_file_bytes"):
+        getattr(library, name).restype = size
+        getattr(library, name).argtypes = []
+    library.m7_version.restype = library.m7_meaning.restype = ctypes.c_char_p
+    library.m7_version.argtypes, library.m7_meaning.argtypes = [], [ctypes.c_uint32]
+    return library
+
+
+_library = _declare(ctypes.CDLL(_find()))
+
+TABLE_BYTES = _library.m7_table_bytes()
+STATE_BYTES = _library.m7_state_bytes()
+OUTPUT_BYTES = _library.m7_output_bytes()
+FILE_BYTES = _library.m7_file_bytes()
+__version__ = _library.m7_version().decode()
+
+
+def meaning(number):
+    """What a number means, in a few words."""
+    return _library.m7_meaning(number).decode()
+
+
+class Refused(Exception):
+    """A call was refused: its number, where it shows, and the passes begun."""
+
+    def __init__(self, number, place=0, passes=0):
+        super().__init__("%d: %s" % (number, meaning(number)))
+        self.number, self.place, self.passes = number, place, passes
+
+
+def _checked(answer):
+    if answer.number != 0:
+        raise Refused(answer.number, answer.place, answer.passes)
+    return answer
+
+
+def _bytes(value, what):
+    if not isinstance(value, (bytes, bytearray)):
+        raise TypeError("%s is bytes, not %s" % (what, type(value).__name__))
+    return bytes(value)
+
+
+def _memory(size):
+    """A memory to lend, of zeros."""
+    return (ctypes.c_char * size)()
+
+
+def _copy(content):
+    """A memory to lend with this content; one of the wrong size is refused with 3."""
+    return (ctypes.c_char * len(content)).from_buffer_copy(content)
+
+
+def read(file):
+    """The table of a macro file, as bytes, and the number of its macros."""
+    file, table = _bytes(file, "a macro file"), _memory(TABLE_BYTES)
+    answer = _checked(_library.m7_read(file, len(file), table, len(table)))
+    return table.raw, answer.length
+
+
+def write(table):
+    """A table, given as bytes, written out as a macro file."""
+    table, file = _bytes(table, "a table"), _memory(FILE_BYTES)
+    answer = _checked(_library.m7_write(table, len(table), file, len(file)))
+    return file.raw[:answer.length]
+
+
+def fresh():
+    """The fresh state, as bytes."""
+    state = _memory(STATE_BYTES)
+    _checked(_library.m7_fresh(state, len(state)))
+    return state.raw
+
+
+class Song:
+    """A table and a state, and lines that are fed to them.
+
+    `file` is a macro file. `state` is a state that was kept before; without it
+    the song begins with a fresh one. After a refusal both are as they were.
+    """
+
+    def __init__(self, file=b"", state=None, budget=BUDGET):
+        table, self.macros = read(file)
+        state = fresh() if state is None else _bytes(state, "a state")
+        self.budget = budget
+        self.passes = 0  # of the line fed last
+        self.kind = 0    # OUT, WITHHELD or CONTROL
+        self._table = _copy(table)
+        self._state = _copy(state)
+        self._output = _memory(OUTPUT_BYTES)
+        self._check()
+
+    def _check(self):
+        """Raises Refused(2) if the state is none: no macros take an empty line."""
+        table, state = _memory(TABLE_BYTES), _copy(self._state.raw)
+        _checked(_library.m7_feed(table, len(table), state, len(state), b"", 0, 0,
+                                  self._output, len(self._output)))
+
+    @property
+    def table(self):
+        """The table as bytes; a control line may have added macros to it."""
+        return self._table.raw
+
+    @property
+    def state(self):
+        """The state as bytes, to be kept for another Song."""
+        return self._state.raw
+
+    def written(self):
+        """The table written out as a macro file."""
+        return write(self.table)
+
+    def feed(self, line):
+        """The line that goes out, or None for one that is withheld or a control
+        line. The line has no line feed at its end. Raises Refused."""
+        line = _bytes(line, "a line")
+        if not 0 <= self.budget < 1 << 32:
+            raise ValueError("a budget is a number from 0 to 1,000,000")
+        answer = _library.m7_feed(self._table, len(self._table), self._state, len(self._state),
+                                  line, len(line), self.budget, self._output, len(self._output))
+        self.passes, self.kind = answer.passes, answer.kind
+        _checked(answer)
+        return self._output.raw[:answer.length] if answer.kind == OUT else None
