@@ -26,7 +26,7 @@ pub enum Group {
     SizeFeed,
 }
 
-const NAMES: [&str; 19] = [
+const NAMES: &[&str] = &[
     "m7_read, a generated file",
     "m7_read, a file that m7_write wrote",
     "m7_write, a table as read or fed",
@@ -49,22 +49,23 @@ const NAMES: [&str; 19] = [
 ];
 
 /// Behind the numbers stand the kinds of a line that was taken.
-const KINDS: usize = 40;
+const KINDS: usize = 100;
+const ANSWERS: usize = KINDS + 4;
 
 pub struct Counts {
-    calls: [[u64; 44]; NAMES.len()],
+    calls: [[u64; ANSWERS]; NAMES.len()],
 }
 
 impl Counts {
     pub fn new() -> Counts {
-        Counts { calls: [[0; 44]; NAMES.len()] }
+        Counts { calls: [[0; ANSWERS]; NAMES.len()] }
     }
 
     pub fn add(&mut self, group: Group, answer: Answer) {
         let place = match (answer.number, answer.kind) {
             (0, 0) => 0,
             (0, kind) => KINDS + kind.min(3) as usize,
-            (number, _) => number.min(39) as usize,
+            (number, _) => number.min(99) as usize,
         };
         self.calls[group as usize][place] += 1;
     }
@@ -88,11 +89,10 @@ impl Counts {
 }
 
 fn answer_name(place: usize) -> String {
+    const TAKEN: [&str; 4] = ["", "out", "withheld", "control"];
     match place {
         0 => "taken".to_string(),
-        41 => "out".to_string(),
-        42 => "withheld".to_string(),
-        43 => "control".to_string(),
+        KINDS.. => TAKEN[place - KINDS].to_string(),
         number => format!("**{number}**"),
     }
 }
