@@ -15,6 +15,7 @@ pub enum Group {
     FeedOne,
     FeedExact,
     FeedLess,
+    FeedMore,
     FeedLarge,
     FeedOver,
     FeedTable,
@@ -37,6 +38,7 @@ const NAMES: &[&str] = &[
     "m7_feed, budget 1",
     "m7_feed, budget exactly the passes",
     "m7_feed, budget one less than the passes",
+    "m7_feed, budget more than the passes",
     "m7_feed, budget 1,000,000",
     "m7_feed, budget over 1,000,000",
     "m7_feed, a byte of the table changed",
@@ -68,6 +70,11 @@ impl Counts {
             (number, _) => number.min(99) as usize,
         };
         self.calls[group as usize][place] += 1;
+    }
+
+    /// The calls of one group.
+    pub fn of(&self, group: Group) -> u64 {
+        self.calls[group as usize].iter().sum()
     }
 
     pub fn all(&self) -> u64 {
