@@ -8,6 +8,9 @@ use m7_reference::refusal::Refusal;
 use m7_reference::spell::shortest_spelling;
 use m7_reference::state::State;
 
+/// Texts about calls that the archive does not have.
+pub const NOT_ASKED: &[&str] = &[];
+
 /// The memories of one case.
 pub struct Host {
     table: Vec<u8>,
@@ -114,7 +117,7 @@ pub fn run(case: &Case) -> Result<usize, String> {
         if !host.holds(check) {
             return Err(format!("{} (line {number}): wanted {check:?}", case.name));
         }
-        held += !matches!(check, Check::Line(..)) as usize;
+        held += check.is_answer() as usize;
     }
     Ok(held)
 }

@@ -183,50 +183,73 @@ fn repeat_end(text: &str) -> Option<usize> {
     None
 }
 
+/// What a case has while it runs.
+struct Running {
+    read: Result<Table, Refusal>,
+    engine: Engine,
+    answer: Option<Answer>,
+}
+
 /// Runs a case. The answer is the number of checks that held, or what differs.
 pub fn run(case: &Case) -> Result<usize, String> {
     let read = read_file(&case.file);
-    let mut engine = Engine::new(read.clone().unwrap_or_default());
-    let mut answer = None;
+    let engine = Engine::new(read.clone().unwrap_or_default());
+    let mut running = Running { read, engine, answer: None };
     for (number, check) in &case.checks {
-        let said = said_instead(check, &read, &mut engine, &mut answer);
-        if let Some(said) = said {
+        if let Some(said) = running.says_instead(check) {
             return Err(format!("{} (line {number}): wanted {check:?}, got {said}", case.name));
         }
     }
-    Ok(case.checks.iter().filter(|(_, check)| !matches!(check, Check::Line(..))).count())
+    Ok(case.checks.iter().filter(|(_, check)| check.is_answer()).count())
 }
 
-/// What the engine says where it differs from the check.
-fn said_instead(
-    check: &Check,
-    read: &Result<Table, Refusal>,
-    engine: &mut Engine,
-    answer: &mut Option<Answer>,
-) -> Option<String> {
+impl Check {
+    /// Whether it says what an answer is, and does not ask for one.
+    pub fn is_answer(&self) -> bool {
+        !matches!(self, Check::Line(..))
+    }
+}
+
+impl Running {
+    /// What the engine says where it differs from the check.
+    fn says_instead(&mut self, check: &Check) -> Option<String> {
+        match check {
+            Check::Accepted(_) | Check::FileRefused(_) => self.read_instead(check),
+            Check::Line(budget, line) => {
+                self.answer = Some(self.engine.feed(line, *budget));
+                None
+            }
+            Check::Answer(wanted) => differs(&self.answer, &Some(wanted.clone())),
+            _ => table_instead(check, &self.engine.table),
+        }
+        .or_else(|| state_instead(check, &self.engine))
+    }
+
+    fn read_instead(&self, check: &Check) -> Option<String> {
+        let read = self.read.as_ref().map(Vec::len);
+        match check {
+            Check::Accepted(n) => differs(&read, &Ok(*n)),
+            Check::FileRefused(refusal) => differs(&read, &Err(refusal)),
+            _ => None,
+        }
+    }
+}
+
+fn table_instead(check: &Check, table: &Table) -> Option<String> {
     match check {
-        Check::Accepted(n) => differs(&read.as_ref().map(Vec::len), &Ok(n).copied()),
-        Check::FileRefused(refusal) => differs(&read.as_ref().map(Vec::len), &Err(refusal)),
-        Check::Line(budget, line) => {
-            *answer = Some(engine.feed(line, *budget));
-            None
-        }
-        Check::Answer(wanted) => differs(answer, &Some(wanted.clone())),
-        Check::Macros(n) => differs(&engine.table.len(), n),
-        Check::Written(text) => differs(&write_table(&engine.table), &Ok(text.clone())),
-        Check::WrittenBytes(n) => {
-            differs(&write_table(&engine.table).map(|file| file.len()), &Ok(*n))
-        }
-        Check::WritingRefused(refusal) => differs(&write_table(&engine.table), &Err(*refusal)),
+        Check::Macros(n) => differs(&table.len(), n),
+        Check::Written(text) => differs(&write_table(table), &Ok(text.clone())),
+        Check::WrittenBytes(n) => differs(&write_table(table).map(|file| file.len()), &Ok(*n)),
+        Check::WritingRefused(refusal) => differs(&write_table(table), &Err(*refusal)),
         Check::Shortest(n, length) => {
-            differs(&engine.table.get(n - 1).map(shortest_length), &Some(*length))
+            differs(&table.get(n - 1).map(shortest_length), &Some(*length))
         }
-        Check::SameAs(file) => differs(&read_file(file), &Ok(engine.table.clone())),
+        Check::SameAs(file) => differs(&read_file(file), &Ok(table.clone())),
         Check::DiffersFrom(file) => match read_file(file) {
-            Ok(table) if table != engine.table => None,
+            Ok(other) if other != *table => None,
             other => Some(format!("{other:?}")),
         },
-        _ => state_instead(check, engine),
+        _ => None,
     }
 }
 

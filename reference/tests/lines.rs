@@ -80,35 +80,54 @@ fn what_comes_out_is_within_the_bounds() {
     }
 }
 
-/// An answer other than 4 and 31 is the same under every larger budget, and
-/// a budget below its passes gives 31.
+/// Budgets below the passes: all of them, or of many the first, some and the last.
+fn smaller_budgets(random: &mut Random, passes: u64) -> Vec<u64> {
+    if passes <= 40 {
+        return (0..passes).collect();
+    }
+    let some = |random: &mut Random| random.below(passes as usize) as u64;
+    vec![0, 1, some(random), some(random), passes - 1]
+}
+
+/// 02, N10: an answer other than 4 and 31 is the same under its passes as the
+/// budget and under every larger one; every smaller one gives 31.
 #[test]
 fn a_larger_budget_gives_the_same_answer() {
     let mut random = Random::new(8);
-    for _ in 0..BUDGET_LISTS {
-        let case = any_case(&mut random, 4, 4);
+    let (mut lines, mut fed, mut seen) = (0, 0, [0; 36]);
+    for list in 0..BUDGET_LISTS {
+        let case = match list % 8 {
+            0 => bound_case(&mut random),
+            _ => any_case(&mut random, 4, 4),
+        };
         let mut engine = Engine::new(read_file(&case.file).unwrap_or_default());
         for (budget, line) in &case.lines {
             let before = engine.clone();
-            let answer = engine.feed(line, *budget);
-            if matches!(number_of(&answer), 4 | 31) {
+            let told = engine.feed(line, *budget);
+            let (number, passes) = (number_of(&told), told.passes);
+            if matches!(number, 4 | 31) {
                 continue;
             }
-            for larger in [budget + 1, 1_000_000] {
+            (lines, seen[number as usize]) = (lines + 1, seen[number as usize] + 1);
+            let more = passes + random.below(1_000_001 - passes as usize) as u64;
+            for enough in [passes, passes + 1, more, 1_000_000] {
                 let mut other = before.clone();
-                assert_eq!(other.feed(line, larger), answer);
+                assert_eq!(other.feed(line, enough.min(1_000_000)), told);
                 assert_eq!(other, engine);
+                fed += 1;
             }
-            for smaller in [0, answer.passes / 2, answer.passes.saturating_sub(1)] {
-                if smaller >= answer.passes {
-                    continue;
-                }
+            for smaller in smaller_budgets(&mut random, passes) {
                 let kind = Kind::Refused(Refusal::plain(31));
                 let wanted = Answer { kind, passes: smaller };
-                assert_eq!(before.clone().feed(line, smaller), wanted);
+                let mut other = before.clone();
+                assert_eq!(other.feed(line, smaller), wanted);
+                assert_eq!(other, before);
+                fed += 1;
             }
         }
     }
+    println!("{lines} lines under {fed} budgets; by number, 0 for lines taken: {seen:?}");
+    assert!([0, 12, 16, 19, 21, 22, 23, 32, 33, 34, 35].iter().all(|number| seen[*number] > 0));
 }
 
 /// Longer lines have too many divisions to list.

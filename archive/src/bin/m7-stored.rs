@@ -1,7 +1,7 @@
 //! `m7-stored FOLDER` asks the archive for every stored answer. The exit code
 //! is 1 if one does not hold.
 
-use m7_archive::stored::{run, runs};
+use m7_archive::stored::{run, runs, NOT_ASKED};
 use m7_reference::answers::parse;
 use std::path::PathBuf;
 use std::process::ExitCode;
@@ -21,6 +21,9 @@ fn main() -> ExitCode {
     let folder = std::env::args().nth(1).unwrap_or("reference/answers".to_string());
     let (mut cases, mut answers, mut programs, mut failures) = (0, 0, 0, Vec::new());
     for (name, text) in texts(&folder) {
+        if NOT_ASKED.contains(&name.as_str()) {
+            continue;
+        }
         if name == "programs" {
             for run in runs(&text).expect("the runs can be read") {
                 programs += run.holds() as usize;

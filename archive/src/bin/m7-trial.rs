@@ -3,7 +3,7 @@
 //! A call is one call of an exported function whose answer, every lent byte
 //! and the bytes around it were compared. The exit code is 1 if any differ.
 
-use m7_archive::trial::{grouped, Songs, Trial};
+use m7_archive::trial::{grouped, Group, Songs, Trial};
 use m7_reference::generate::Random;
 use std::process::ExitCode;
 
@@ -25,6 +25,10 @@ fn main() -> ExitCode {
     println!("{} near a bound of 01,", grouped(songs.bounds));
     println!("{} with 10 to 89 macros and long lines,", grouped(songs.long));
     println!("{} lines in the lists;", grouped(songs.lines));
+    let lines = |group: Group| grouped(trial.counts.of(group));
+    let (exact, less) = (lines(Group::FeedExact), lines(Group::FeedLess));
+    let more = lines(Group::FeedMore);
+    println!("{exact} asked under their passes, {less} under one less, {more} under more;");
     println!("seed {seed}, {} calls compared", grouped(trial.counts.all()));
     println!("{} differ", trial.differing);
     ExitCode::from((trial.differing > 0) as u8)

@@ -1,5 +1,5 @@
-//! A line under budgets 0, 1, exact, one less, large and too large, each from
-//! the same table and state.
+//! Each line under its passes, one less and more, and some under 0, 1, the
+//! largest budget and one too large, each from the same table and state.
 
 use super::{Group, Trial};
 use m7_reference::generate::Random;
@@ -37,27 +37,43 @@ impl Trial {
         self.state.hold(&kept.state_bytes);
     }
 
-    /// Each budget once; a line that is taken is undone.
-    pub fn budgets(&mut self, random: &mut Random, line: &[u8]) {
-        let (Some(table), Some(state)) = (self.plain_table.clone(), self.plain_state.clone())
-        else {
-            return;
-        };
-        let kept = self.keep();
-        let passes = Engine { table, state }.feed(line, FEW).passes;
-        let over = *random.pick(&[1_000_001, 1_000_002, 16_777_216, u32::MAX]);
-        let mut tried = vec![(Group::FeedNone, 0), (Group::FeedOne, 1), (Group::FeedOver, over)];
-        if passes < FEW {
-            tried.push((Group::FeedExact, passes as u32));
-        }
-        if passes < FEW || random.one_in(2_000) {
-            tried.push((Group::FeedLarge, 1_000_000));
+    /// The passes begun with budget `FEW`.
+    fn passes(&self, line: &[u8]) -> Option<u32> {
+        let (table, state) = (self.plain_table.clone()?, self.plain_state.clone()?);
+        Some(Engine { table, state }.feed(line, FEW).passes as u32)
+    }
+
+    /// 02, N10: under the passes the answer, under one less 31, under more the
+    /// same answer. A line of more passes than few has 31 only.
+    pub fn passes_as_budget(&mut self, random: &mut Random, line: &[u8]) {
+        let Some(passes) = self.passes(line) else { return };
+        let mut tried = Vec::new();
+        if (passes as u64) < FEW {
+            let more = passes + 1 + random.below(1_000_000 - passes as usize) as u32;
+            tried.extend([(Group::FeedExact, passes), (Group::FeedMore, more)]);
         }
         if passes > 0 {
-            tried.push((Group::FeedLess, passes as u32 - 1));
+            tried.push((Group::FeedLess, passes - 1));
         }
+        self.each_budget(&tried, line);
+    }
+
+    /// 0, 1, the largest and one too large.
+    pub fn budgets(&mut self, random: &mut Random, line: &[u8]) {
+        let Some(passes) = self.passes(line) else { return };
+        let over = *random.pick(&[1_000_001, 1_000_002, 16_777_216, u32::MAX]);
+        let mut tried = vec![(Group::FeedNone, 0), (Group::FeedOne, 1), (Group::FeedOver, over)];
+        if (passes as u64) < FEW || random.one_in(2_000) {
+            tried.push((Group::FeedLarge, 1_000_000));
+        }
+        self.each_budget(&tried, line);
+    }
+
+    /// Each budget once; a line that is taken is undone.
+    fn each_budget(&mut self, tried: &[(Group, u32)], line: &[u8]) {
+        let kept = self.keep();
         for (group, budget) in tried {
-            if self.feed(group, budget, line).number == 0 {
+            if self.feed(*group, *budget, line).number == 0 {
                 self.restore(&kept);
             }
         }

@@ -15,6 +15,7 @@ pub enum Group {
     FeedOne,
     FeedExact,
     FeedLess,
+    FeedMore,
     FeedLarge,
     FeedOver,
     FeedTable,
@@ -26,7 +27,7 @@ pub enum Group {
     SizeFeed,
 }
 
-const NAMES: [&str; 19] = [
+const NAMES: &[&str] = &[
     "m7_read, a generated file",
     "m7_read, a file that m7_write wrote",
     "m7_write, a table as read or fed",
@@ -37,6 +38,7 @@ const NAMES: [&str; 19] = [
     "m7_feed, budget 1",
     "m7_feed, budget exactly the passes",
     "m7_feed, budget one less than the passes",
+    "m7_feed, budget more than the passes",
     "m7_feed, budget 1,000,000",
     "m7_feed, budget over 1,000,000",
     "m7_feed, a byte of the table changed",
@@ -49,24 +51,30 @@ const NAMES: [&str; 19] = [
 ];
 
 /// Behind the numbers stand the kinds of a line that was taken.
-const KINDS: usize = 40;
+const KINDS: usize = 100;
+const ANSWERS: usize = KINDS + 4;
 
 pub struct Counts {
-    calls: [[u64; 44]; NAMES.len()],
+    calls: [[u64; ANSWERS]; NAMES.len()],
 }
 
 impl Counts {
     pub fn new() -> Counts {
-        Counts { calls: [[0; 44]; NAMES.len()] }
+        Counts { calls: [[0; ANSWERS]; NAMES.len()] }
     }
 
     pub fn add(&mut self, group: Group, answer: Answer) {
         let place = match (answer.number, answer.kind) {
             (0, 0) => 0,
             (0, kind) => KINDS + kind.min(3) as usize,
-            (number, _) => number.min(39) as usize,
+            (number, _) => number.min(99) as usize,
         };
         self.calls[group as usize][place] += 1;
+    }
+
+    /// The calls of one group.
+    pub fn of(&self, group: Group) -> u64 {
+        self.calls[group as usize].iter().sum()
     }
 
     pub fn all(&self) -> u64 {
@@ -88,11 +96,10 @@ impl Counts {
 }
 
 fn answer_name(place: usize) -> String {
+    const TAKEN: [&str; 4] = ["", "out", "withheld", "control"];
     match place {
         0 => "taken".to_string(),
-        41 => "out".to_string(),
-        42 => "withheld".to_string(),
-        43 => "control".to_string(),
+        KINDS.. => TAKEN[place - KINDS].to_string(),
         number => format!("**{number}**"),
     }
 }

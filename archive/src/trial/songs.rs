@@ -70,6 +70,7 @@ impl Songs {
         }
         trial.fresh();
         for (budget, line) in &case.lines {
+            trial.passes_as_budget(random, line);
             if line.len() < 100 && random.one_in(8) {
                 trial.budgets(random, line);
             }

@@ -40,19 +40,19 @@ by-false false h = refl
 -- A LINE THAT IS FED
 
 module _ (ms : Table) (st : State) (sent : Sent) where
-  feed-costly : mostBudget < sent .budget → feed ms st sent ≡ refusal ms st 0 (ofHost budgetTooLarge)
+  pub feed-costly : mostBudget < sent .budget → feed ms st sent ≡ refusal ms st 0 (ofHost budgetTooLarge)
   unfolding feed
   feed-costly h = rw (lt-leb (sent .budget) mostBudget h, feed)
 
-  feed-long : sent .budget ≤ mostBudget → mostLineBytes < length (sent .line) → feed ms st sent ≡ refusal ms st 0 (ofLine lineTooLong)
+  pub feed-long : sent .budget ≤ mostBudget → mostLineBytes < length (sent .line) → feed ms st sent ≡ refusal ms st 0 (ofLine lineTooLong)
   unfolding feed
   feed-long h g = rw (le-leb (sent .budget) mostBudget h, lt-leb (length (sent .line)) mostLineBytes g, feed)
 
-  feed-bad : sent .budget ≤ mostBudget → length (sent .line) ≤ mostLineBytes → HasBadByte (sent .line) → feed ms st sent ≡ refusal ms st 0 (ofLine badByte)
+  pub feed-bad : sent .budget ≤ mostBudget → length (sent .line) ≤ mostLineBytes → HasBadByte (sent .line) → feed ms st sent ≡ refusal ms st 0 (ofLine badByte)
   unfolding feed
   feed-bad h g f = rw (le-leb (sent .budget) mostBudget h, le-leb (length (sent .line)) mostLineBytes g, by-true (hasBadByte (sent .line)) (λ e. no-bad-byte (sent .line) e f), feed)
 
-  feed-runs : Fits sent → feed ms st sent ≡ answer ms st (lineOf ms st sent)
+  pub feed-runs : Fits sent → feed ms st sent ≡ answer ms st (lineOf ms st sent)
   unfolding feed
   feed-runs f = rw (le-leb (sent .budget) mostBudget (f .few), le-leb (length (sent .line)) mostLineBytes (f .short), by-false (hasBadByte (sent .line)) (λ e. f .clean (bad-byte (sent .line) e)), feed)
 

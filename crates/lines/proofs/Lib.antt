@@ -20,6 +20,7 @@ pub mod OrderLaws
 pub mod Demand3
 pub mod OneLaws
 pub mod AnswerLaws
+pub mod LargerLaws
 pub mod TagWorkLaws
 pub mod KeepTests
 pub mod KeepBytes

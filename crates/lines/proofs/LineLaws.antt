@@ -23,7 +23,7 @@ use Rattle.lines.specs.Line.{isControl, due, follow, afterPass, textOf, 
 use Rattle.lines.specs.Line.{Line.ended as lineEnded}
 use Rattle.lines.specs.Feeding.{withheld, out, kindOfDone}
 use Rattle.lines.specs.Steps.{newLine, Copied}
-use Rattle.lines.specs.Demand.{Nowhere, Walks, NotIn, Due, Dollar, EndsIn, FailsIn}
+use Rattle.lines.specs.Demand.{onwardFrom, Nowhere, Walks, NotIn, Due, Dollar, EndsIn, FailsIn}
 use Rattle.lines.specs.Demand.{PassHolds, closedIf, closedAfter, sinceAfter, Passes, closedIn, passCount, endOfLine, NoOccurrence, Withholds}
 use Rattle.lines.proofs.CopiedLaws.{text-of}
 use Rattle.lines.proofs.PassLaws.{ends-in, fails-in, pass-walks}
@@ -43,7 +43,7 @@ all-copied : (t : List ℕ) (st : State) (v : Work) → Copied (slice 0 (length 
 all-copied t st v h = (h .line ∙ take-length t, h .state)
 
 module _ (m : Macro) (t : List ℕ) (st : State) where
-  passed-over : (k : Walk) → Walks m t 0 none (startOf st) k → (v : Work) → EndsIn k v → (occurred k ≡ false) ↔ Nowhere st m t
+  passed-over : (k : Walk) → Walks m t (onwardFrom 0 none) (startOf st) k → (v : Work) → EndsIn k v → (occurred k ≡ false) ↔ Nowhere st m t
   unfolding occurred
   passed-over (ended (bad r w)) h v e = absurd (let z : _≡_ {A = ℕ} 0 1 = cc in omega arith)
   passed-over (ended (good x)) h v e = (
@@ -56,7 +56,7 @@ module _ (m : Macro) (t : List ℕ) (st : State) where
   )
 
   -- a pass without an occurrence leaves text and state as they were
-  nothing-changed : (k : Walk) → Walks m t 0 none (startOf st) k → (v : Work) → EndsIn k v → occurred k ≡ false → (newLine v ≡ t) × (v .state ≡ st)
+  nothing-changed : (k : Walk) → Walks m t (onwardFrom 0 none) (startOf st) k → (v : Work) → EndsIn k v → occurred k ≡ false → (newLine v ≡ t) × (v .state ≡ st)
   unfolding occurred
   nothing-changed (ended (bad r w)) h v e f = absurd (let z : _≡_ {A = ℕ} 0 1 = cc in omega arith)
   nothing-changed (ended (good x)) h v e f = all-copied t st v (subst (λ (y : Work). Copied (slice 0 (length t) t) (startOf st) y) (let z : x ≡ v = cc in z) (h .0))
@@ -93,7 +93,7 @@ module _ (ms : Table) (closed since : List ℕ) (st : State) (t : List ℕ) wher
 
   -- what follows a pass of the macro e whose events are k
   module _ (e : Numbered) (k : Walk) (on again : Work → Line) (plain : isControl t ≡ false) (d : Due ms closed since (e .number) (e .macro))
-      (newest : (i : ℕ) (m : Macro) → Due ms closed since i m → i ≤ e .number) (walks : Walks (e .macro) t 0 none (startOf st) k) (steps : NoBudget (outcome k))
+      (newest : (i : ℕ) (m : Macro) → Due ms closed since i m → i ≤ e .number) (walks : Walks (e .macro) t (onwardFrom 0 none) (startOf st) k) (steps : NoBudget (outcome k))
       (ons : (w : Work) → Passes ms closed (e .number ∷ since) t st (on w)) (agains : (w : Work) → Passes ms (closedBy e closed) [] (textOf w) (w .state) (again w)) where
     follow-holds : (a : Done) (o : Bool) → outcome k ≡ a → occurred k ≡ o → NoBudget a
         → ((v : Work) × EndsIn k v × Passes ms (closedIf o (e .macro .symbol) (e .number) closed) (pick o [] (e .number ∷ since)) (newLine v) (v .state) (follow a o on again))

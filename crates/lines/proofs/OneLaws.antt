@@ -21,7 +21,7 @@ use Rattle.lines.specs.Pass.{Occurrence, Walk, ended, occurs}
 use Rattle.lines.specs.Line.{Numbered, Pass, Line, passed, refused, done, control}
 use Rattle.lines.specs.Line.{Line.ended as lineEnded}
 use Rattle.lines.specs.Steps.{newLine, Copied}
-use Rattle.lines.specs.Demand.{NoneAhead, Stands, Replaces, stopOf, aheadAfter, behind, Fails, Full, Walks, EndsIn, FailsIn}
+use Rattle.lines.specs.Demand.{onwardFrom, NoneAhead, Stands, Replaces, stopOf, nextPlace, behind, Fails, Full, Walks, EndsIn, FailsIn}
 use Rattle.lines.specs.Demand.{PassHolds, closedAfter, sinceAfter, Passes, passCount, endOfLine}
 use Rattle.lines.specs.OneLine.{OneLine}
 use Rattle.lines.proofs.LineLaws.{either}
@@ -62,13 +62,13 @@ record Hit (m : Macro) (t : List ℕ) (from : ℕ) (last : Option ℕ) (w : Work
   division : Division
   before : Work
   copied : Copied (slice (behind last) place t) w before
-  stands : Stands m t from last place division (before .state)
+  stands : Stands m t (onwardFrom from last) place division (before .state)
 
 module _ (m : Macro) (t : List ℕ) (from : ℕ) (last : Option ℕ) (w : Work) (begun : behind last ≤ from) where
-  at-start : (h : Hit m t from last w) → Stands m t from last (h .place) (h .division) (w .state)
-  at-start h = subst (λ (z : State). Stands m t from last (h .place) (h .division) z) (h .copied .state) (h .stands)
+  at-start : (h : Hit m t from last w) → Stands m t (onwardFrom from last) (h .place) (h .division) (w .state)
+  at-start h = subst (λ (z : State). Stands m t (onwardFrom from last) (h .place) (h .division) z) (h .copied .state) (h .stands)
 
-  place-same : (p q : ℕ) (d e : Division) → Stands m t from last p d (w .state) → Stands m t from last q e (w .state) → p ≡ q
+  place-same : (p q : ℕ) (d e : Division) → Stands m t (onwardFrom from last) p d (w .state) → Stands m t (onwardFrom from last) q e (w .state) → p ≡ q
   place-same p q d e h g = go (compare p q)
     where
       go : (p < q) ⊎ (p ≡ q) ⊎ (q < p) → p ≡ q
@@ -84,7 +84,7 @@ module _ (m : Macro) (t : List ℕ) (from : ℕ) (last : Option ℕ) (w : Work) 
   hits-same : (h g : Hit m t from last w) → Alike h g
   hits-same h g =
       let p : h .place ≡ g .place = place-same (h .place) (g .place) (h .division) (g .division) (at-start h) (at-start g) in
-      let z = subst (λ (j : ℕ). Stands m t from last j (g .division) (w .state)) (sym p) (at-start g) in
+      let z = subst (λ (j : ℕ). Stands m t (onwardFrom from last) j (g .division) (w .state)) (sym p) (at-start g) in
       record {
         places = p;
         divisions = most-same (h .division) (g .division) (z .most (h .division) (at-start h .divides)) (at-start h .most (g .division) (z .divides));
@@ -95,15 +95,15 @@ module _ (m : Macro) (t : List ℕ) (from : ℕ) (last : Option ℕ) (w : Work) 
   acts-same h g = let a = hits-same h g in let d = a .divisions in let b = a .befores in cc
 
   -- a match stands next, so the pass does not end
-  hit-end : Hit m t from last w → (v : Work) → Copied (slice (behind last) (length t) t) w v → NoneAhead from (suc (length t)) last (v .state) m t → ⊥
+  hit-end : Hit m t from last w → (v : Work) → Copied (slice (behind last) (length t) t) w v → NoneAhead (onwardFrom from last) (suc (length t)) (v .state) m t → ⊥
   hit-end h v c n =
-      let z = subst (λ (x : State). NoneAhead from (suc (length t)) last x m t) (c .state) n in
+      let z = subst (λ (x : State). NoneAhead (onwardFrom from last) (suc (length t)) x m t) (c .state) n in
       let a = at-start h in
       let i = a .inside in
       z (h .place) (a .ahead) (omega arith) (h .division) (a .divides) (a .counts)
 
   -- the new line is full at a place, so no later place is reached
-  full-before : (r : WorkRefusal) (v : Work) → (f : Full m t from last w r v) → (p : ℕ) (x : Work) → f .place < p → p ≤ length t → Copied (slice (behind last) p t) w x → ⊥
+  full-before : (r : WorkRefusal) (v : Work) → (f : Full m t (onwardFrom from last) w r v) → (p : ℕ) (x : Work) → f .place < p → p ≤ length t → Copied (slice (behind last) p t) w x → ⊥
   full-before r v f p x l i c =
       let a : length (slice (behind last) p t) ≡ p - behind last = length-slice (behind last) p t i in
       let j = f .inside in
@@ -115,24 +115,24 @@ module _ (m : Macro) (t : List ℕ) (from : ℕ) (last : Option ℕ) (w : Work) 
       let q = f .full in
       omega arith
 
-  hit-full : Hit m t from last w → (r : WorkRefusal) (v : Work) → Full m t from last w r v → ⊥
+  hit-full : Hit m t from last w → (r : WorkRefusal) (v : Work) → Full m t (onwardFrom from last) w r v → ⊥
   hit-full h r v f = go (compare (h .place) (suc (f .place)))
     where
-      a : Stands m t from last (h .place) (h .division) (w .state)
+      a : Stands m t (onwardFrom from last) (h .place) (h .division) (w .state)
       a = at-start h
 
-      none-up : NoneAhead from (suc (f .place)) last (w .state) m t
-      none-up = subst (λ (x : State). NoneAhead from (suc (f .place)) last x m t) (f .copied .state) (f .noMatch)
+      none-up : NoneAhead (onwardFrom from last) (suc (f .place)) (w .state) m t
+      none-up = subst (λ (x : State). NoneAhead (onwardFrom from last) (suc (f .place)) x m t) (f .copied .state) (f .noMatch)
 
       go : (h .place < suc (f .place)) ⊎ (h .place ≡ suc (f .place)) ⊎ (suc (f .place) < h .place) → ⊥
       go (inl l) = none-up (h .place) (a .ahead) l (h .division) (a .divides) (a .counts)
       go (inr (inl l)) = full-before r v f (h .place) (h .before) (omega arith) (a .inside) (h .copied)
       go (inr (inr l)) = full-before r v f (h .place) (h .before) (omega arith) (a .inside) (h .copied)
 
-  end-full : (v : Work) → Copied (slice (behind last) (length t) t) w v → (r : WorkRefusal) (x : Work) → Full m t from last w r x → ⊥
+  end-full : (v : Work) → Copied (slice (behind last) (length t) t) w v → (r : WorkRefusal) (x : Work) → Full m t (onwardFrom from last) w r x → ⊥
   end-full v c r x f = full-before r x f (length t) v (f .inside) (omega arith) c
 
-  full-same : (r : WorkRefusal) (v : Work) (s : WorkRefusal) (x : Work) → Full m t from last w r v → Full m t from last w s x → bad r v ≡ bad s x
+  full-same : (r : WorkRefusal) (v : Work) (s : WorkRefusal) (x : Work) → Full m t (onwardFrom from last) w r v → Full m t (onwardFrom from last) w s x → bad r v ≡ bad s x
   full-same r v s x f g = go (compare (f .place) (g .place))
     where
       go : (f .place < g .place) ⊎ (f .place ≡ g .place) ⊎ (g .place < f .place) → bad r v ≡ bad s x
@@ -143,16 +143,16 @@ module _ (m : Macro) (t : List ℕ) (from : ℕ) (last : Option ℕ) (w : Work) 
           cc
       go (inr (inr l)) = absurd (full-before s x g (f .place) v l (let i = f .inside in omega arith) (f .copied))
 
-  of-occurrence : (o : Occurrence) → Copied (slice (behind last) (o .place) t) w (o .before) → Replaces m t from last o → Hit m t from last w
+  of-occurrence : (o : Occurrence) → Copied (slice (behind last) (o .place) t) w (o .before) → Replaces m t (onwardFrom from last) o → Hit m t from last w
   of-occurrence o c h = record { place = o .place; division = o .division; before = o .before; copied = c; stands = h .stands }
 
-  of-fails : (r : WorkRefusal) (v : Work) → Fails m t from last w r v → Hit m t from last w
+  of-fails : (r : WorkRefusal) (v : Work) → Fails m t (onwardFrom from last) w r v → Hit m t from last w
   of-fails r v f = record { place = f .place; division = f .division; before = f .before; copied = f .copied; stands = f .stands }
 
-made : (m : Macro) (t : List ℕ) (from : ℕ) (last : Option ℕ) (o : Occurrence) → Replaces m t from last o → occur m t (o .division) (o .before) ≡ good (o .after)
+made : (m : Macro) (t : List ℕ) (from : ℕ) (last : Option ℕ) (o : Occurrence) → Replaces m t (onwardFrom from last) o → occur m t (o .division) (o .before) ≡ good (o .after)
 made m t from last o h = occur-is m t (o .division) (o .before) (good (o .after)) (h .acts)
 
-refusal : (m : Macro) (t : List ℕ) (from : ℕ) (last : Option ℕ) (w : Work) (r : WorkRefusal) (v : Work) (f : Fails m t from last w r v)
+refusal : (m : Macro) (t : List ℕ) (from : ℕ) (last : Option ℕ) (w : Work) (r : WorkRefusal) (v : Work) (f : Fails m t (onwardFrom from last) w r v)
     → occur m t (f .division) (f .before) ≡ bad r v
 refusal m t from last w r v f = occur-is m t (f .division) (f .before) (bad r v) (f .breaks)
 
@@ -160,7 +160,7 @@ good-not-bad : (a : Done) (v : Work) (r : WorkRefusal) (x : Work) → a ≡ good
 good-not-bad a v r x e f = let z : _≡_ {A = ℕ} 0 1 = cc in omega arith
 
 -- an occurrence that ends, ends where the next place ahead is, or before it
-ahead-on : (o : Occurrence) → stopOf o ≤ aheadAfter o
+ahead-on : (o : Occurrence) → stopOf o ≤ nextPlace o
 unfolding pick
 ahead-on o = go (eqb (stopOf o) (o .place))
   where
@@ -171,7 +171,7 @@ ahead-on o = go (eqb (stopOf o) (o .place))
 occurrence-same : (o x : Occurrence) → o .place ≡ x .place → o .division ≡ x .division → o .before ≡ x .before → o .after ≡ x .after → o ≡ x
 occurrence-same o x p d b a = λ i. record { place = p i; division = d i; before = b i; after = a i }
 
-walk-same : (m : Macro) (t : List ℕ) (from : ℕ) (last : Option ℕ) (w : Work) → behind last ≤ from → (k j : Walk) → Walks m t from last w k → Walks m t from last w j → k ≡ j
+walk-same : (m : Macro) (t : List ℕ) (from : ℕ) (last : Option ℕ) (w : Work) → behind last ≤ from → (k j : Walk) → Walks m t (onwardFrom from last) w k → Walks m t (onwardFrom from last) w j → k ≡ j
 unfolding of-fails of-occurrence
 walk-same m t from last w z (occurs o k) (occurs x j) h g =
     let p = of-occurrence m t from last w z o (h .0) (h .1) in
@@ -181,8 +181,8 @@ walk-same m t from last w z (occurs o k) (occurs x j) h g =
     let c : o .after ≡ x .after = after-same (occur m t (o .division) (o .before)) (occur m t (x .division) (x .before)) (o .after) (x .after) a (made m t from last o (h .1)) (made m t from last x (g .1)) in
     let e : o ≡ x = occurrence-same o x (s .places) (s .divisions) (s .befores) c in
     let i : k ≡ j =
-    walk-same m t (aheadAfter o) (some (stopOf o)) (o .after) (ahead-on o) k j (h .2)
-    (subst (λ (y : Occurrence). Walks m t (aheadAfter y) (some (stopOf y)) (y .after) j) (sym e) (g .2)) in
+    walk-same m t (nextPlace o) (some (stopOf o)) (o .after) (ahead-on o) k j (h .2)
+    (subst (λ (y : Occurrence). Walks m t (onwardFrom (nextPlace y) (some (stopOf y))) (y .after) j) (sym e) (g .2)) in
     ap (λ (y : Occurrence). occurs y k) e ∙ ap (occurs x) i
   where
     after-same : (a b : Done) (v y : Work) → a ≡ b → a ≡ good v → b ≡ good y → v ≡ y
@@ -247,7 +247,7 @@ module _ (ms : Table) (closed since : List ℕ) (t : List ℕ) (st : State) wher
       events : x .events ≡ y .events
       events =
           walk-same (x .which .macro) t 0 none (record { out = []; size = 0; state = st }) (omega arith) (x .events) (y .events) (h .walks)
-          (subst (λ (m : Macro). Walks m t 0 none (record { out = []; size = 0; state = st }) (y .events)) (sym macro) (g .walks))
+          (subst (λ (m : Macro). Walks m t (onwardFrom 0 none) (record { out = []; size = 0; state = st }) (y .events)) (sym macro) (g .walks))
 
 -- what the budget n says of a history
 record Spent (n : ℕ) (l : Line) : Type 0 where

@@ -18,7 +18,7 @@ use Rattle.lines.specs.Replacing.{Work, Done, put, occur}
 use Rattle.lines.specs.Replacing.Done.{bad, good}
 use Rattle.lines.specs.Pass.{Walk, ended, occurs, match, goOn, matched, atEnd, onward, atByte, walk, pass, outcome}
 use Rattle.lines.specs.Steps.{Copied, stepsOf, ComesTo}
-use Rattle.lines.specs.Demand.{NoneAhead, Stands, Full, behind, Walks, EndsIn, FailsIn}
+use Rattle.lines.specs.Demand.{onwardFrom, NoneAhead, Stands, Full, behind, Walks, EndsIn, FailsIn}
 use Rattle.lines.proofs.CopyLaws.{ends-on, ends-inside}
 use Rattle.lines.proofs.MatchLaws.{Matches, match-matches}
 use Rattle.lines.proofs.TagLaws.{tags-run}
@@ -40,12 +40,12 @@ fails-in (occurs o k) r v e = fails-in k r v e
 abbrev Goes : Macro → List ℕ → ℕ → (ℕ → Option ℕ → Work → Walk) → Type 0
 Goes m t p go =
     (skip : ℕ) (last : Option ℕ) (v w : Work) (from at : ℕ) → at ≡ p + skip → at ≤ length t → behind last ≤ at → from ≤ at
-    → Copied (slice (behind last) at t) w v → NoneAhead from at last (v .state) m t → Walks m t from last w (go skip last v)
+    → Copied (slice (behind last) at t) w v → NoneAhead (onwardFrom from last) at (v .state) m t → Walks m t (onwardFrom from last) w (go skip last v)
 
 module _ (m : Macro) (t : List ℕ) (p : ℕ) (last : Option ℕ) (v w : Work) (from : ℕ) (inside : p ≤ length t) (ahead : from ≤ p)
-    (now : Copied (slice (behind last) p t) w v) (before : NoneAhead from p last (v .state) m t) where
+    (now : Copied (slice (behind last) p t) w v) (before : NoneAhead (onwardFrom from last) p (v .state) m t) where
   -- none before p and none at p is none before the next place
-  none-next : Matches (Divides (v .state) t (m .pattern) p) last p none → NoneAhead from (suc p) last (v .state) m t
+  none-next : Matches (Divides (v .state) t (m .pattern) p) last p none → NoneAhead (onwardFrom from last) (suc p) (v .state) m t
   none-next h q l u d c f = go (eq-or-lt-of-le (let z : q ≤ p = omega arith in z))
     where
       go : (q ≡ p) ⊎ (q < p) → ⊥
@@ -54,18 +54,18 @@ module _ (m : Macro) (t : List ℕ) (p : ℕ) (last : Option ℕ) (v w : Work) (
 
   -- a match, and what comes after it
   match-holds : (d : Division) (k : Work → Walk) → Matches (Divides (v .state) t (m .pattern) p) last p (some d)
-      → ((x : Work) → Walks m t (pick (eqb (endOf p d) p) (suc (endOf p d)) (endOf p d)) (some (endOf p d)) x (k x)) → Walks m t from last w (matched m t p d v k)
+      → ((x : Work) → Walks m t (onwardFrom (pick (eqb (endOf p d) p) (suc (endOf p d)) (endOf p d)) (some (endOf p d))) x (k x)) → Walks m t (onwardFrom from last) w (matched m t p d v k)
   unfolding matched goOn
   match-holds d k h ih = go (occur m t d v) refl
     where
-      stands : Stands m t from last p d (v .state)
+      stands : Stands m t (onwardFrom from last) p d (v .state)
       stands = record { ahead = ahead; inside = inside; divides = h .0; counts = h .1; leftmost = before; most = h .2; tags = tags-run (v .state) t (m .pattern) p d (h .0) }
 
-      go : (a : Done) → occur m t d v ≡ a → Walks m t from last w (goOn a (λ x. occurs (record { place = p; division = d; before = v; after = x }) (k x)))
+      go : (a : Done) → occur m t d v ≡ a → Walks m t (onwardFrom from last) w (goOn a (λ x. occurs (record { place = p; division = d; before = v; after = x }) (k x)))
       go (bad r x) e = inl (record { place = p; division = d; before = v; copied = now; stands = stands; breaks = subst (ComesTo (stepsOf m t d) v) e (occur-steps m t d v) })
       go (good x) e = (now, record { stands = stands; acts = subst (ComesTo (stepsOf m t d) v) e (occur-steps m t d v) }, ih x)
 
-  end-holds : p ≡ length t → (a : Option Division) → Matches (Divides (v .state) t (m .pattern) p) last p a → Walks m t from last w (atEnd m t p v a)
+  end-holds : p ≡ length t → (a : Option Division) → Matches (Divides (v .state) t (m .pattern) p) last p a → Walks m t (onwardFrom from last) w (atEnd m t p v a)
   unfolding atEnd pick
   end-holds z none h = (subst (λ (j : ℕ). Copied (slice (behind last) j t) w v) z now, λ q l u. none-next h q l (omega arith))
   end-holds z (some d) h =
@@ -81,25 +81,25 @@ module _ (m : Macro) (t : List ℕ) (p : ℕ) (last : Option ℕ) (v w : Work) (
 -- the byte b is copied, and the walk goes on after it
 module _ (m : Macro) (t : List ℕ) (p b : ℕ) (bs : List ℕ) (e : b ∷ bs ≡ drop p t) where
   byte-holds : (go : ℕ → Option ℕ → Work → Walk) → Goes m t (suc p) go → (last : Option ℕ) (v w : Work) (from : ℕ) → behind last ≤ p → from ≤ suc p
-      → Copied (slice (behind last) p t) w v → NoneAhead from (suc p) last (v .state) m t → Walks m t from last w (goOn (put b v) (λ x. go zero last x))
+      → Copied (slice (behind last) p t) w v → NoneAhead (onwardFrom from last) (suc p) (v .state) m t → Walks m t (onwardFrom from last) w (goOn (put b v) (λ x. go zero last x))
   unfolding goOn
   byte-holds go goes last v w from reached ahead now none-up = each (put b v) refl
     where
-      each : (a : Done) → put b v ≡ a → Walks m t from last w (goOn a (λ x. go zero last x))
+      each : (a : Done) → put b v ≡ a → Walks m t (onwardFrom from last) w (goOn a (λ x. go zero last x))
       each (bad r x) h =
           let f = put-full b v r x h in
-          inr (subst (λ (y : Work). Full m t from last w r y) (sym (f .0))
+          inr (subst (λ (y : Work). Full m t (onwardFrom from last) w r y) (sym (f .0))
           (record { place = p; reached = reached; inside = byte-inside t p b bs e; copied = now; noMatch = none-up; full = f .1; number = f .2 }))
       each (good x) h =
           let c : Copied (b ∷ []) v x = put-copied b v x h in
           let i : p < length t = byte-inside t p b bs e in
           goes zero last x w from (suc p) (omega arith) i (omega arith) ahead
           (subst (λ (s : List ℕ). Copied s w x) (sym (slice-next t p b bs e (behind last) reached)) (copied-append (slice (behind last) p t) (b ∷ []) w v x now c))
-          (subst (λ (s : State). NoneAhead from (suc p) last s m t) (sym (c .state)) none-up)
+          (subst (λ (s : State). NoneAhead (onwardFrom from last) (suc p) s m t) (sym (c .state)) none-up)
 
   -- after a match that is, or is not, empty
   onward-holds : (go : ℕ → Option ℕ → Work → Walk) → Goes m t (suc p) go → (q : ℕ) → p ≤ q → q ≤ length t → (k : ℕ) → q - p ≡ k → (x : Work)
-      → Walks m t (pick (eqb q p) (suc q) q) (some q) x (onward q b k go x)
+      → Walks m t (onwardFrom (pick (eqb q p) (suc q) q) (some q)) x (onward q b k go x)
   unfolding onward pick
   onward-holds go goes q l i zero z x =
       let a : q ≡ p = omega arith in
@@ -109,8 +109,8 @@ module _ (m : Macro) (t : List ℕ) (p b : ℕ) (bs : List ℕ) (e : b ∷ bs �
       (goes k (some q) x x q q (omega arith) i (omega arith) (omega arith) (copied-none t q q x refl) (λ r u y d c f. absurd (omega arith)))
 
   at-byte : (go : ℕ → Option ℕ → Work → Walk) → Goes m t (suc p) go → (last : Option ℕ) (v w : Work) (from : ℕ) → behind last ≤ p → from ≤ p
-      → Copied (slice (behind last) p t) w v → NoneAhead from p last (v .state) m t → (a : Option Division) → Matches (Divides (v .state) t (m .pattern) p) last p a
-      → Walks m t from last w (atByte m t p b last v go a)
+      → Copied (slice (behind last) p t) w v → NoneAhead (onwardFrom from last) p (v .state) m t → (a : Option Division) → Matches (Divides (v .state) t (m .pattern) p) last p a
+      → Walks m t (onwardFrom from last) w (atByte m t p b last v go a)
   unfolding atByte
   at-byte go goes last v w from reached ahead now before none h =
       let i : p < length t = byte-inside t p b bs e in
@@ -140,7 +140,7 @@ walk-holds m t (b ∷ bs) p inside e zero last v w from at z l reached ahead now
     (match (v .state) (m .pattern) last p (b ∷ bs)) (match-here (v .state) m t (b ∷ bs) last p e)
 
 -- THE LAW
-pub pass-walks : (m : Macro) (t : List ℕ) (st : State) → Walks m t 0 none (record { out = []; size = 0; state = st }) (pass m t st)
+pub pass-walks : (m : Macro) (t : List ℕ) (st : State) → Walks m t (onwardFrom 0 none) (record { out = []; size = 0; state = st }) (pass m t st)
 unfolding pass
 pass-walks m t st =
     walk-holds m t t 0 (omega arith) refl 0 none (record { out = []; size = 0; state = st }) (record { out = []; size = 0; state = st }) 0 0 refl (omega arith) (omega arith) (omega arith)

@@ -66,30 +66,38 @@ Nowhere st m t = (p : ℕ) → p ≤ length t → (d : Division) → Divides st 
 abbrev pub Counts : Option ℕ → ℕ → Division → Type 0
 Counts last p d = last ≡ some p → endOf p d ≡ p → ⊥
 
+-- where a pass is: the first place still ahead, and where the match just made in it ended, if there was one
+pub record Ahead : Type 0 where
+  pub from : ℕ
+  pub last : Option ℕ
+
+abbrev pub onwardFrom : ℕ → Option ℕ → Ahead
+onwardFrom p q = record { from = p; last = q }
+
 -- no place ahead has a division that counts, from the first one ahead up to, but not with, the place to
-abbrev pub NoneAhead : (from to : ℕ) → Option ℕ → State → Macro → List ℕ → Type 0
-NoneAhead from to last st m t = (p : ℕ) → from ≤ p → p < to → (d : Division) → Divides st t (m .pattern) p d → Counts last p d → ⊥
+abbrev pub NoneAhead : Ahead → (to : ℕ) → State → Macro → List ℕ → Type 0
+NoneAhead now to st m t = (p : ℕ) → now .from ≤ p → p < to → (d : Division) → Divides st t (m .pattern) p d → Counts (now .last) p d → ⊥
 
 -- a match, at the place p with the division d, under the state st of the moment "when its place is tried" (01, contracts)
-pub record Stands (m : Macro) (t : List ℕ) (from : ℕ) (last : Option ℕ) (p : ℕ) (d : Division) (st : State) : Type 0 where
+pub record Stands (m : Macro) (t : List ℕ) (now : Ahead) (p : ℕ) (d : Division) (st : State) : Type 0 where
   -- "stands at the leftmost place still ahead that has one" [not_leftmost, empty_match_counts]: its place is ahead,
-  pub ahead : from ≤ p
+  pub ahead : now .from ≤ p
   -- is a place of the text,
   pub inside : p ≤ length t
   -- has the division,
   pub divides : Divides st t (m .pattern) p d
   -- which counts,
-  pub counts : Counts last p d
+  pub counts : Counts (now .last) p d
   -- and no place ahead and before it has one that counts
-  pub leftmost : NoneAhead from p last st m t
+  pub leftmost : NoneAhead now p st m t
   -- "with .. that division against which every other one there has fewer repeats at the first closure where they differ" [fewest_repeats]
   pub most : (x : Division) → Divides st t (m .pattern) p x → (x ≡ d) ⊎ Fewer x d
   -- "with the tags of that division" [late_tag, inner_brace_ends]
   pub tags : TagsOf (m .pattern) t p d
 
 -- "Each replacement": its steps, with the tags of the division, make the moment after (Steps)
-pub record Replaces (m : Macro) (t : List ℕ) (from : ℕ) (last : Option ℕ) (o : Occurrence) : Type 0 where
-  pub stands : Stands m t from last (o .place) (o .division) (o .before .state)
+pub record Replaces (m : Macro) (t : List ℕ) (now : Ahead) (o : Occurrence) : Type 0 where
+  pub stands : Stands m t now (o .place) (o .division) (o .before .state)
   pub acts : Acts (stepsOf m t (o .division)) (o .before) (o .after)
 
 -- where an occurrence ends
@@ -97,10 +105,14 @@ abbrev pub stopOf : Occurrence → ℕ
 stopOf o = endOf (o .place) (o .division)
 
 -- the first place ahead after it: a match "goes on at its end", an empty one "after that byte" (01, part 5)
-abbrev pub aheadAfter : Occurrence → ℕ
-aheadAfter o = pick (eqb (stopOf o) (o .place)) (suc (stopOf o)) (stopOf o)
+abbrev pub nextPlace : Occurrence → ℕ
+nextPlace o = pick (eqb (stopOf o) (o .place)) (suc (stopOf o)) (stopOf o)
 
--- where the match just made ended, or else the line's start
+-- where the pass is after it
+abbrev pub aheadAfter : Occurrence → Ahead
+aheadAfter o = onwardFrom (nextPlace o) (some (stopOf o))
+
+-- where the match just made ended, or else the line's start: what lies between there and the next match is copied
 abbrev pub behind : Option ℕ → ℕ
 behind none = 0
 behind (some q) = q
@@ -108,36 +120,37 @@ behind (some q) = q
 -- WHY A PASS IS REFUSED with r, in the moment v: "at the first such step" (01, refusals), so all before it is as in a pass that is not
 
 -- a match stands next, and a step of its replacement or of its commands is refused: 32 to 35, each for its reason (Steps)
-pub record Fails (m : Macro) (t : List ℕ) (from : ℕ) (last : Option ℕ) (w : Work) (r : WorkRefusal) (v : Work) : Type 0 where
+pub record Fails (m : Macro) (t : List ℕ) (now : Ahead) (w : Work) (r : WorkRefusal) (v : Work) : Type 0 where
   pub place : ℕ
   pub division : Division
   pub before : Work
-  pub copied : Copied (slice (behind last) place t) w before
-  pub stands : Stands m t from last place division (before .state)
+  pub copied : Copied (slice (behind (now .last)) place t) w before
+  pub stands : Stands m t now place division (before .state)
   pub breaks : Breaks (stepsOf m t division) before r v
 
 -- a byte without a match is to be copied, and the new line is full: "32 the new line's 1,055th byte"
-pub record Full (m : Macro) (t : List ℕ) (from : ℕ) (last : Option ℕ) (w : Work) (r : WorkRefusal) (v : Work) : Type 0 where
+pub record Full (m : Macro) (t : List ℕ) (now : Ahead) (w : Work) (r : WorkRefusal) (v : Work) : Type 0 where
   pub place : ℕ
-  pub reached : behind last ≤ place
+  pub reached : behind (now .last) ≤ place
   pub inside : place < length t
-  pub copied : Copied (slice (behind last) place t) w v
-  pub noMatch : NoneAhead from (suc place) last (v .state) m t
+  pub copied : Copied (slice (behind (now .last)) place t) w v
+  pub noMatch : NoneAhead now (suc place) (v .state) m t
   -- [full_at_1054]
   pub full : mostLineBytes ≤ v .size
   pub number : r ≡ newLineTooLong
 
 -- the pass from the moment w on
-abbrev pub Walks : Macro → List ℕ → ℕ → Option ℕ → Work → Walk → Type 0
+abbrev pub Walks : Macro → List ℕ → Ahead → Work → Walk → Type 0
 -- it comes to an occurrence: what lies between is copied
-Walks m t from last w (occurs o k) =
-    Copied (slice (behind last) (o .place) t) w (o .before)
-    × Replaces m t from last o
-    × Walks m t (aheadAfter o) (some (stopOf o)) (o .after) k
+Walks m t now w (occurs o k) =
+    Copied (slice (behind (now .last)) (o .place) t) w (o .before)
+    × Replaces m t now o
+    × Walks m t (aheadAfter o) (o .after) k
 -- "A pass ends only when no place ahead has one", under the state at that end [early_end]
-Walks m t from last w (ended (good v)) = Copied (slice (behind last) (length t) t) w v × NoneAhead from (suc (length t)) last (v .state) m t
+Walks m t now w (ended (good v)) =
+    Copied (slice (behind (now .last)) (length t) t) w v × NoneAhead now (suc (length t)) (v .state) m t
 -- it is refused, for one of the two reasons
-Walks m t from last w (ended (bad r v)) = Fails m t from last w r v ⊎ Full m t from last w r v
+Walks m t now w (ended (bad r v)) = Fails m t now w r v ⊎ Full m t now w r v
 
 -- the moment in which the pass ends, after all its occurrences: each acts "on the state that the next occurrence sees" (01, part 4)
 -- [first_occurrence_ends]
@@ -180,7 +193,7 @@ pub record PassHolds (ms : Table) (closed since : List ℕ) (t : List ℕ) (st :
   -- contracts); of a pass that is not refused
   pub passedOver : (v : Work) → EndsIn (x .events) v → (occurred (x .events) ≡ false) ↔ Nowhere st (x .which .macro) t
   -- it tries place 0 first, with nothing of the new line made
-  pub walks : Walks (x .which .macro) t 0 none (record { out = []; size = 0; state = st }) (x .events)
+  pub walks : Walks (x .which .macro) t (onwardFrom 0 none) (record { out = []; size = 0; state = st }) (x .events)
 
 -- "A `<` macro that occurred is closed to this line; all others are open." (01, part 6) [less_left_open, equal_closed]
 abbrev pub closedIf : (occurred : Bool) → Symbol → ℕ → List ℕ → List ℕ

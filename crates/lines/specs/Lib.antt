@@ -15,6 +15,7 @@ pub mod Controls
 pub mod Demand
 pub mod Budget
 pub mod OneLine
+pub mod LargerBudget
 pub mod TagsAtWork
 pub mod Cases
 pub mod LineCases

@@ -1,4 +1,5 @@
 pub mod OneResult
 pub mod OneFeed
+pub mod LargerBudget
 pub mod Demand2
 pub mod Demand3

@@ -1,5 +1,6 @@
 -- THE CONTRACT OF m7_feed LEAVES NOTHING FREE.
--- It rules out, among others, the edits any_budget (the budget does not matter) and any_output (each call is lent the output that it returns).
+-- It rules out, among others, the edits any_budget (the budget does not matter) and any_output (each call is lent the output that it
+-- returns).
 use mathlib.Core.Path.{_≡_}
 use Rattle.macros.specs.Formed.{Octets}
 use Rattle.lines.specs.Line.{Sent}
@@ -22,4 +23,6 @@ pub record Same (w v : Returned) : Type 0 where
 
 -- Whatever is lent, the contract allows one answer and one content of each memory.
 abbrev pub OneFeed : Type 0
-OneFeed = (sent : Sent) (m : Memories) → Octets (m .table) → Octets (m .state) → (w v : Returned) → Feeds (calledWith sent m w) → Feeds (calledWith sent m v) → Same w v
+OneFeed =
+    (sent : Sent) (m : Memories) → Octets (m .table) → Octets (m .state)
+    → (w v : Returned) → Feeds (calledWith sent m w) → Feeds (calledWith sent m v) → Same w v

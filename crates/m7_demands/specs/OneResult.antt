@@ -1,5 +1,6 @@
 -- THE CONTRACT OF m7_write LEAVES NOTHING FREE. (m7_read and m7_fresh have theirs computed, as `reads` and `freshens`.)
--- It rules out, among others, the edits never_written (the file's memory is always as it was) and entry_from_exit (what that memory holds at exit tells what it held at entry).
+-- It rules out, among others, the edits never_written (the file's memory is always as it was) and entry_from_exit (what that memory holds
+-- at exit tells what it held at entry).
 use Prim.Native.Nat.{ℕ}
 use mathlib.Core.List.{List}
 use Rattle.macros.specs.Formed.{Octets}
