@@ -16,7 +16,7 @@ use Rattle.lines.specs.Line.{Sent, Numbered, Pass, Ending, Line, passed,
 use Rattle.lines.specs.Line.{isControl, due, follow, afterPass, textOf, passes, lineOf}
 use Rattle.lines.specs.Line.{Line.ended as lineEnded}
 use Rattle.lines.specs.Demand.{passCount, endOfLine}
-use Rattle.lines.specs.Budget.{BudgetExact}
+use Rattle.lines.specs.Budget.{oneMore}
 use Rattle.lines.proofs.OccurLaws.{NoBudget, pass-no}
 
 -- THE PASSES ARE WITHIN THE BUDGET
@@ -136,7 +136,7 @@ module _ (ms : Table) where
   exact zero = exact-zero
   exact (suc b) = exact-suc b (exact b)
 
--- THE LAW
-pub budget-exact : BudgetExact
+-- of the line that the definition makes
+pub exact-line : (ms : Table) (st : State) (sent : Sent) → (endOfLine (lineOf ms st sent) ≡ refused budgetUsedUp) ↔ (passCount (lineOf ms st (oneMore sent)) ≡ suc (sent .budget))
 unfolding lineOf
-budget-exact ms st sent = exact ms (sent .budget) [] (newestFirst [] ms) st (sent .line)
+exact-line ms st sent = exact ms (sent .budget) [] (newestFirst [] ms) st (sent .line)

@@ -19,6 +19,7 @@ pub mod OntoLaws
 pub mod OrderLaws
 pub mod Demand3
 pub mod OneLaws
+pub mod ExactLaws
 pub mod AnswerLaws
 pub mod LargerLaws
 pub mod TagWorkLaws

@@ -18,6 +18,7 @@ use Rattle.lines.specs.Matching.{fits, width, span, Division}
 abbrev pub Rest : Type 0
 Rest = ℕ → List ℕ → Option Division
 
+-- a span of n repeats that ends at q, before the division of the rest, if that has one
 unfoldable pub then : ℕ → ℕ → Option Division → Option Division
 then n q none = none
 then n q (some d) = some (span n q ∷ d)
@@ -36,15 +37,18 @@ unfoldable pub spare : ℕ → List ℕ → List ℕ
 spare zero s = []
 spare (suc w) s = s
 
+-- an element: as many copies as its closure allows, the most first
 unfoldable pub repeated : Closure → (List ℕ → Bool) → ℕ → Rest → ℕ → List ℕ → Option Division
 repeated once fit w rest p s = elim (fit s) [ true ↦ then 1 (p + w) (rest (p + w) (drop w s)) | false ↦ none ]
 repeated oneOrMore fit w rest p s = elim (fit s) [ true ↦ more fit w rest (spare w (drop w s)) 1 (p + w) (drop w s) | false ↦ none ]
 repeated zeroOrMore fit w rest p s = more fit w rest (spare w s) 0 p s
 
+-- the line's end
 unfoldable pub isEnd : List ℕ → Bool
 isEnd [] = true
 isEnd (b ∷ bs) = false
 
+-- the chosen division of the pieces at place p, from which the line has the bytes s
 unfoldable pub chosen : State → List Piece → ℕ → List ℕ → Option Division
 chosen st [] p s = some []
 chosen st (element u c ∷ es) p s = repeated c (fits st u) (width st u) (chosen st es) p s

@@ -67,6 +67,7 @@ pub record Other (s : List ℕ) : Type 0 where
   pub noNflag0 : s ≡ bytes "$NFLAG 0" → ⊥
   pub noNflag1 : s ≡ bytes "$NFLAG 1" → ⊥
 
+-- why the control line s, given to the table ms, is refused with r
 abbrev pub Misordered : Table → List ℕ → Refusal → Type 0
 Misordered ms s (ofFile r p) = Misread ms s r p
 Misordered ms s (ofLine badControl) = NotOne ms s ⊎ Other s

@@ -19,9 +19,9 @@
 -- "the number of passes"                                 | Run, number
 -- "fed in turn from a fresh state and any accepted table"| Lines, Demand3; from any state: Resumed
 --
--- Borrowed is what one copy of a unit is (fits, width, contents), how one entry, pointer, value or increment of a state is changed
--- (withEntry to withIncrement), a tag's text (tagText), and reading (readOnto). The cases hold the first two, TagsRun holds the third,
--- crates/macros the last.
+-- Borrowed is what one copy of a unit is (fits, width; contents with digits), what of a state is looked at and how it is changed
+-- (stackOf, counterOf; withPointer, withValue, withIncrement, withEntry), where a division ends (endOf, stops), a tag's text (tagText),
+-- and reading (readOnto). Cases hold all but the last two; TagsRun holds tagText, and crates/macros reading.
 -- OneLine needs size [size_free], newest [any_macro_next] and usedUp [any_budget].
 use mathlib.Core.Path.{_≡_}
 use Prim.Native.Nat.{ℕ, suc, _+_, _≤_, _<_}
@@ -71,10 +71,11 @@ pub record Ahead : Type 0 where
   pub from : ℕ
   pub last : Option ℕ
 
+-- from the place p on, the match just made having ended at q
 abbrev pub onwardFrom : ℕ → Option ℕ → Ahead
 onwardFrom p q = record { from = p; last = q }
 
--- no place ahead has a division that counts, from the first one ahead up to, but not with, the place to
+-- no place ahead has a division that counts, up to the place `to`, itself not
 abbrev pub NoneAhead : Ahead → (to : ℕ) → State → Macro → List ℕ → Type 0
 NoneAhead now to st m t = (p : ℕ) → now .from ≤ p → p < to → (d : Division) → Divides st t (m .pattern) p d → Counts (now .last) p d → ⊥
 
@@ -119,7 +120,7 @@ behind (some q) = q
 
 -- WHY A PASS IS REFUSED with r, in the moment v: "at the first such step" (01, refusals), so all before it is as in a pass that is not
 
--- a match stands next, and a step of its replacement or of its commands is refused: 32 to 35, each for its reason (Steps)
+-- as where an occurrence comes next (the first clause of Walks below), but a step of it is refused: 32 to 35 (Steps)
 pub record Fails (m : Macro) (t : List ℕ) (now : Ahead) (w : Work) (r : WorkRefusal) (v : Work) : Type 0 where
   pub place : ℕ
   pub division : Division
@@ -152,8 +153,7 @@ Walks m t now w (ended (good v)) =
 -- it is refused, for one of the two reasons
 Walks m t now w (ended (bad r v)) = Fails m t now w r v ⊎ Full m t now w r v
 
--- the moment in which the pass ends, after all its occurrences: each acts "on the state that the next occurrence sees" (01, part 4)
--- [first_occurrence_ends]
+-- the moment in which the pass ends, after all its occurrences [first_occurrence_ends]
 abbrev pub EndsIn : Walk → Work → Type 0
 EndsIn (ended d) v = d ≡ good v
 EndsIn (occurs o k) v = EndsIn k v
@@ -163,8 +163,8 @@ abbrev pub FailsIn : Walk → WorkRefusal → Work → Type 0
 FailsIn (ended d) r v = d ≡ bad r v
 FailsIn (occurs o k) r v = FailsIn k r v
 
--- THE PASSES OF A LINE, from its text t and its state st on; closed: the numbers of the macros closed to it; since: of those that passed
--- since its last occurrence
+-- THE PASSES OF A LINE, from its text t and its state st on
+-- closed: the numbers of the macros closed to it; since: of those that passed since its last occurrence
 
 -- i is none of the numbers: "all others are open" (01, part 6) [closed_from_start]
 abbrev pub NotIn : ℕ → List ℕ → Type 0
@@ -201,6 +201,7 @@ closedIf true less n closed = n ∷ closed
 closedIf true equal n closed = closed
 closedIf false y n closed = closed
 
+-- the closed ones after a pass
 abbrev pub closedAfter : Pass → List ℕ → List ℕ
 closedAfter x closed = closedIf (occurred (x .events)) (x .which .macro .symbol) (x .which .number) closed
 
@@ -208,6 +209,7 @@ closedAfter x closed = closedIf (occurred (x .events)) (x .which .macro .symbol)
 abbrev pub sinceAfter : Pass → List ℕ → List ℕ
 sinceAfter x since = pick (occurred (x .events)) [] (x .which .number ∷ since)
 
+-- the passes, and then the line's end, from the text t and the state st on
 abbrev pub Passes : Table → (closed since : List ℕ) → List ℕ → State → Line → Type 0
 -- a pass, and then the line from the text and the state that it makes; or else the pass is refused, with 32 to 35, and the line with it
 Passes ms closed since t st (passed x l) =
@@ -219,8 +221,7 @@ Passes ms closed since t st (lineEnded (done s x)) =
     (s ≡ t) × (x ≡ st) × (Dollar t → ⊥) × ((i : ℕ) (m : Macro) → Due ms closed since i m → ⊥)
 -- "a line beginning with `$` is a control line: no more passes" (01, part 6)
 Passes ms closed since t st (lineEnded (control s x)) = (s ≡ t) × (x ≡ st) × Dollar t
--- "31 another pass is due" (01, refusals): the line is no control line, and the pass of some macro is due [done_is_31]; that the budget is
--- used up stands in History
+-- "31 another pass is due" (01, refusals) [done_is_31]: no control line, and some macro is due; that the budget is used up says History
 Passes ms closed since t st (lineEnded (refused r)) =
     (r ≡ budgetUsedUp) × (Dollar t → ⊥) × ((i : ℕ) × (m : Macro) × Due ms closed since i m)
 
@@ -269,8 +270,7 @@ pub record History (ms : Table) (st : State) (sent : Sent) (l : Line) : Type 0 w
   pub within : passCount l ≤ sent .budget
   pub usedUp : endOfLine l ≡ refused budgetUsedUp → passCount l ≡ sent .budget
 
--- a line that has passes: its history, and "the answer carries the number of passes", also where it is refused [passes_not_counted,
--- refused_passes_0]
+-- its history, and "the answer carries the number of passes", also where it is refused [passes_not_counted, refused_passes_0]
 pub record Run (ms : Table) (st : State) (sent : Sent) (l : Line) (a : Answer) : Type 0 where
   pub history : History ms st sent l
   pub number : a .passes ≡ passCount l
@@ -312,13 +312,12 @@ Reason ms st sent l a (ofLine badByte) =
 -- 23, and 10 to 19 with their place: "Later, of a control line", behind its passes
 Reason ms st sent l a (ofLine badControl) = Run ms st sent l a × ((s : List ℕ) × (x : State) × Miscontrolled ms l (ofLine badControl) s x)
 Reason ms st sent l a (ofFile r p) = Run ms st sent l a × ((s : List ℕ) × (x : State) × Miscontrolled ms l (ofFile r p) s x)
--- 31: its history ends so; by usedUp of History the passes are the budget, and by Passes another one is due. 32 to 35: its last pass is
--- refused so, by Walks
+-- 31: by usedUp of History the passes are the budget, by Passes another one is due; 32 to 35: its last pass is refused so, by Walks
 Reason ms st sent l a (ofWork r) = Run ms st sent l a × (endOfLine l ≡ refused r)
 
+-- what holds of a line and its answer, by the answer's kind
 abbrev pub ByKind : Table → State → Sent → Line → Answer → Kind → Type 0
--- "a refused line leaves table, state and output as they were" (a refusal has no output) [refused_line_keeps_state], and is refused for its
--- reason
+-- "a refused line leaves table, state and output as they were" (a refusal has no output) [refused_line_keeps_state]
 ByKind ms st sent l a (refusedWith r) = (a .table ≡ ms) × (a .state ≡ st) × Reason ms st sent l a r
 -- "If it goes out or is withheld"
 ByKind ms st sent l a (out s) = Run ms st sent l a × Finished ms l a s
@@ -326,8 +325,7 @@ ByKind ms st sent l a withheld = Run ms st sent l a × ((s : List ℕ) × Finish
 -- or is a control line
 ByKind ms st sent l a controlled = Run ms st sent l a × ((s : List ℕ) × (x : State) × Controlled ms l a s x)
 
--- "The passes and replacements meant are those by which 01's rules make the line's answer": some history has them, and by OneLine no other
--- has
+-- "The passes and replacements meant are those by which 01's rules make the line's answer": some history's, and by OneLine no other's
 abbrev pub LineHolds : Table → State → Sent → Answer → Type 0
 LineHolds ms st sent a = (l : Line) × ByKind ms st sent l a (a .kind)
 
@@ -342,7 +340,6 @@ Lines ms st (x ∷ xs) [] = ⊥
 abbrev pub Resumed : Type 0
 Resumed = (ms : Table) → Accepted ms → (st : State) → InRange st → (xs : List Sent) → Lines ms st xs (feeds ms st xs)
 
--- DEMAND 3: "For every list of lines, control lines and refused ones included, fed in turn from a fresh state and any accepted table,
--- each with any budget"
+-- DEMAND 3: "For every list of lines .. fed in turn from a fresh state and any accepted table, each with any budget"
 abbrev pub Demand3 : Type 0
 Demand3 = (ms : Table) → Accepted ms → (xs : List Sent) → Lines ms fresh xs (feeds ms fresh xs)

@@ -99,8 +99,7 @@ kindNumber (out t) = 1
 kindNumber withheld = 2
 kindNumber controlled = 3
 
--- the line that goes out, whose length the answer carries; "a withheld or control line has length 0". A refused line writes no output at
--- all
+-- the line that goes out, whose length the answer carries; "a withheld or control line has length 0"; a refused one writes no output
 unfoldable pub outputOf : Kind → List ℕ
 outputOf (refusedWith r) = []
 outputOf (out t) = t

@@ -44,10 +44,12 @@ pub data Line : Type 0 where
 
 -- WHICH MACROS ARE OPEN
 
+-- the number is one of the list
 unfoldable pub isIn : ℕ → List ℕ → Bool
 isIn n [] = false
 isIn n (k ∷ ks) = elim (eqb n k) [ true ↦ true | false ↦ isIn n ks ]
 
+-- a closed macro is left out
 unfoldable pub unlessClosed : Bool → Numbered → List Numbered → List Numbered
 unlessClosed true e es = es
 unlessClosed false e es = e ∷ es
@@ -66,6 +68,7 @@ unfoldable pub closing : Symbol → ℕ → List ℕ → List ℕ
 closing equal n closed = closed
 closing less n closed = n ∷ closed
 
+-- the closed ones after an occurrence of the macro e
 unfoldable pub closedBy : Numbered → List ℕ → List ℕ
 closedBy e closed = closing (e .macro .symbol) (e .number) closed
 
@@ -76,8 +79,7 @@ unfoldable pub isControl : List ℕ → Bool
 isControl [] = false
 isControl (b ∷ bs) = eqb b 36
 
--- "Before each pass and at the end, .. a control line: no more passes"; "The line is done when every open macro has passed without one
--- since the line's last occurrence"
+-- "Before each pass and at the end, .. a control line: no more passes"; the line is done when no open macro is left to pass
 unfoldable pub due : Bool → List ℕ → State → List Numbered → (Numbered → List Numbered → Line) → Line
 due true t st todo next = ended (control t st)
 due false t st [] next = ended (done t st)
@@ -89,6 +91,7 @@ follow (bad r w) o on again = ended (refused r)
 follow (good w) false on again = on w
 follow (good w) true on again = again w
 
+-- a pass, and what follows it
 unfoldable pub afterPass : Pass → (Work → Line) → (Work → Line) → Line
 afterPass x on again = passed x (follow (outcome (x .events)) (occurred (x .events)) on again)
 
@@ -97,8 +100,8 @@ unfoldable pub textOf : Work → List ℕ
 textOf w = onto (w .out) []
 
 -- A pass without an occurrence leaves text and state as they are.
--- the passes from a text and a state on; todo: the open macros whose pass is due; "Each pass costs one of the budget.", 31: "another pass
--- is due and the budget is used up"
+-- the passes from a text and a state on; todo: the open macros whose pass is due. "Each pass costs one of the budget."
+-- 31: "another pass is due and the budget is used up"
 unfoldable pub passes : Table → ℕ → List ℕ → List Numbered → State → List ℕ → Line
 passes ms zero closed todo st t = due (isControl t) t st todo (λ e es. ended (refused budgetUsedUp))
 passes ms (suc budget) closed todo st t =

@@ -1,6 +1,6 @@
 -- DEMAND 2, OF EVERY TABLE THAT CAN BE MADE: what is written out of it is read again as that table.
--- Ruled out are these edits of must-fail/: macro_97 (a `$MACRO` line fed to 95 macros leaves 97) and macro_unspelled (a `$MACRO` line
--- leaves a macro that no file spells);
+-- Ruled out are these edits of must-fail/: macro_97 (a `$MACRO` line fed to 95 macros leaves 97),
+-- macro_unspelled (a `$MACRO` line leaves a macro that no file spells);
 -- and of crates/macros: pattern_mark (a byte is written without its `\`) and written_513 (a macro of 513 bytes is written).
 use Prim.Native.Nat.{ℕ, _≤_}
 use mathlib.Core.Path.{_≡_}

@@ -17,6 +17,7 @@ use Rattle.lines.specs.State.{State, contents}
 
 -- ONE COPY OF A UNIT, at a place from which the line has the bytes s to its end
 
+-- a byte is there, and fits
 unfoldable pub byteFits : (ℕ → Bool) → List ℕ → Bool
 byteFits f [] = false
 byteFits f (b ∷ bs) = f b
@@ -27,6 +28,7 @@ begins [] s = true
 begins (c ∷ cs) [] = false
 begins (c ∷ cs) (b ∷ bs) = elim (eqb c b) [ true ↦ begins cs bs | false ↦ false ]
 
+-- the byte is one of the members, or in one of the ranges
 unfoldable pub isMember : List Member → ℕ → Bool
 isMember [] b = false
 isMember (single c ∷ ms) b = eqb b c || isMember ms b
@@ -82,8 +84,7 @@ Satisfies st t end p n q = (length t ≤ p) × (n ≡ 1) × (q ≡ p)
 Satisfies st t left p n q = (n ≡ 1) × (q ≡ p)
 Satisfies st t right p n q = (n ≡ 1) × (q ≡ p)
 
--- "A division at place p gives each element in order a span, the first starting at p and each next where the last ended, that satisfies
--- it."
+-- "A division at place p gives each element in order a span, the first starting at p and each next where the last ended"
 unfoldable pub Divides : State → List ℕ → List Piece → ℕ → Division → Type 0
 Divides st t [] p [] = Unit {0}
 Divides st t [] p (x ∷ d) = ⊥

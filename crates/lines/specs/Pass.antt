@@ -14,15 +14,17 @@ use Rattle.lines.specs.Replacing.Done.{bad, good}
 -- THE MATCH AT A PLACE
 
 -- "An empty match at the end of the match just made in the same pass does not count."; last: where that ended, if there was one.
--- Where the chosen division is empty there is no other: any other would have more repeats at the first closure where they differ.
+-- Where the chosen division is empty there is no other: any other would have fewer repeats at some closure of units that are not empty.
 unfoldable pub barred : Option ℕ → ℕ → ℕ → Bool
 barred none p q = false
 barred (some l) p q = eqb l p && eqb q p
 
+-- a barred division does not count
 unfoldable pub unlessBarred : Bool → Division → Option Division
 unlessBarred true d = none
 unlessBarred false d = some d
 
+-- the chosen division, if it counts
 unfoldable pub counting : Option ℕ → ℕ → Option Division → Option Division
 counting last p none = none
 counting last p (some d) = unlessBarred (barred last p (endOf p d)) d
@@ -45,6 +47,7 @@ pub data Walk : Type 0 where
   ended : Done → Walk
   occurs : Occurrence → Walk → Walk
 
+-- a refused step ends the pass
 unfoldable pub goOn : Done → (Work → Walk) → Walk
 goOn (bad r w) k = ended (bad r w)
 goOn (good w) k = k w
@@ -63,14 +66,14 @@ unfoldable pub onward : ℕ → ℕ → ℕ → (ℕ → Option ℕ → Work →
 onward q b zero go v = goOn (put b v) (λ x. go zero (some q) x)
 onward q b (suc k) go v = go k (some q) v
 
--- a place with the byte b: "At a place without a match the byte is copied."; go takes how many bytes to pass over behind b, where the last
--- match ended, and the moment
+-- a place with the byte b: "At a place without a match the byte is copied."
+-- go takes how many bytes to pass over behind b, where the last match ended, and the moment
 unfoldable pub atByte : Macro → List ℕ → ℕ → ℕ → Option ℕ → Work → (ℕ → Option ℕ → Work → Walk) → Option Division → Walk
 atByte m t p b last w go none = goOn (put b w) (λ v. go zero last v)
 atByte m t p b last w go (some d) = matched m t p d w (onward (endOf p d) b (endOf p d - p) go)
 
--- the pass over the line t from place p on, where t has the bytes of the last argument; of these the first skip belong to the match just
--- made, which ended at last
+-- the pass over the line t from place p on, where t has the bytes of the last argument
+-- of these the first skip belong to the match just made, which ended at last
 unfoldable pub walk : Macro → List ℕ → ℕ → Option ℕ → ℕ → Work → List ℕ → Walk
 walk m t skip last p w [] = atEnd m t p w (match (w .state) (m .pattern) last p [])
 walk m t (suc skip) last p w (b ∷ bs) = walk m t skip last (suc p) w bs
@@ -83,10 +86,12 @@ pass m t st = walk m t 0 none 0 (record { out = []; size = 0; state = st }) t
 
 -- WHAT A PASS COMES TO
 
+-- its occurrences in turn
 unfoldable pub occurrences : Walk → List Occurrence
 occurrences (ended d) = []
 occurrences (occurs o k) = o ∷ occurrences k
 
+-- whether it had one
 unfoldable pub occurred : Walk → Bool
 occurred (ended d) = false
 occurred (occurs o k) = true

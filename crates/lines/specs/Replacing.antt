@@ -57,27 +57,33 @@ put b w = unless (ltb (w .size) mostLineBytes) newLineTooLong w (record { out = 
 
 -- THE STATE
 
+-- the stack of the letter i is k, and all else stays
 unfoldable pub withStack : ℕ → Stack → Work → Work
 withStack i k w =
     let st : State = w .state in
     let new : State = record { stacks = set (st .stacks) (i - 97) k; counters = st .counters; trace = st .trace; nflag = st .nflag } in
     record { out = w .out; size = w .size; state = new }
 
+-- the counter of the letter i is k, and all else stays
 unfoldable pub withCounter : ℕ → Counter → Work → Work
 withCounter i k w =
     let st : State = w .state in
     let new : State = record { stacks = st .stacks; counters = set (st .counters) (i - 97) k; trace = st .trace; nflag = st .nflag } in
     record { out = w .out; size = w .size; state = new }
 
+-- its pointer is n, and its entries stay
 unfoldable pub withPointer : ℕ → ℕ → Work → Work
 withPointer i n w = withStack i (record { pointer = n; entries = stackOf (w .state) i .entries }) w
 
+-- its value is n, and its increment stays
 unfoldable pub withValue : ℕ → ℕ → Work → Work
 withValue i n w = withCounter i (record { value = n; increment = counterOf (w .state) i .increment }) w
 
+-- its increment is n, and its value stays
 unfoldable pub withIncrement : ℕ → ℕ → Work → Work
 withIncrement i n w = withCounter i (record { value = counterOf (w .state) i .value; increment = n }) w
 
+-- the entry that its pointer names is t; the pointer and the other entries stay
 unfoldable pub withEntry : ℕ → List ℕ → Work → Work
 withEntry i t w =
     let k : Stack = stackOf (w .state) i in
@@ -114,6 +120,7 @@ stores i t w = unless (leb (length t) mostEntryBytes) tagTooLong w (withEntry i 
 
 -- WHAT ACTS, for the division of the line t whose spans end at qs
 
+-- a call
 unfoldable pub callActs : List ℕ → List Piece → List ℕ → Call → Work → Done
 callActs t es qs (insert m i v) w = early m v i w >>= (λ x. puts (contents (x .state) m i) x) >>= late m v i
 callActs t es qs (storeTag n i v) w = early stack v i w >>= stores i (tagText t (n - 1) es qs) >>= late stack v i
@@ -122,15 +129,18 @@ callActs t es qs (setTo counter i n) w = good (withValue i n w)
 callActs t es qs (storeText i v x) w = early stack v i w >>= stores i x >>= late stack v i
 callActs t es qs (setIncrement i n) w = good (withIncrement i n w)
 
+-- a part of the replacement
 unfoldable pub acts : List ℕ → List Piece → List ℕ → Action → Work → Done
 acts t es qs (text b) w = put b w
 acts t es qs (tag n) w = puts (tagText t (n - 1) es qs) w
 acts t es qs (call c) w = callActs t es qs c w
 
+-- the replacement, left to right
 unfoldable pub replaces : List ℕ → List Piece → List ℕ → List Action → Work → Done
 replaces t es qs [] w = good w
 replaces t es qs (a ∷ as₁) w = acts t es qs a w >>= replaces t es qs as₁
 
+-- the commands, left to right
 unfoldable pub commandsAct : List ℕ → List Piece → List ℕ → List Call → Work → Done
 commandsAct t es qs [] w = good w
 commandsAct t es qs (c ∷ cs) w = callActs t es qs c w >>= commandsAct t es qs cs

@@ -1,5 +1,5 @@
--- The room of a line: at every moment of a pass the new line's size is known, and is at most 1,054 (01, bounds). That of the answers is in
--- FeedKeeps.
+-- The room of a line: at every moment of a pass the new line's size is known, and is at most 1,054 (01, bounds).
+-- That of the answers is in FeedKeeps.
 -- It rules out must-fail/room_1055 and must-fail/size_lost.
 use mathlib.Core.Path.{_≡_}
 use Prim.Native.Nat.{ℕ, _≤_}

@@ -62,15 +62,18 @@ callSteps tags (storeText i v s) = withMove stack i v (stores i s)
 callSteps tags (setTo m i n) = sets m i n ∷ []
 callSteps tags (setIncrement i n) = setsIncrement i n ∷ []
 
+-- the steps of a part of the replacement
 abbrev pub actionSteps : (ℕ → List ℕ) → Action → List Step
 actionSteps tags (text b) = inserts (b ∷ []) ∷ []
 actionSteps tags (tag n) = inserts (tags n) ∷ []
 actionSteps tags (call c) = callSteps tags c
 
+-- of the replacement
 abbrev pub replacementSteps : (ℕ → List ℕ) → List Action → List Step
 replacementSteps tags [] = []
 replacementSteps tags (a ∷ as₁) = actionSteps tags a ++ replacementSteps tags as₁
 
+-- of the commands
 abbrev pub commandSteps : (ℕ → List ℕ) → List Call → List Step
 commandSteps tags [] = []
 commandSteps tags (c ∷ cs) = callSteps tags c ++ commandSteps tags cs

@@ -1,5 +1,4 @@
--- 01, part 3, "A tag runs from the end of what precedes its left brace to the end of what precedes its right.": the law of a division's
--- tags.
+-- 01, part 3, "A tag runs from the end of what precedes its left brace to the end of what precedes its right.": the law of it.
 -- It rules out must-fail/late_tag and must-fail/inner_brace_ends.
 use mathlib.Core.Path.{_≡_}
 use Prim.Native.Nat.{ℕ, zero, suc}
@@ -26,10 +25,9 @@ Closes (suc n) (right ∷ es) = Closes n es
 abbrev pub endAfter : ℕ → List Piece → Division → ℕ
 endAfter p es d = endOf p (take (length es) d)
 
--- the tags of the division d of the pattern es at place p of the line t: wherever a tag stands in the pattern, with the pieces front before
--- its left brace and the pieces
--- inside between its braces, its text runs from the end of front to the end of what precedes its right brace; before it come as many tags
--- as front has left braces
+-- the tags of the division d of the pattern es at place p of the line t. Where a tag stands, front are the pieces before its left brace
+-- and inside those between its braces: its text runs from the end of front to the end of what precedes its right brace.
+-- Before it come as many tags as front has left braces.
 abbrev pub TagsOf : List Piece → List ℕ → ℕ → Division → Type 0
 TagsOf es t p d =
     (front inside back : List Piece) → es ≡ front ++ left ∷ (inside ++ right ∷ back) → Closes 0 inside
