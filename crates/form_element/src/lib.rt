@@ -54,6 +54,7 @@ struct Item {
     operand: u8,
 }
 
+// A closure's code.
 fn closure_code(c: Closure) -> u8
     ensures { λ r. ⌜ (r ≡ closureCode (closureFrom c)) × (r ≤ 2) ⌝ }
 {
@@ -64,6 +65,7 @@ fn closure_code(c: Closure) -> u8
     }
 }
 
+// The item of a code and an operand.
 fn item_with(code: u8, operand: u8) -> Item
     ensures { λ r. ⌜ (r .code ≡ code) × (r .operand ≡ operand) ⌝ }
 {

@@ -176,6 +176,7 @@ fn number_at(n: u32, line: &[u8], p: usize) -> Lead
     digit_at(n % 10, line, q)
 }
 
+// Whether the digits of n stand at p.
 fn has_number(n: u32, line: &[u8], p: usize) -> bool
     requires { ⌜ p ≤ length (now line) ⌝ }
     ensures { λ r. ⌜ r ≡ begins (digits n) (drop p (now (line .entry))) ⌝ }

@@ -31,12 +31,14 @@ pub fn is_break(b: u8) -> bool
     b == 10
 }
 
+// A lower case letter.
 pub fn is_lower(b: u8) -> bool
     ensures { λ r. ⌜ r ≡ lower b ⌝ }
 {
     97 <= b && b <= 122
 }
 
+// A digit.
 pub fn is_digit(b: u8) -> bool
     ensures { λ r. ⌜ r ≡ digit b ⌝ }
 {

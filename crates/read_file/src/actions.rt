@@ -92,6 +92,7 @@ pub(crate) fn find_replacement(s: &[u8], a: usize, first: usize) -> Next
 
 // REPLACEMENT
 
+// `&` or `#`.
 fn is_mark(b: u8) -> bool
     ensures { λ r. ⌜ IsMark b r ⌝ }
 {
@@ -104,6 +105,7 @@ fn is_mark(b: u8) -> bool
     false
 }
 
+// The sign of a stack's call or, if counter, of a counter's.
 fn mark_byte(counter: bool) -> u8
     ensures { λ r. ⌜ r ≡ markByte (markOf counter) ⌝ }
 {

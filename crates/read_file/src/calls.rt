@@ -45,6 +45,7 @@ ghost use Rattle.read_file.specs.Call.{CalledFrom, NamedFrom, Naming, Ta
 
 // REFUSALS HANDED ON
 
+// A byte's refusal, as that of the part it belongs to. Callers hand on nothing else.
 pub(crate) fn next_end(n: Next) -> Ended
     ensures { λ r. ⌜ r ≡ nextEnd n ⌝ }
 {
@@ -54,6 +55,7 @@ pub(crate) fn next_end(n: Next) -> Ended
     }
 }
 
+// A number's refusal, as its call's.
 pub(crate) fn number_end(n: Number) -> Ended
     ensures { λ r. ⌜ r ≡ numberEnd n ⌝ }
 {
@@ -63,6 +65,7 @@ pub(crate) fn number_end(n: Number) -> Ended
     }
 }
 
+// A letter's refusal, as its call's.
 fn name_end(n: Name) -> Ended
     ensures { λ r. ⌜ r ≡ nameEnd n ⌝ }
 {
@@ -72,6 +75,7 @@ fn name_end(n: Name) -> Ended
     }
 }
 
+// A byte's refusal, as a letter's.
 fn next_name(n: Next) -> Name
     ensures { λ r. ⌜ r ≡ nextName n ⌝ }
 {
@@ -96,6 +100,7 @@ fn takes_sign(b: u8, signs: bool) -> bool
     false
 }
 
+// The code of a move by `+` or `-`.
 fn sign_code(b: u8) -> u8
     ensures { λ r. ⌜ r ≡ signCode b ⌝ }
 {
@@ -379,6 +384,7 @@ fn counter_tail(c: u8, m: u8, cmd: bool) -> Tail
     Tail::Insert(INSERT_VALUE + m)
 }
 
+// What the byte c behind a letter with the move m asks for, in `&(..)` or, if counter, in `#(..)`.
 fn tail(c: u8, m: u8, counter: bool, cmd: bool) -> Tail
     requires { ⌜ m ≤ 4 ⌝ }
     ensures { λ r. ⌜ Asks (markOf counter) cmd (signsIn counter cmd) c m r ⌝ }
@@ -429,6 +435,7 @@ fn named_call(
     }
 }
 
+// A call behind its `&(`: a stored tag's begins with a number, any other with its letter.
 fn stack_call(
     s: &[u8],
     out: &mut [u8],
@@ -451,6 +458,7 @@ fn stack_call(
     named_call(s, out, a, q, b, n, false, cmd)
 }
 
+// A call behind its `#(`.
 fn counter_call(s: &[u8], out: &mut [u8], a: usize, at: usize, n: usize, cmd: bool) -> Ended
     requires { ⌜ Reached (now s) a at × (n + 2 * (a + 513 - at) ≤ length (now out)) ⌝ }
     ensures { λ r. ⌜ NamedFrom (now (s .entry)) a at (now (out .entry)) (now (out .exit)) n (markOf true) cmd r ⌝ }

@@ -27,6 +27,7 @@ ghost use Rattle.read_scan.specs.Scan.{Reached};
 ghost use Rattle.read_file.specs.Action.{symbolOf};
 ghost use Rattle.read_file.specs.File.{MacroFrom, ReadsMacro, PartsFrom, noPattern, noNext, noEnd, opens, turned, Seeks, ZeroAt, AddsFrom, noQuote, noMacro, macrosBy, tableOf, Lent, Onto};
 
+// The code of the symbol `=` or `<` in a slot.
 fn symbol_code(b: u8) -> u8
     ensures { λ r. ⌜ r ≡ symbolCode (symbolOf b) ⌝ }
 {
@@ -114,6 +115,7 @@ fn skip_behind(b: u8, skip: bool) -> bool
     skip
 }
 
+// The next macro's first quote, from `first` on.
 fn next_quote(s: &[u8], first: usize) -> Seek
     requires { ⌜ first ≤ length (now s) ⌝ }
     ensures { λ r. ⌜ Seeks (now (s .entry)) first r ⌝ }
@@ -199,6 +201,7 @@ pub fn read_onto(file: &[u8], table: &mut [u8], count: usize) -> Reading
 
 // REFUSALS HANDED ON, each with its place. Callers hand on nothing else, so the other arms are never taken.
 
+// A pattern's refusal, as its macro's.
 fn no_pattern(w: Whole) -> Built
     ensures { λ r. ⌜ r ≡ noPattern w ⌝ }
 {
@@ -208,6 +211,7 @@ fn no_pattern(w: Whole) -> Built
     }
 }
 
+// A byte's refusal, as its macro's.
 fn no_next(n: Next) -> Built
     ensures { λ r. ⌜ r ≡ noNext n ⌝ }
 {
@@ -217,6 +221,7 @@ fn no_next(n: Next) -> Built
     }
 }
 
+// The refusal of a replacement or of commands, as their macro's.
 fn no_end(e: Ended) -> Built
     ensures { λ r. ⌜ r ≡ noEnd e ⌝ }
 {
@@ -237,6 +242,7 @@ fn no_quote(seek: Seek, n: usize, size: usize) -> Added
     }
 }
 
+// A macro's refusal, as the file's, with the macros stored by then.
 fn no_macro(b: Built, n: usize) -> Added
     ensures { λ r. ⌜ r ≡ noMacro b n ⌝ }
 {
@@ -256,6 +262,7 @@ fn macros_by(a: Added) -> usize
     }
 }
 
+// The macros that the table has, or the refusal without them.
 fn table_of(a: Added) -> Reading
     ensures { λ r. ⌜ r ≡ tableOf a ⌝ }
 {

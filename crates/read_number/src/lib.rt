@@ -17,6 +17,7 @@ pub enum Number {
     Refused(Fault, usize),
 }
 
+// A byte's refusal, as a number's. Callers hand on nothing else.
 fn number_fault(n: Next) -> Number
     ensures { λ r. ⌜ r ≡ numberFault n ⌝ }
 {
@@ -26,6 +27,7 @@ fn number_fault(n: Next) -> Number
     }
 }
 
+// A byte as a wider number.
 fn wide(x: u8) -> u64
     ensures { λ r. ⌜ r ≡ x ⌝ }
 {

@@ -47,6 +47,7 @@ ghost use Rattle.form_items.specs.Items.{Wrote};
 ghost use Rattle.read_pattern.specs.Class.{Meeting, Plain, Taking, pending, lastItems, Classing, byteFault, putFault};
 ghost use Rattle.read_pattern.specs.Pattern.{Joins, Makes, MakesOne, Pieces, Reads, Begins, Starts, Inner, Room, IsClass, atQuery, atMark, atCall, atClass, atFresh, markAt, negOf, gotItem, behindLeft, behindRight, behindElement, itemFault, classFault, elementFault, insideFault, pieceFault, innerFault, wholeFault};
 
+// An element that ends before `at`, with what is written of it up to `end`.
 fn got(unit: Unit, closure: Closure, at: usize, end: usize) -> Item
     ensures { λ r. ⌜ r ≡ gotItem unit closure at end ⌝ }
 {
@@ -88,6 +89,7 @@ fn escape(s: &[u8], a: usize, at: usize, end: usize) -> Item
     with_closure(s, a, Unit::Literal(b), q + 1, end)
 }
 
+// "`?` with 1 to 6".
 fn kind_digit(b: u8) -> bool
     ensures { λ r. ⌜ r ≡ kindDigit b ⌝ }
 {
@@ -156,6 +158,7 @@ fn marked(s: &[u8], a: usize, at: usize, end: usize, sign: u8) -> Item
     with_closure(s, a, Unit::Literal(sign), q, end)
 }
 
+// An upper case letter.
 fn is_upper(b: u8) -> bool
     ensures { λ r. ⌜ r ≡ upper b ⌝ }
 {
@@ -472,6 +475,7 @@ pub fn whole(s: &[u8], out: &mut [u8], a: usize) -> Whole
 
 // REFUSALS HANDED ON, each with its place. Callers hand on nothing else, so the other arms are never taken.
 
+// A byte's refusal, as an element's.
 fn item_fault(n: Next) -> Item
     ensures { λ r. ⌜ r ≡ itemFault n ⌝ }
 {
@@ -481,6 +485,7 @@ fn item_fault(n: Next) -> Item
     }
 }
 
+// A byte's refusal, as a class byte's.
 fn byte_fault(n: Next) -> ClassByte
     ensures { λ r. ⌜ r ≡ byteFault n ⌝ }
 {
@@ -490,6 +495,7 @@ fn byte_fault(n: Next) -> ClassByte
     }
 }
 
+// A class byte's refusal, as the class's.
 fn put_fault(b: ClassByte) -> Put
     ensures { λ r. ⌜ r ≡ putFault b ⌝ }
 {
@@ -499,6 +505,7 @@ fn put_fault(b: ClassByte) -> Put
     }
 }
 
+// A class's refusal, as its element's.
 fn class_fault(p: Put) -> Item
     ensures { λ r. ⌜ r ≡ classFault p ⌝ }
 {
@@ -508,6 +515,7 @@ fn class_fault(p: Put) -> Item
     }
 }
 
+// An element's refusal, as a piece's.
 fn element_fault(i: Item) -> Put
     ensures { λ r. ⌜ r ≡ elementFault i ⌝ }
 {
@@ -517,6 +525,7 @@ fn element_fault(i: Item) -> Put
     }
 }
 
+// A byte's refusal, as that of a run of pieces.
 fn inside_fault(n: Next) -> Inside
     ensures { λ r. ⌜ r ≡ insideFault n ⌝ }
 {
@@ -526,6 +535,7 @@ fn inside_fault(n: Next) -> Inside
     }
 }
 
+// A piece's refusal, as that of its run.
 fn piece_fault(p: Put) -> Inside
     ensures { λ r. ⌜ r ≡ pieceFault p ⌝ }
 {
