@@ -1,4 +1,5 @@
--- The moments of a pass (01, part 5), as the code has them. What they are of a pass of the definitions is said by `Onward` and `Goes` (`pass_one: Places`).
+-- The moments of a pass (01, part 5), as the code has them.
+-- What they are of a pass of the definitions is said by `Onward` and `Goes` (`pass_one: Places`).
 use Prim.Native.Nat.{ℕ, _+_, _≤_, _<_}
 use mathlib.Core.Path.{_≡_}
 use mathlib.Core.Bool.{Bool, true, false}
@@ -49,7 +50,8 @@ passedOf a = answerOf (a .refusal) (a .occurred) (a .size)
 pub record Copies (t out out′ : List ℕ) (a r : Moment) : Type 0 where
   pub none : length t ≤ a .place → (r ≡ movedTo a (a .size)) × (out′ ≡ out)
   pub full : a .place < length t → mostLineBytes ≤ a .size → (r ≡ refusedAt NewLineTooLong (a .size)) × (out′ ≡ out)
-  pub copied : a .place < length t → a .size < mostLineBytes → (r ≡ movedTo a (a .size + 1)) × (out′ ≡ set out (a .size) (getD t (a .place) 0))
+  pub copied : a .place < length t → a .size < mostLineBytes
+      → (r ≡ movedTo a (a .size + 1)) × (out′ ≡ set out (a .size) (getD t (a .place) 0))
 
 -- part 5: behind the tried place p. "Moment a place without a match the byte is copied", and "an empty match also copies the byte there ..
 -- and goes on after that byte": there the pass still stands at p. Behind a longer match, and after a refusal, nothing is copied

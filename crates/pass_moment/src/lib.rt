@@ -19,7 +19,8 @@ pub enum Refusal {
     RefusedBy(Fault),
 }
 
-// A moment of a pass: the place to be tried next, the end of the match just made, the bytes of the new line, whether there was an occurrence, and whether a step was refused.
+// A moment of a pass: the place to be tried next, the end of the match just made, the bytes of the new line,
+// whether there was an occurrence, and whether a step was refused.
 pub struct Moment {
     pub place: usize,
     pub last: usize,
@@ -102,7 +103,8 @@ fn copy_byte(line: &[u8], at: Moment, out: &mut [u8]) -> Moment
     moved(at, n + 1)
 }
 
-// Behind the tried place p: where the pass still stands there, without a match or with an empty one, the byte is copied and the pass goes on after it. Behind a longer match, or a refusal, nothing is copied.
+// Behind the tried place p: where the pass still stands there, without a match or with an empty one,
+// the byte is copied and the pass goes on after it. Behind a longer match, or a refusal, nothing is copied.
 pub fn step_over(line: &[u8], p: usize, at: Moment, out: &mut [u8]) -> Moment
     requires { ⌜ (p ≤ mostLineBytes) × (length (now out) ≡ mostLineBytes) ⌝ }
     ensures { λ r. ⌜ StepsOver (now (line .entry)) (now (out .entry)) (now (out .exit)) p at r ⌝ }

@@ -54,6 +54,7 @@ abbrev pub pickLast : Bool → ℕ → Option ℕ
 pickLast true n = some n
 pickLast false n = none
 
+-- the end of the match just made, from the number that the code keeps
 unfoldable pub lastOf : ℕ → Option ℕ
 lastOf n = pickLast (leb n mostLineBytes) n
 
@@ -64,8 +65,10 @@ FoundAt none p es ends (Matched q) = ⊥
 FoundAt (some d) p es ends NoMatch = ⊥
 FoundAt (some d) p es ends (Matched q) = (endOf p d ≡ q) × EndsFrom ends 0 es (stops d)
 
+-- what trying place p finds: the definition's match, with marks that stay sound
 pub record Finds (items b t : List ℕ) (last p : ℕ) (marks marks′ ends′ : List ℕ) (r : Found) : Type 0 where
-  pub found : (es : List Piece) → IsPattern items es → (st : State) → Holds b st → FoundAt (match st es (lastOf last) p (drop p t)) p es ends′ r
+  pub found : (es : List Piece) → IsPattern items es → (st : State) → Holds b st
+      → FoundAt (match st es (lastOf last) p (drop p t)) p es ends′ r
   pub sound : Sound items b t marks′
   -- only the marks of the items change
   pub outside : drop (66 * length items) marks′ ≡ drop (66 * length items) marks
@@ -77,6 +80,7 @@ countedIf true true q = NoMatch
 countedIf true false q = Matched q
 countedIf false b q = Matched q
 
+-- "An empty match at the end of the match just made in the same pass does not count."
 abbrev pub countedOf : Found → ℕ → ℕ → Found
 countedOf NoMatch last p = NoMatch
 countedOf (Matched q) last p = countedIf (eqb q p) (eqb last p) q

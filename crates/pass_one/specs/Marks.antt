@@ -20,4 +20,6 @@ copiesFrom st u es t q = more (fits st u) (width st u) (chosen st es) (drop q t)
 -- every mark says truly that there is no division
 unfoldable pub Sound : (items b t marks : List ℕ) → Type 0
 Sound items b t marks =
-    (at q : ℕ) → q ≤ 1055 → mark marks at q ≡ 1 → (u : PatternUnit) (c : Closure) (es : List Piece) → IsRest items at (element u c ∷ es) → (st : State) → Holds b st → copiesFrom st u es t q ≡ none
+    (at q : ℕ) → q ≤ 1055 → mark marks at q ≡ 1
+    → (u : PatternUnit) (c : Closure) (es : List Piece) → IsRest items at (element u c ∷ es)
+    → (st : State) → Holds b st → copiesFrom st u es t q ≡ none

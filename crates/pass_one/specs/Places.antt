@@ -30,6 +30,7 @@ from m t last p w = walk m t 0 (lastOf last) p w (drop p t)
 abbrev pub matchAt : Macro → List ℕ → ℕ → ℕ → Work → Option Division
 matchAt m t last p w = match (w .state) (m .pattern) (lastOf last) p (drop p t)
 
+-- the bytes are the slot of some macro
 abbrev pub SomeSlot : List ℕ → Type 0
 SomeSlot s = (m : Macro) × IsSlot s m
 
@@ -58,14 +59,17 @@ pub record AtPlace (s items kinds t b out marks ends : List ℕ) (a : Moment) : 
   pub count : length ends ≡ bodyBytes
   pub inside : (i : ℕ) → getD ends i 0 ≤ length t
 
--- the pass x, before which there was an occurrence if `had`, is the pass from the moment a on, in which w holds; past the last place a says what x comes to
+-- the pass x, before which there was an occurrence if `had`, is the pass from the moment a on,
+-- in which w holds; past the last place a says what x comes to
 pub record Onward (m : Macro) (t : List ℕ) (x : Walk) (had : Bool) (a : Moment) (w : Work) : Type 0 where
-  pub on : a .place ≤ length t → (outcome x ≡ outcome (from m t (a .last) (a .place) w)) × (had || occurred x ≡ a .occurred || occurred (from m t (a .last) (a .place) w))
+  pub on : a .place ≤ length t → (outcome x ≡ outcome (from m t (a .last) (a .place) w))
+      × (had || occurred x ≡ a .occurred || occurred (from m t (a .last) (a .place) w))
   pub over : length t < a .place → (outcome x ≡ doneOf (passedOf a) w) × SaysOccurred (passedOf a) (had || occurred x)
 
 -- from the moment a, at whose place the macro is tried, the pass goes on at the moment r
 pub record Goes (s items t b b′ out out′ marks marks′ seen ends : List ℕ) (a r : Moment) : Type 0 where
-  pub comes : (m : Macro) → IsSlot s m → (w : Work) → IsMoment out b (a .size) w → (v : Work) × IsMoment out′ b′ (r .size) v × Onward m t (from m t (a .last) (a .place) w) (a .occurred) r v
+  pub comes : (m : Macro) → IsSlot s m → (w : Work) → IsMoment out b (a .size) w
+      → (v : Work) × IsMoment out′ b′ (r .size) v × Onward m t (from m t (a .last) (a .place) w) (a .occurred) r v
   pub past : drop (r .size) out′ ≡ drop (r .size) out
   pub size : r .size ≤ mostLineBytes
   pub grows : a .size ≤ r .size
@@ -78,6 +82,6 @@ pub record Goes (s items t b b′ out out′ marks marks′ seen ends : List ℕ
   pub outside : drop (66 * length items) marks′ ≡ drop (66 * length items) marks
   pub inside : (i : ℕ) → getD ends i 0 ≤ length t
 
--- the same, once the byte at an empty match, or at a place without one, is copied
+-- from the moment a the pass goes on at the moment r, once the byte at an empty match, or at a place without one, is copied
 pub record GoesBy (s items t b b′ out out′ marks marks′ seen ends : List ℕ) (a r : Moment) : Type 0 where
   pub copied : (z : Moment) (l : List ℕ) → StepsOver t out′ l (a .place) r z → Goes s items t b b′ out l marks marks′ seen ends a z

@@ -19,10 +19,11 @@ Pairs P [] = Unit {0}
 Pairs P (c ∷ []) = ⊥
 Pairs P (c ∷ i ∷ l) = P c i × Pairs P l
 
--- what an answer of true, or of false, says
+-- what an answer of true says
 abbrev pub WhenTrue : Bool → Type 0 → Type 0
 WhenTrue r P = r ≡ true → P
 
+-- what an answer of false says
 abbrev pub WhenFalse : Bool → Type 0 → Type 0
 WhenFalse r P = r ≡ false → P
 
@@ -30,6 +31,7 @@ WhenFalse r P = r ≡ false → P
 abbrev pub NoCall : ℕ → ℕ → Type 0
 NoCall c i = 16 ≤ c → c < 24 → ⊥
 
+-- the operand of a call is a letter
 abbrev pub LetterIn : ℕ → ℕ → Type 0
 LetterIn c i = 16 ≤ c → c < 24 → Letter i
 
@@ -38,6 +40,7 @@ pub record SameAt (st st′ : State) (c i : ℕ) : Type 0 where
   pub stack : 16 ≤ c → c < 20 → currentEntry st i ≡ currentEntry st′ i
   pub counter : 20 ≤ c → c < 24 → counterOf st i .value ≡ counterOf st′ i .value
 
+-- the item stands for the same text in every two states of which these are the bytes, if it is a call
 abbrev pub SameIn : List ℕ → List ℕ → ℕ → ℕ → Type 0
 SameIn b b′ c i = (st st′ : State) → Holds b st → Holds b′ st′ → SameAt st st′ c i
 
@@ -51,6 +54,7 @@ pub record Seen (items seen b : List ℕ) : Type 0 where
   pub state : 0 < length seen → IsState seen
   pub same : 0 < length seen → Alike items seen b
 
+-- what keeping or clearing the marks asks
 pub record Renewing (items b seen marks : List ℕ) : Type 0 where
   pub pattern : (es : List Piece) × IsPattern items es
   pub fits : length items ≤ bodyBytes

@@ -28,10 +28,11 @@ abbrev pub stopsOf : Option Division → Option (List ℕ)
 stopsOf none = none
 stopsOf (some d) = some (stops d)
 
--- the end places of the chosen division of the pieces es at p, and of more copies of u from q on and then es
+-- the end places of the chosen division of the pieces es at p
 abbrev pub answer : State → List Piece → List ℕ → ℕ → Option (List ℕ)
 answer st es t p = stopsOf (chosen st es p (drop p t))
 
+-- the end places of more copies of u from q on, as many as there can be, and then es
 abbrev pub after : State → PatternUnit → List Piece → List ℕ → ℕ → Option (List ℕ)
 after st u es t q = stopsOf (copiesFrom st u es t q)
 
@@ -40,10 +41,12 @@ abbrev pub thenP : ℕ → Option (List ℕ) → Option (List ℕ)
 thenP q none = none
 thenP q (some l) = some (q ∷ l)
 
+-- where the last of some end places is, if there is one, else p
 abbrev pub lastStop : ℕ → List ℕ → ℕ
 lastStop p [] = p
 lastStop p (q ∷ qs) = lastStop q qs
 
+-- what the matcher answers to end places
 abbrev pub foundOf : ℕ → Option (List ℕ) → Found
 foundOf p none = NoMatch
 foundOf p (some qs) = Matched (lastStop p qs)
@@ -53,6 +56,7 @@ abbrev pub endedIn : Found → ℕ → ℕ → List ℕ → List ℕ
 endedIn NoMatch at q ends = ends
 endedIn (Matched m) at q ends = set ends at q
 
+-- the ends hold the end places, from the item at `at` on
 abbrev pub Ended : List ℕ → ℕ → List Piece → Option (List ℕ) → Type 0
 Ended ends at es none = Unit {0}
 Ended ends at es (some qs) = EndsFrom ends at es qs
@@ -76,6 +80,7 @@ pub record Noted (items b t marks ends : List ℕ) : Type 0 where
   pub inside : (i : ℕ) → getD ends i 0 ≤ length t
   pub sound : Sound items b t marks
 
+-- what trying the pieces at `at` at place p asks
 pub record Trying (items kinds b t : List ℕ) (at p : ℕ) (marks ends : List ℕ) : Type 0 where
   pub given : Given items kinds b t
   pub noted : Noted items b t marks ends
@@ -86,12 +91,16 @@ pub record Trying (items kinds b t : List ℕ) (at p : ℕ) (marks ends : List �
 -- n copies in a row from q on, each w bytes wide
 pub record Row (items b t : List ℕ) (at w q n : ℕ) : Type 0 where
   pub inside : q + n * w ≤ length t
-  pub copies : (u : PatternUnit) (c : Closure) (es : List Piece) → IsRest items at (element u c ∷ es) → OfState b (λ st. (width st u ≡ w) × ((i : ℕ) → i < n → fits st u (drop (q + i * w) t) ≡ true))
+  pub copies : (u : PatternUnit) (c : Closure) (es : List Piece) → IsRest items at (element u c ∷ es)
+      → OfState b (λ st. (width st u ≡ w) × ((i : ℕ) → i < n → fits st u (drop (q + i * w) t) ≡ true))
 
 -- copies past r have no division: what is chosen from r on are the pieces behind the element
 abbrev pub Furthest : (items b t : List ℕ) (at r : ℕ) → Type 0
-Furthest items b t at r = (u : PatternUnit) (c : Closure) (es : List Piece) → IsRest items at (element u c ∷ es) → OfState b (λ st. after st u es t r ≡ thenP r (answer st es t r))
+Furthest items b t at r =
+    (u : PatternUnit) (c : Closure) (es : List Piece) → IsRest items at (element u c ∷ es)
+    → OfState b (λ st. after st u es t r ≡ thenP r (answer st es t r))
 
+-- what counting the copies of a unit asks
 pub record Counting (items kinds b t : List ℕ) (at : ℕ) (u : CodeUnit) (w q : ℕ) (marks : List ℕ) : Type 0 where
   pub given : Given items kinds b t
   pub size : length marks ≡ marksBytes
@@ -101,10 +110,12 @@ pub record Counting (items kinds b t : List ℕ) (at : ℕ) (u : CodeUnit) (w q 
   pub some : 1 ≤ w
   pub place : q ≤ length t
 
+-- a row of n copies past which there is no division
 pub record Most (items b t : List ℕ) (at w q n : ℕ) : Type 0 where
   pub row : Row items b t at w q n
   pub furthest : Furthest items b t at (q + n * w)
 
+-- what trying up to n copies asks
 pub record Repeating (items kinds b t : List ℕ) (at next w q n : ℕ) (marks ends : List ℕ) : Type 0 where
   pub given : Given items kinds b t
   pub noted : Noted items b t marks ends
@@ -118,10 +129,13 @@ pub record Kept (items b t marks marks′ ends′ : List ℕ) : Type 0 where
   pub noted : Noted items b t marks′ ends′
   pub outside : drop (66 * length items) marks′ ≡ drop (66 * length items) marks
 
+-- what trying the pieces at `at` at place p says
 pub record Tried (items b t : List ℕ) (at p : ℕ) (marks marks′ ends′ : List ℕ) (r : Found) : Type 0 where
   pub said : (es : List Piece) → IsRest items at es → OfState b (λ st. Said es (answer st es t p) at p ends′ r)
   pub kept : Kept items b t marks marks′ ends′
 
+-- what trying the copies from q on says
 pub record Copied (items b t : List ℕ) (at q : ℕ) (marks marks′ ends′ : List ℕ) (r : Found) : Type 0 where
-  pub said : (u : PatternUnit) (c : Closure) (es : List Piece) → IsRest items at (element u c ∷ es) → OfState b (λ st. Said (element u c ∷ es) (after st u es t q) at q ends′ r)
+  pub said : (u : PatternUnit) (c : Closure) (es : List Piece) → IsRest items at (element u c ∷ es)
+      → OfState b (λ st. Said (element u c ∷ es) (after st u es t q) at q ends′ r)
   pub kept : Kept items b t marks marks′ ends′

@@ -1,4 +1,5 @@
-// The matcher (01, part 3): the stack grows with the pattern's elements and, for each closure, with the halvings of its copies; each closure is tried at each place once.
+// The matcher (01, part 3): the stack grows with the pattern's elements and, for each closure, with the halvings of its copies;
+// each closure is tried at each place once.
 use crate::Found;
 use crate::unit::Lead;
 use crate::unit::behind;
@@ -91,8 +92,10 @@ fn ended(found: Found, at: usize, q: usize, ends: &mut [u16]) -> Found
     found
 }
 
-// The element at `at`, with up to `most` copies from q on, each w bytes wide: the pieces behind it after most copies, then after one copy less, and so on.
-// Of several numbers of copies the upper half is tried first and then the lower half, so the untried repeats fall with each call, and no more than 12 calls stand in each other.
+// The element at `at`, with up to `most` copies from q on, each w bytes wide:
+// the pieces behind it after most copies, then after one copy less, and so on.
+// Of several numbers of copies the upper half is tried first and then the lower half, so the untried repeats fall
+// with each call, and no more than 12 calls stand in each other.
 fn closure(
     items: &[u8],
     kinds: &[u8; 256],

@@ -1,4 +1,5 @@
--- What an action does (01, part 4), from its items: t begins with one. The text of its tag is taken from the line, the pattern's items and the ends.
+-- What an action does (01, part 4), from its items: t begins with one.
+-- The text of its tag is taken from the line, the pattern's items and the ends.
 use Prim.Native.Nat.{ℕ, zero, suc, _+_, _-_, _%_, _≤_, _<_}
 use mathlib.Core.Path.{_≡_}
 use mathlib.Core.Bool.{Bool}
@@ -19,7 +20,8 @@ use Rattle.pass_replace.specs.Tags.{tagIn}
 -- the text of the tag that an action takes: `{n}` or `&(n,i)`; any other takes none
 unfoldable pub taggedIn : (line pat ends t : List ℕ) → List ℕ
 taggedIn line pat ends t =
-    pick (eqb (getD t 0 0) 41) (tagIn line (getD t 1 0 - 1) pat ends) (pick (within 64 71 (getD t 0 0)) (tagIn line (getD t 3 0 - 1) pat ends) [])
+    pick (eqb (getD t 0 0) 41) (tagIn line (getD t 1 0 - 1) pat ends)
+    (pick (within 64 71 (getD t 0 0)) (tagIn line (getD t 3 0 - 1) pat ends) [])
 
 -- what a call's code is of
 unfoldable pub markIn : ℕ → Mark
@@ -39,7 +41,9 @@ moveIn c = pick (within 48 79 c) (c % 8) 0
 
 -- the move before the access, first 1, or after it, first 3
 unfoldable pub movesIn : ℕ → ℕ → ℕ → Work → Done
-movesIn first c i w = pick (eqb (moveIn c) first) (moves (markIn c) plus i w) (pick (eqb (moveIn c) (first + 1)) (moves (markIn c) minus i w) (good w))
+movesIn first c i w =
+    pick (eqb (moveIn c) first) (moves (markIn c) plus i w)
+    (pick (eqb (moveIn c) (first + 1)) (moves (markIn c) minus i w) (good w))
 
 -- a pointer, a value or an increment is set
 unfoldable pub setsIn : (c i n : ℕ) → Work → Done
@@ -53,8 +57,11 @@ actIn f (suc skip) (x ∷ l) w = actIn f skip l w
 
 -- what is inserted: a byte, a tag's text, or what a call stands for
 unfoldable pub contentsIn : (tag t : List ℕ) → State → List ℕ
-contentsIn tag t st = pick (eqb (getD t 0 0) 40) (getD t 1 0 ∷ []) (pick (eqb (getD t 0 0) 41) tag (contents st (markIn (getD t 0 0)) (getD t 1 0)))
+contentsIn tag t st =
+    pick (eqb (getD t 0 0) 40) (getD t 1 0 ∷ [])
+    (pick (eqb (getD t 0 0) 41) tag (contents st (markIn (getD t 0 0)) (getD t 1 0)))
 
+-- what an action stands for is inserted
 unfoldable pub insertsIn : (tag t : List ℕ) → Work → Done
 insertsIn tag t w = puts (contentsIn tag t (w .state)) w
 
@@ -68,10 +75,11 @@ accessIn tag t w =
     pick (ltb (getD t 0 0) 64) (insertsIn tag t w)
     (pick (ltb (getD t 0 0) 80) (stores (getD t 1 0) (storedIn tag t) w) (setsIn (getD t 0 0) (getD t 1 0) (numberIn t) w))
 
+-- an action with its moves: the one before, the access, the one after
 unfoldable pub actionIn : (tag t : List ℕ) → Work → Done
 actionIn tag t w = movesIn 1 (getD t 0 0) (getD t 1 0) w >>= accessIn tag t >>= movesIn 3 (getD t 0 0) (getD t 1 0)
 
--- the same of any action of an occurrence
+-- any action of an occurrence, with the text of its tag
 unfoldable pub actsIn : (line pat ends t : List ℕ) → Work → Done
 actsIn line pat ends t = actionIn (taggedIn line pat ends t) t
 

@@ -63,6 +63,7 @@ sizeOf (Refused f n) = n
 
 -- the moment that the memories hold then is that of the definition, done or refused; behind the new line nothing changes
 pub record Occurs (s ends t b b′ out out′ : List ℕ) (size : ℕ) (r : Outcome) : Type 0 where
-  pub comes : (m : Macro) (d : Division) → IsDivided s ends m d → (w : Work) → IsMoment out b size w → (v : Work) × (occur m t d w ≡ doneOf r v) × IsMoment out′ b′ (sizeOf r) v
+  pub comes : (m : Macro) (d : Division) → IsDivided s ends m d → (w : Work) → IsMoment out b size w
+      → (v : Work) × (occur m t d w ≡ doneOf r v) × IsMoment out′ b′ (sizeOf r) v
   pub past : drop (sizeOf r) out′ ≡ drop (sizeOf r) out
   pub within : sizeOf r ≤ mostLineBytes

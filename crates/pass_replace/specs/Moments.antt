@@ -12,7 +12,8 @@ use Rattle.refusals.specs.declared.Fault.{Fault}
 use Rattle.refusals.specs.declared.Outcome.{Outcome}
 use Rattle.refusals.specs.declared.Outcome.the-variants.{Made, Refused}
 
--- the step f leads from the moment of out, b and k to that of out′ and b′, done or refused as r says; the new line grows, and behind it nothing changes
+-- the step f leads from the moment of out, b and k to that of out′ and b′, done or refused as r says;
+-- the new line grows, and behind it nothing changes
 pub record Does (f : Work → Done) (out b : List ℕ) (k : ℕ) (out′ b′ : List ℕ) (r : Outcome) : Type 0 where
   pub comes : (w : Work) → IsMoment out b k w → (v : Work) × (f w ≡ doneOf r v) × IsMoment out′ b′ (sizeOf r) v
   pub state : IsState b′
@@ -40,7 +41,7 @@ pub record Changes (f : Work → Done) (b : List ℕ) (k : ℕ) (b′ : List ℕ
   pub state : IsState b′
   pub size : sizeOf r ≡ k
 
--- the same behind an answer: where that is a refusal, nothing is done
+-- the step f behind the answer s: where that is a refusal, nothing is done
 pub record Onward (f : Work → Done) (b : List ℕ) (s : Outcome) (b′ : List ℕ) (r : Outcome) : Type 0 where
   pub made : (k : ℕ) → s ≡ Made k → Changes f b k b′ r
   pub refused : (e : Fault) (k : ℕ) → s ≡ Refused e k → (b′ ≡ b) × (r ≡ s)

@@ -1,4 +1,4 @@
-// What a call changes (01, part 4): pointers, counters and entries. The answer hands on k, the bytes of the new line so far.
+// What a call changes (01, part 4): pointers, counters and entries. The answer hands on the size of the new line, which stays.
 use crate::setting::set_entry;
 use crate::setting::set_increment;
 use crate::setting::set_pointer;
@@ -21,6 +21,7 @@ ghost use Rattle.form_table.specs.Actions.{textIn};
 ghost use Rattle.pass_replace.specs.Acting.{Fit, movedIn, signIn, moveIn, movesIn, setsIn};
 ghost use Rattle.pass_replace.specs.Moments.{Changes, Onward};
 
+// A pointer as wide as a counter.
 fn wide(x: u8) -> u32
     ensures { λ r. ⌜ (r ≡ x) × (r ≤ 255) ⌝ }
 {
@@ -42,29 +43,29 @@ fn moved(n: u32, by: u32, up: bool) -> u32
 }
 
 // 34: "pointer past 20".
-fn move_pointer(state: &mut [u8], i: u8, up: bool, k: usize) -> Outcome
+fn move_pointer(state: &mut [u8], i: u8, up: bool, size: usize) -> Outcome
     requires { ⌜ IsState (now state) × Letter i ⌝ }
-    ensures { λ r. ⌜ Changes (moves stack (signIn up) i) (now (state .entry)) k (now (state .exit)) r ⌝ }
+    ensures { λ r. ⌜ Changes (moves stack (signIn up) i) (now (state .entry)) size (now (state .exit)) r ⌝ }
 {
     let n = moved(wide(pointer(state, i)), 1, up);
     if 20 < n {
-        return Outcome::Refused(Fault::PointerTooHigh, k);
+        return Outcome::Refused(Fault::PointerTooHigh, size);
     }
     set_pointer(state, i, n as u8);
-    Outcome::Made(k)
+    Outcome::Made(size)
 }
 
 // 35: "counter past its end".
-fn move_value(state: &mut [u8], i: u8, up: bool, k: usize) -> Outcome
+fn move_value(state: &mut [u8], i: u8, up: bool, size: usize) -> Outcome
     requires { ⌜ IsState (now state) × Letter i ⌝ }
-    ensures { λ r. ⌜ Changes (moves counter (signIn up) i) (now (state .entry)) k (now (state .exit)) r ⌝ }
+    ensures { λ r. ⌜ Changes (moves counter (signIn up) i) (now (state .entry)) size (now (state .exit)) r ⌝ }
 {
     let n = moved(value(state, i), increment(state, i), up);
     if 999999999 < n {
-        return Outcome::Refused(Fault::CounterTooHigh, k);
+        return Outcome::Refused(Fault::CounterTooHigh, size);
     }
     set_value(state, i, n);
-    Outcome::Made(k)
+    Outcome::Made(size)
 }
 
 // The move of an action's code; that of an action that moves nothing is 0.
@@ -82,18 +83,18 @@ pub(crate) fn shift(state: &mut [u8], code: u8, i: u8, first: u8, done: Outcome)
     requires { ⌜ IsState (now state) × (1 ≤ first) × (first ≤ 3) × (48 ≤ code → Letter i) ⌝ }
     ensures { λ r. ⌜ Onward (movesIn first code i) (now (state .entry)) done (now (state .exit)) r ⌝ }
 {
-    let Outcome::Made(k) = done else {
+    let Outcome::Made(size) = done else {
         return done;
     };
     let m = move_of(code);
     let up = m == first;
     if up | (m == first + 1) {
         if is_within(56, 63, code) {
-            return move_value(state, i, up, k);
+            return move_value(state, i, up, size);
         }
-        return move_pointer(state, i, up, k);
+        return move_pointer(state, i, up, size);
     }
-    Outcome::Made(k)
+    Outcome::Made(size)
 }
 
 // The text of `&(i:text:)`.
@@ -106,30 +107,30 @@ pub(crate) fn text_in(t: &[u8]) -> &[u8]
 }
 
 // 33: "a stored tag over 50 bytes".
-pub(crate) fn store(state: &mut [u8], i: u8, text: &[u8], k: usize) -> Outcome
+pub(crate) fn store(state: &mut [u8], i: u8, text: &[u8], size: usize) -> Outcome
     requires { ⌜ IsState (now state) × Letter i × Bytes (now text) ⌝ }
-    ensures { λ r. ⌜ Changes (stores i (now (text .entry))) (now (state .entry)) k (now (state .exit)) r ⌝ }
+    ensures { λ r. ⌜ Changes (stores i (now (text .entry))) (now (state .entry)) size (now (state .exit)) r ⌝ }
 {
     if 50 < text.len() {
-        return Outcome::Refused(Fault::TagTooLong, k);
+        return Outcome::Refused(Fault::TagTooLong, size);
     }
     set_entry(state, i, text);
-    Outcome::Made(k)
+    Outcome::Made(size)
 }
 
 // `&(i=n)`, `#(i=n)` and `#(i,n)`.
-pub(crate) fn set(state: &mut [u8], code: u8, i: u8, n: u32, k: usize) -> Outcome
+pub(crate) fn set(state: &mut [u8], code: u8, i: u8, n: u32, size: usize) -> Outcome
     requires { ⌜ IsState (now state) × Letter i × (code < 88 → Between 1 mostEntries n) × (88 ≤ code → Between 1 mostCounter n) ⌝ }
-    ensures { λ r. ⌜ Changes (setsIn code i n) (now (state .entry)) k (now (state .exit)) r ⌝ }
+    ensures { λ r. ⌜ Changes (setsIn code i n) (now (state .entry)) size (now (state .exit)) r ⌝ }
 {
     if code < 88 {
         set_pointer(state, i, n as u8);
-        return Outcome::Made(k);
+        return Outcome::Made(size);
     }
     if code < 96 {
         set_value(state, i, n);
-        return Outcome::Made(k);
+        return Outcome::Made(size);
     }
     set_increment(state, i, n);
-    Outcome::Made(k)
+    Outcome::Made(size)
 }

@@ -10,7 +10,8 @@ use form_items::two_at;
 use refusals::Outcome;
 ghost use Rattle.pass_replace.specs.Contract.{Lent, Occurs};
 
-// "For each occurrence replacement and then commands act, left to right": the macro of a slot, with the division whose spans end where `ends` says.
+// "For each occurrence replacement and then commands act, left to right":
+// the macro of a slot, with the division whose spans end where `ends` says.
 // The commands' items stand behind the replacement's, and are actions too.
 pub fn occurrence(
     slot: &[u8],

@@ -11,6 +11,7 @@ ghost use Rattle.macros.specs.Formed.{Between, Bytes, Letter};
 ghost use Rattle.lines.specs.Replacing.{withPointer, withValue, withIncrement, withEntry};
 ghost use Rattle.form_state.specs.Access.{Holds, IsState, OfWork};
 
+// The pointer of the stack i.
 pub(crate) fn set_pointer(state: &mut [u8], i: u8, n: u8)
     requires { ⌜ IsState (now state) × Letter i × Between 1 mostEntries n ⌝ }
     ensures { λ _. ⌜ OfWork (now (state .entry)) (λ w. Holds (now (state .exit)) (withPointer i n w .state)) ⌝ }
@@ -19,6 +20,7 @@ pub(crate) fn set_pointer(state: &mut [u8], i: u8, n: u8)
     state[at] = n;
 }
 
+// The value of the counter i.
 pub(crate) fn set_value(state: &mut [u8], i: u8, n: u32)
     requires { ⌜ IsState (now state) × Letter i × Between 1 mostCounter n ⌝ }
     ensures { λ _. ⌜ OfWork (now (state .entry)) (λ w. Holds (now (state .exit)) (withValue i n w .state)) ⌝ }
@@ -26,6 +28,7 @@ pub(crate) fn set_value(state: &mut [u8], i: u8, n: u32)
     put_number(state, 28 + 4 * place(i), n);
 }
 
+// The increment of the counter i.
 pub(crate) fn set_increment(state: &mut [u8], i: u8, n: u32)
     requires { ⌜ IsState (now state) × Letter i × Between 1 mostCounter n ⌝ }
     ensures { λ _. ⌜ OfWork (now (state .entry)) (λ w. Holds (now (state .exit)) (withIncrement i n w .state)) ⌝ }
@@ -33,7 +36,7 @@ pub(crate) fn set_increment(state: &mut [u8], i: u8, n: u32)
     put_number(state, 132 + 4 * place(i), n);
 }
 
-// The text of the current entry, and zeros behind it.
+// The text of the current entry of the stack i, and zeros behind it.
 pub(crate) fn set_entry(state: &mut [u8], i: u8, text: &[u8])
     requires { ⌜ IsState (now state) × Letter i × Bytes (now text) × (length (now text) ≤ mostEntryBytes) ⌝ }
     ensures { λ _. ⌜ OfWork (now (state .entry)) (λ w. Holds (now (state .exit)) (withEntry i (now (text .entry)) w .state)) ⌝ }

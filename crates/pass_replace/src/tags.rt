@@ -13,6 +13,7 @@ pub(crate) struct Span {
     pub(crate) to: usize,
 }
 
+// An end as a place of the line.
 fn wide(x: u16) -> usize
     ensures { λ r. ⌜ r ≡ x ⌝ }
 {
@@ -46,6 +47,7 @@ fn close_of(pat: &[u8], ends: &[u16], first: usize) -> usize
     0
 }
 
+// The lesser of two places.
 fn least(a: usize, b: usize) -> usize
     ensures { λ r. ⌜ r ≡ pick (ltb b a) b a ⌝ }
 {

@@ -41,6 +41,7 @@ fn put(out: &mut [u8], size: usize, bytes: &[u8]) -> Outcome
     Outcome::Made(size + bytes.len())
 }
 
+// The digit of a number below 10.
 fn figure(v: u32) -> u8
     requires { ⌜ v < 10 ⌝ }
     ensures { λ r. ⌜ r ≡ 48 + v ⌝ }
@@ -62,13 +63,14 @@ fn put_digits(out: &mut [u8], v: u32) -> usize
     n + 1
 }
 
+// Whether a code is one of those from a to z.
 pub(crate) fn is_within(a: u8, z: u8, b: u8) -> bool
     ensures { λ r. ⌜ r ≡ within a z b ⌝ }
 {
     (a <= b) & (b <= z)
 }
 
-// `#(i)`.
+// The digits that `#(i)` stands for join the new line.
 fn put_value(v: u32, out: &mut [u8], size: usize) -> Outcome
     requires { ⌜ (v ≤ mostCounter) × Room (now out) size ⌝ }
     ensures { λ r. ⌜ Inserts (digits v) (now (out .entry)) size (now (out .exit)) r ⌝ }

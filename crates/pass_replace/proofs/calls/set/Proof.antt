@@ -14,7 +14,7 @@ same-length : tie.Need-same-length
 same-length c = search needs
 
 returns : tie.Need-returns
-returns c = sets-pointer (c .before .before .before .before .before .before .args .code) (c .before .before .before .before .before .before .args .i) (c .before .before .before .before .before .before .args .n) (c .before .before .before .before .before .before .args .state .now) (c .before .before .before .before .before .before .args .k) (c .before .before .before .before .before .before .pre .0) (c .before .before .before .before .if1 .taken) (c .before .before .set-pointer .ensures)
+returns c = sets-pointer (c .before .before .before .before .before .before .args .code) (c .before .before .before .before .before .before .args .i) (c .before .before .before .before .before .before .args .n) (c .before .before .before .before .before .before .args .state .now) (c .before .before .before .before .before .before .args .size) (c .before .before .before .before .before .before .pre .0) (c .before .before .before .before .if1 .taken) (c .before .before .set-pointer .ensures)
 
 set-value-requires : tie.Need-set-value-requires
 set-value-requires c κs = (c .before .before .before .before .pre .0, c .before .before .before .before .pre .1, c .before .before .before .before .pre .3 (c .before .before .if1 .left))
@@ -23,7 +23,7 @@ same-length-2 : tie.Need-same-length-2
 same-length-2 c = search needs
 
 returns-2 : tie.Need-returns-2
-returns-2 c = sets-value (c .before .before .before .before .before .before .before .args .code) (c .before .before .before .before .before .before .before .args .i) (c .before .before .before .before .before .before .before .args .n) (c .before .before .before .before .before .before .before .args .state .now) (c .before .before .before .before .before .before .before .args .k) (c .before .before .before .before .before .before .before .pre .0) (c .before .before .before .before .before .if1 .left) (c .before .before .before .before .if2 .taken) (c .before .before .set-value .ensures)
+returns-2 c = sets-value (c .before .before .before .before .before .before .before .args .code) (c .before .before .before .before .before .before .before .args .i) (c .before .before .before .before .before .before .before .args .n) (c .before .before .before .before .before .before .before .args .state .now) (c .before .before .before .before .before .before .before .args .size) (c .before .before .before .before .before .before .before .pre .0) (c .before .before .before .before .before .if1 .left) (c .before .before .before .before .if2 .taken) (c .before .before .set-value .ensures)
 
 set-increment-requires : tie.Need-set-increment-requires
 set-increment-requires c κs = (c .before .before .before .before .pre .0, c .before .before .before .before .pre .1, c .before .before .before .before .pre .3 (c .before .before .if1 .left))
@@ -32,7 +32,7 @@ same-length-3 : tie.Need-same-length-3
 same-length-3 c = search needs
 
 returns-3 : tie.Need-returns-3
-returns-3 c = sets-increment (c .before .before .before .before .before .before .before .args .code) (c .before .before .before .before .before .before .before .args .i) (c .before .before .before .before .before .before .before .args .n) (c .before .before .before .before .before .before .before .args .state .now) (c .before .before .before .before .before .before .before .args .k) (c .before .before .before .before .before .before .before .pre .0) (c .before .before .before .before .if2 .left) (c .before .before .set-increment .ensures)
+returns-3 c = sets-increment (c .before .before .before .before .before .before .before .args .code) (c .before .before .before .before .before .before .before .args .i) (c .before .before .before .before .before .before .before .args .n) (c .before .before .before .before .before .before .before .args .state .now) (c .before .before .before .before .before .before .before .args .size) (c .before .before .before .before .before .before .before .pre .0) (c .before .before .before .before .if2 .left) (c .before .before .set-increment .ensures)
 
 pub set-spec : {M : Type 1} → statement M
 set-spec =

@@ -4,7 +4,7 @@ use Rattle.pass_replace.proofs.calls.store.Statement.{statement}
 use Rattle.pass_replace.proofs.calls.store.Tie as tie
 
 returns : tie.Need-returns
-returns c = store-refused (c .before .before .before .args .state .now) (c .before .before .before .args .i) (c .before .before .before .args .k) (c .before .before .before .pre .0) (c .before .before .before .args .text .now) (c .if1 .taken)
+returns c = store-refused (c .before .before .before .args .state .now) (c .before .before .before .args .i) (c .before .before .before .args .size) (c .before .before .before .pre .0) (c .before .before .before .args .text .now) (c .if1 .taken)
 
 set-entry-requires : tie.Need-set-entry-requires
 set-entry-requires c κs = (c .before .before .before .before .pre .0, c .before .before .before .before .pre .1, c .before .before .before .before .pre .2, c .before .if1 .left)
@@ -13,7 +13,7 @@ same-length : tie.Need-same-length
 same-length c = search needs
 
 returns-2 : tie.Need-returns-2
-returns-2 c = store-made (c .before .before .before .before .before .before .before .args .state .now) (c .before .before .before .before .before .before .before .args .i) (c .before .before .before .before .before .before .before .args .k) (c .before .before .before .before .before .before .before .pre .0) (c .before .before .before .before .before .before .before .args .text .now) (c .before .before .before .before .if1 .left) (c .before .before .set-entry .ensures)
+returns-2 c = store-made (c .before .before .before .before .before .before .before .args .state .now) (c .before .before .before .before .before .before .before .args .i) (c .before .before .before .before .before .before .before .args .size) (c .before .before .before .before .before .before .before .pre .0) (c .before .before .before .before .before .before .before .args .text .now) (c .before .before .before .before .if1 .left) (c .before .before .set-entry .ensures)
 
 pub store-spec : {M : Type 1} → statement M
 store-spec =
