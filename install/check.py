@@ -1,4 +1,4 @@
-"""check.py LIBRARY: loads the shared object and holds some answers of 01 against it."""
+"""check.py LIBRARY: loads the shared object and holds some answers of 01 and 02 against it."""
 
 import ctypes
 import sys
@@ -14,7 +14,7 @@ class Answer(ctypes.Structure):
 
 
 library = ctypes.CDLL(sys.argv[1])
-for name in ("m7_read", "m7_write", "m7_fresh", "m7_feed"):
+for name in ("m7_read", "m7_write", "m7_fresh", "m7_feed", "m7_words"):
     getattr(library, name).restype = Answer
 size = ctypes.c_size_t
 
@@ -43,6 +43,10 @@ def refused(file):
     return read(ctypes.create_string_buffer(TABLE), file)
 
 
+def words(line, pattern):
+    return library.m7_words(line, size(len(line)), pattern, size(len(pattern))).all()
+
+
 assert song(rb"'@{-*-?6*\/?6*}'='o{1}';", b"@-1/4") == ((0, 0, 2, 1, 5), b"o-1/4")
 assert song(b"'ab'<'abc';", b"ababab") == ((0, 0, 1, 1, 9), b"abcabcabc")
 assert song(b"'int'='integer';", b"print", 262) == ((31, 0, 262, 0, 0), b"")
@@ -57,4 +61,7 @@ assert read(table, b"'a' = 'b:' x ;") == (0, 0, 0, 0, 1)
 assert library.m7_write(table, size(TABLE), file, size(FILE)).all() == (0, 0, 0, 0, 11)
 assert file.raw[:12] == b"'a'='b\\:';\n\0"
 assert library.m7_fresh(table, size(TABLE)).all() == (3, 0, 0, 0, 0)
-print("Python loads the shared object: the answers of 01 hold")
+assert words(b"SCAT CAT CATS CATARACT", b"CA-T") == (0, 5, 0, 0, 2)
+assert words("L'été".encode("latin-1"), "ét-".encode("latin-1")) == (0, 2, 0, 0, 1)
+assert words(b"CAT", b"CA--T") == (41, 0, 0, 0, 0)
+print("Python loads the shared object: the answers of 01 and 02 hold")

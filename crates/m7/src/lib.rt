@@ -1,4 +1,6 @@
-// The engine for the host: reading a macro file, writing out a table, the fresh state, and feeding a line.
+// The engine for the host: reading a macro file, writing out a table, the fresh state, and feeding a line; looking words up in looking.rt.
+mod looking;
+
 use line_answer::Answer;
 use line_answer::answer_of;
 use line_answer::file_number;

@@ -1,4 +1,4 @@
--- 01, "Who can cause a refusal", and the checks of 02: each refusal by name, and its number once.
+-- 01, "Who can cause a refusal": each refusal by name, and its number once.
 use Prim.Native.Nat.{ℕ}
 
 -- the host's
@@ -17,11 +17,7 @@ pub data FileRefusal : Type 0 where
 pub data WorkRefusal : Type 0 where
   budgetUsedUp newLineTooLong tagTooLong pointerTooHigh counterTooHigh : WorkRefusal
 
--- of whoever looks words up, after the line's own (02, N5)
-pub data WordRefusal : Type 0 where
-  badPattern : WordRefusal
-
--- a refusal of reading, writing out or feeding; the table writer's has a place
+-- a refusal; the table writer's has a place
 pub data Refusal : Type 0 where
   ofHost : HostRefusal → Refusal
   ofLine : LineRefusal → Refusal
@@ -57,9 +53,6 @@ workNumber newLineTooLong = 32
 workNumber tagTooLong = 33
 workNumber pointerTooHigh = 34
 workNumber counterTooHigh = 35
-
-unfoldable pub wordNumber : WordRefusal → ℕ
-wordNumber badPattern = 41
 
 -- "It returns the number, the place (10 to 19, else 0) .."
 unfoldable pub number : Refusal → ℕ

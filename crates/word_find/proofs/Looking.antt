@@ -1,7 +1,7 @@
 -- Looking words up: 21, 22, then 41.
 -- Assumes nothing.
 use Prim.Native.Nat.{ℕ, _≤_, _<_}
-use mathlib.Core.Path.{_≡_, refl, sym, ap, _∙_}
+use mathlib.Core.Path.{_≡_, refl, sym, _∙_}
 use mathlib.Core.Bool.{Bool, true, false}
 use mathlib.Core.List.{List}
 use borrow.Author.Tests.{le-leb, lt-leb}
@@ -9,7 +9,7 @@ use lib.Dec.{leb}
 use lib.ListN.{length}
 use Rattle.macros.specs.Bounds.{mostLineBytes}
 use Rattle.macros.specs.Refusals.LineRefusal.{lineTooLong, badByte}
-use Rattle.macros.specs.Refusals.WordRefusal.{badPattern}
+use Rattle.words.specs.Refusal.WordRefusal.{badPattern}
 use Rattle.macros.specs.Macro.{pick}
 use Rattle.lines.specs.Feeding.{hasBadByte}
 use Rattle.words.specs.Word.{wordsOf}

@@ -1,6 +1,6 @@
 -- What looking words up promises.
 use Rattle.macros.specs.Refusals.LineRefusal.{lineTooLong, badByte}
-use Rattle.macros.specs.Refusals.WordRefusal.{badPattern}
+use Rattle.words.specs.Refusal.WordRefusal.{badPattern}
 use Rattle.words.specs.Look.{Looked as Answered}
 use Rattle.words.specs.Look.Looked.{refusedLine, refusedPattern, found}
 use Rattle.word_find.specs.declared.Looked.{Looked}

@@ -15,7 +15,7 @@ use Rattle.words.specs.Look.{coveredOf, firstPlace}
 unfoldable pub isHit : (pattern run : List ℕ) → Bool
 isHit p w = not (isEmpty w) && covers p w
 
--- the place of the first word covered, behind a run at place i: n were covered before it, the first of these at `first`, and h is 1 if it is one
+-- the place of the first word covered, behind a run at place i; before it n were covered, from `first` on, and h is 1 if it is one
 unfoldable pub firstOf : (n h i first : ℕ) → ℕ
 firstOf n h i first = pick (ltb h 1) first (pick (ltb n 1) i first)
 

@@ -1,7 +1,7 @@
 -- The law of specs/CoverLaw: the test of covering is the relation.
 -- Assumes nothing.
 use mathlib.Core.Path.{_≡_, refl, sym, ap, _∙_, subst}
-use Prim.Native.Nat.{ℕ, zero, suc}
+use Prim.Native.Nat.{ℕ, suc}
 use native.Mathlib.Omega.{arith}
 use mathlib.Core.Bool.{Bool, true, false, _||_, false≢true}
 use mathlib.Core.List.{List, [], _∷_, _++_}
@@ -11,7 +11,7 @@ use lib.ListN.{length}
 use Rattle.words.specs.Word.{Run}
 use Rattle.words.specs.Pattern.{dash, isEmpty}
 use Rattle.words.specs.Cover.{firstRun, laterRuns, filled, dashes, Runs, Covers, behind, somewhere, covers}
-use Rattle.words.specs.CoverLaw.{CoverExact, CoversExactly}
+use Rattle.words.specs.CoverLaw.{CoversExactly}
 
 -- A BYTE OF THE PATTERN, by whether it is a dash
 

@@ -1,7 +1,7 @@
 -- The law of specs/LookLaw: number and place are those of the words that some choice of runs covers.
 -- Assumes nothing.
 use mathlib.Core.Path.{_≡_, refl, sym, ap, _∙_, subst}
-use mathlib.Core.Logic.{_⊎_, inl, inr}
+use mathlib.Core.Logic.{inl, inr}
 use Prim.Native.Nat.{ℕ, _<_}
 use mathlib.Core.Bool.{Bool, true, false, false≢true}
 use mathlib.Core.List.{List, [], _∷_}
@@ -9,13 +9,13 @@ use lib.Dec.{leb}
 use lib.ListN.{length}
 use Rattle.macros.specs.Bounds.{mostLineBytes}
 use Rattle.macros.specs.Refusals.LineRefusal.{lineTooLong, badByte}
-use Rattle.macros.specs.Refusals.WordRefusal.{badPattern}
 use Rattle.macros.specs.Macro.{pick}
 use Rattle.lines.specs.Feeding.{hasBadByte}
-use Rattle.words.specs.Word.{Run, Word, word, wordsOf}
+use Rattle.words.specs.Refusal.WordRefusal.{badPattern}
+use Rattle.words.specs.Word.{Word, word, wordsOf}
 use Rattle.words.specs.Pattern.{isPattern}
-use Rattle.words.specs.Cover.{Covers, covers}
-use Rattle.words.specs.WordLaw.{IsWord, In, Above, Rising}
+use Rattle.words.specs.Cover.{covers}
+use Rattle.words.specs.WordLaw.{In, Above, Rising}
 use Rattle.words.specs.Look.{Looked, coveredOf, firstPlace, foundOf, lookUp, lookedWords, lookedPlace}
 use Rattle.words.specs.Look.Looked.{refusedLine, refusedPattern, found}
 use Rattle.words.specs.LookLaw.{FirstAt, Finds, FindsExactly}

@@ -1,15 +1,15 @@
 -- The law of specs/WordLaw: the words of a line are its longest runs, all of them, in order.
 -- Assumes nothing.
 use mathlib.Core.Path.{_≡_, refl, sym, ap, _∙_, subst}
-use mathlib.Core.Logic.{_⊎_, inl, inr}
-use Prim.Native.Nat.{ℕ, suc, _+_, _≤_, _<_}
+use mathlib.Core.Logic.{inl, inr}
+use Prim.Native.Nat.{ℕ, suc, _+_, _<_}
 use native.Mathlib.Omega.{arith}
 use mathlib.Core.Bool.{Bool, true, false, not, _&&_, false≢true}
 use mathlib.Core.List.{List, [], _∷_, _++_, reverse, reverse-cons}
-use lib.ListN.{length, drop}
+use lib.ListN.{length}
 use lib.Seq.{append-snoc}
 use Rattle.words.specs.Word.{inWord, Run, leading, Word, word, begun, wordsFrom, wordsOf}
-use Rattle.words.specs.WordLaw.{Apart, IsWord, In, Above, Rising, WordsExact, WordsExactly}
+use Rattle.words.specs.WordLaw.{Apart, IsWord, In, Above, Rising, WordsExactly}
 
 -- THE LONGEST RUN AT THE HEAD
 

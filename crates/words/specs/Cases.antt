@@ -1,21 +1,29 @@
 -- Cases of N5, computed from quoted line and pattern.
 use mathlib.Core.Path.{_≡_, refl}
 use Prim.Native.Nat.{ℕ}
-use mathlib.Core.List.{List, [], _∷_, _++_}
+use mathlib.Core.List.{List, [], _∷_}
 use lib.ListN.{replicate}
 use Prim.Native.String.{String}
 use Rattle.kinds.specs.Kind.{kindOf}
 use Rattle.macros.specs.Cases.{everything as macrosOpen}
-use Rattle.macros.specs.Refusals.{wordNumber}
 use Rattle.lines.specs.Feeding.{bytes, hasBadByte}
+use Rattle.words.specs.Refusal.{wordNumber}
 use Rattle.words.specs.Word.{leading, begun, wordsFrom, wordsOf}
 use Rattle.words.specs.Pattern.{isEmpty, allAllowed, beginsWithDash, twoDashes, isPattern}
 use Rattle.words.specs.Cover.{behind, somewhere, covers}
 use Rattle.words.specs.Look.{coveredOf, firstPlace, foundOf, lookUp, lookedNumber, lookedWords, lookedPlace}
 
--- the name that opens all definitions for a computed case
+-- the names that open all definitions for a computed case
+unfoldable pub wordsOpen : ℕ
+unfolding macrosOpen kindOf wordNumber hasBadByte leading begun wordsFrom wordsOf
+wordsOpen = 0
+
+unfoldable pub coversOpen : ℕ
+unfolding isEmpty allAllowed beginsWithDash twoDashes isPattern behind somewhere covers
+coversOpen = 0
+
 unfoldable pub everything : ℕ
-unfolding macrosOpen kindOf wordNumber hasBadByte leading begun wordsFrom wordsOf isEmpty allAllowed beginsWithDash twoDashes isPattern behind somewhere covers coveredOf firstPlace foundOf lookUp lookedNumber lookedWords lookedPlace
+unfolding wordsOpen coversOpen coveredOf firstPlace foundOf lookUp lookedNumber lookedWords lookedPlace
 everything = 0
 
 -- number, words covered, place of the first

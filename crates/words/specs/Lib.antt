@@ -4,5 +4,6 @@ pub mod CoverLaw
 pub mod Look
 pub mod LookLaw
 pub mod Pattern
+pub mod Refusal
 pub mod Word
 pub mod WordLaw

@@ -1,15 +1,16 @@
 -- 02, N5: what looking words up comes to.
 use Prim.Native.Nat.{ℕ}
-use mathlib.Core.Bool.{Bool, true, false}
+use mathlib.Core.Bool.{true, false}
 use mathlib.Core.List.{List, [], _∷_}
 use lib.Dec.{leb}
 use lib.ListN.{length}
 use Rattle.macros.specs.Bounds.{mostLineBytes}
-use Rattle.macros.specs.Refusals.{LineRefusal, WordRefusal, lineNumber, wordNumber}
+use Rattle.macros.specs.Refusals.{LineRefusal, lineNumber}
 use Rattle.macros.specs.Refusals.LineRefusal.{lineTooLong, badByte}
-use Rattle.macros.specs.Refusals.WordRefusal.{badPattern}
 use Rattle.macros.specs.Macro.{pick}
 use Rattle.lines.specs.Feeding.{hasBadByte}
+use Rattle.words.specs.Refusal.{WordRefusal, wordNumber}
+use Rattle.words.specs.Refusal.WordRefusal.{badPattern}
 use Rattle.words.specs.Word.{Word, word, wordsOf}
 use Rattle.words.specs.Pattern.{isPattern}
 use Rattle.words.specs.Cover.{covers}

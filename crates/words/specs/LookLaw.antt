@@ -6,7 +6,7 @@ use lib.ListN.{length}
 use Rattle.words.specs.Word.{Word, word}
 use Rattle.words.specs.Cover.{Covers}
 use Rattle.words.specs.WordLaw.{IsWord, In, Rising}
-use Rattle.words.specs.Look.{Looked, lookUp}
+use Rattle.words.specs.Look.{lookUp}
 use Rattle.words.specs.Look.Looked.{found}
 
 -- the place of the first, or 0 where there is none
@@ -14,7 +14,7 @@ unfoldable pub FirstAt : List Word → ℕ → Type 0
 FirstAt [] p = p ≡ 0
 FirstAt (word q w ∷ ws) p = p ≡ q
 
--- n words of the line t are covered by the pattern, and p is the place of the first: "the number of words covered and the place of the first, or that there is none"
+-- "the number of words covered and the place of the first, or that there is none": n and p, of the line t
 pub record Finds (t pattern : List ℕ) (n p : ℕ) : Type 0 where
   -- the words covered, in order
   pub covered : List Word

@@ -1,5 +1,5 @@
 use Prim.Native.Nat.{_≤_}
-use mathlib.Core.Path.{_≡_, refl, sym, _∙_}
+use mathlib.Core.Path.{_≡_, refl}
 use lib.ListN.{length, drop}
 use Rattle.word_find.specs.Marks.{Marked}
 use Rattle.word_find.proofs.Marking.{first-marked, next-marked, answered}

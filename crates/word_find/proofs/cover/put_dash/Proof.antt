@@ -1,5 +1,5 @@
 use Prim.Native.Nat.{_+_, _≤_}
-use mathlib.Core.Path.{_≡_, refl, sym, _∙_}
+use mathlib.Core.Path.{_≡_, refl}
 use lib.ListN.{length, length-set}
 use Rattle.word_find.proofs.Marking.{DashSo, dash-none, dash-next, dash-done}
 use native.Mathlib.Omega.{arith}

@@ -1,5 +1,5 @@
-use Prim.Native.Nat.{_+_, _-_, _≤_}
-use mathlib.Core.Path.{_≡_, refl, sym, _∙_}
+use Prim.Native.Nat.{_+_, _-_}
+use mathlib.Core.Path.{_≡_, refl}
 use lib.ListN.{length}
 use Rattle.word_find.specs.Walk.{So}
 use Rattle.word_find.proofs.Walking.{run-inside, run-short, so-start, so-next, so-done, hit-small}
