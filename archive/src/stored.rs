@@ -9,7 +9,7 @@ use m7_reference::spell::shortest_spelling;
 use m7_reference::state::State;
 
 /// Texts about calls that the archive does not have.
-pub const NOT_ASKED: &[&str] = &[];
+pub const NOT_ASKED: &[&str] = &["words"];
 
 /// The memories of one case.
 pub struct Host {
@@ -105,6 +105,7 @@ impl Host {
             Check::Increment(i, n) => self.state().counter(*i).increment == *n,
             Check::Trace(on) => self.state().trace == *on,
             Check::Nflag(on) => self.state().nflag == *on,
+            Check::Words(_) => false,
         }
     }
 }
