@@ -18,7 +18,8 @@ struct command {
     int (*run)(int count, char **words);
 };
 
-extern const struct command run_command, check_command, write_command, explain_command;
+extern const struct command run_command, check_command, write_command, words_command,
+    explain_command;
 
 /* messages.c */
 

@@ -15,6 +15,7 @@ static const char host[] = "the host, that is the program that calls the library
 static const char sender[] = "whoever sends the line";
 static const char writer[] = "the table writer, in a macro file or after $MACRO";
 static const char work[] = "the table at work on a line";
+static const char reader[] = "whoever looks words up";
 
 static const struct number numbers[] = {
     {M7_BAD_TABLE, host,
@@ -118,6 +119,12 @@ static const struct number numbers[] = {
      "A counter goes from 1 to 999,999,999, and a + adds its increment. Set it back\n"
      "with #(i=n).\n",
      "'d'<'#(n=999999999)#(+n)';", "d", NULL, NULL},
+    {M7_BAD_WORD_PATTERN, reader,
+     "A word-pattern is letters, digits and dashes, without two dashes in a row; it\n"
+     "has no spaces, dots or stars. One dash already stands for any run of letters and\n"
+     "digits, also none: CA-T covers CAT, CART and CATARACT. A letter is one byte, as\n"
+     "in ISO 8859-1: in UTF-8 those beyond ASCII are more, so convert them by iconv.\n",
+     NULL, NULL, NULL, "m7 words 'CA--T'"},
 };
 
 enum { NUMBERS = sizeof numbers / sizeof numbers[0] };

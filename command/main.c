@@ -3,7 +3,7 @@
 #include <string.h>
 
 static const struct command *const commands[] = {
-    &run_command, &check_command, &write_command, &explain_command};
+    &run_command, &check_command, &write_command, &words_command, &explain_command};
 
 enum { COMMANDS = sizeof commands / sizeof commands[0] };
 
@@ -19,8 +19,9 @@ static void help(FILE *out)
     fputs("\n"
           "  m7 COMMAND --help            more about a command\n"
           "  m7 --version                 the version\n\n"
-          "It ends with 0 if all is fine, 1 if something was refused, and 2 if the words\n"
-          "or the files do not fit. `man m7` has it all on one page.\n",
+          "It ends with 0 if all is fine, 1 if something was refused or m7 words found no\n"
+          "word, and 2 if the words or the files do not fit. `man m7` has it all on one\n"
+          "page.\n",
           out);
 }
 

@@ -38,7 +38,8 @@
 
    A table, a state, an output and a file to write to must have the sizes
    M7_TABLE_BYTES, M7_STATE_BYTES, M7_OUTPUT_BYTES and M7_FILE_BYTES, or the
-   call is refused with 3. A file to read and a line may have any size.
+   call is refused with 3. A file to read, a line and a word-pattern may
+   have any size.
 
    STORING TABLES AND STATES
 
@@ -135,12 +136,13 @@ extern "C" {
    number  0 if the call was taken, else the refusal (below)
    place   of a refusal 10 to 19 the byte where it shows, from 0, which is the
            file's size where it shows at the file's end; in writing out it
-           counts in the file that would be written; else 0
+           counts in the file that would be written; m7_words: the place in
+           the line, from 0, of the first word covered; else 0
    passes  m7_feed: the passes begun, also of a refused line; else 0
    kind    m7_feed: 1 the line goes out, 2 it is withheld, 3 it was a control
            line, 0 it is refused; else 0
    length  m7_read: the macros read; m7_write: the bytes written; m7_feed: the
-           bytes of a line that goes out; else 0 */
+           bytes of a line that goes out; m7_words: the words covered; else 0 */
 typedef struct m7_answer {
     uint32_t number;
     uint32_t place;
@@ -190,7 +192,11 @@ typedef struct m7_answer {
    32  The new line would have more than 1,054 bytes.
    33  A tag of more than 50 bytes would be stored.
    34  A stack's pointer would go past 20.
-   35  A counter would go past 999,999,999. */
+   35  A counter would go past 999,999,999.
+
+   Of whoever looks words up, after 21 and 22:
+   41  The word-pattern is empty, has a byte that is no letter, digit or dash,
+       or has two dashes in a row. */
 #define M7_BAD_TABLE 1
 #define M7_BAD_STATE 2
 #define M7_BAD_MEMORY 3
@@ -213,6 +219,7 @@ typedef struct m7_answer {
 #define M7_TAG_TOO_LONG 33
 #define M7_POINTER_TOO_HIGH 34
 #define M7_COUNTER_TOO_HIGH 35
+#define M7_BAD_WORD_PATTERN 41
 
 /* Kinds of an answer to m7_feed. */
 #define M7_OUT 1
@@ -272,6 +279,26 @@ m7_answer m7_feed(uint8_t *table, size_t table_size,
                   uint8_t *state, size_t state_size,
                   const uint8_t *line, size_t line_size, uint32_t budget,
                   uint8_t *output, size_t output_size);
+
+/* Looks up the words of a line, without its line feed, that a word-pattern
+   covers. It needs no table and no state.
+
+   A word is a longest run of letters and digits, those that ?2 matches in a
+   pattern: ASCII's, and the letters of ISO 8859-1 beyond it. A word-pattern
+   is letters, digits and dashes, without two dashes in a row; a dash stands
+   for any run of letters and digits, also none, and the pattern must cover
+   the whole word. Case counts. CA-T covers CAT, CART and CATARACT, not SCAT
+   and not CATS; - covers every word.
+
+   Refusals, in this order: 21, 22, 41. Taken: length is the number of words
+   covered, and place the place of the first. If no word is covered both are 0.
+
+   Time: the pattern is looked at a fixed number of times, and each of its
+   bytes once more for each byte of a word that has at least as many bytes as
+   the pattern has letters and digits; so at most pattern times line, for any
+   pattern. */
+m7_answer m7_words(const uint8_t *line, size_t line_size,
+                   const uint8_t *pattern, size_t pattern_size);
 
 /* The version of this header, and that of the library that is linked. */
 #define M7_VERSION "1.0"

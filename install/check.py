@@ -66,6 +66,13 @@ def states():
     assert refused(m7.Song, b"", b"x") == refused(m7.Song, b"", b"") == (3, 0, 0)
 
 
+def looked_up():
+    assert m7.words(b"SCAT, CAT CART CATARACT", b"CA-T") == (3, 6)
+    assert m7.words(b"SCAT CATS", b"CA-T") == (0, None)
+    assert [refused(m7.words, line, b"A--") for line in (b"a" * 1055, b"a\0", b"a")] == [
+        (21, 0, 0), (22, 0, 0), (41, 0, 0)]
+
+
 def words():
     assert m7.meaning(14) == "a closure with nothing before it to repeat"
     assert str(m7.Refused(14, 3)) == "14: a closure with nothing before it to repeat"
@@ -95,6 +102,6 @@ def threads():
     assert said == {key: [b"%d " % n + b"b" * key for n in range(1, 201)] for key in range(8)}
 
 
-for check in (answers, tables, states, words, threads):
+for check in (answers, tables, states, looked_up, words, threads):
     check()
 print("Python: the module's answers are those of 01")

@@ -39,7 +39,8 @@ class _Answer(ctypes.Structure):
 def _declare(library):
     memory, size = [ctypes.c_char_p, ctypes.c_size_t], ctypes.c_size_t
     for name, lent in (("m7_read", 2 * memory), ("m7_write", 2 * memory), ("m7_fresh", memory),
-                       ("m7_feed", 3 * memory + [ctypes.c_uint32] + memory)):
+                       ("m7_feed", 3 * memory + [ctypes.c_uint32] + memory),
+                       ("m7_words", 2 * memory)):
         function = getattr(library, name)
         function.restype, function.argtypes = _Answer, lent
     for name in ("m7_table_bytes", "m7_state_bytes", "m7_output_bytes", "m7_file_bytes"):
@@ -113,6 +114,14 @@ def fresh():
     state = _memory(STATE_BYTES)
     _checked(_library.m7_fresh(state, len(state)))
     return state.raw
+
+
+def words(line, pattern):
+    """How many words of a line a word-pattern covers, and the place of the first,
+    counted in bytes from 0, or None if there is none. Raises Refused."""
+    line, pattern = _bytes(line, "a line"), _bytes(pattern, "a word-pattern")
+    answer = _checked(_library.m7_words(line, len(line), pattern, len(pattern)))
+    return answer.length, answer.place if answer.length > 0 else None
 
 
 class Song:

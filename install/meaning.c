@@ -31,6 +31,7 @@ const char *m7_meaning(uint32_t number)
     case M7_TAG_TOO_LONG: return "a tag to be stored has more than 50 bytes";
     case M7_POINTER_TOO_HIGH: return "the pointer of a stack goes past 20";
     case M7_COUNTER_TOO_HIGH: return "a counter goes past 999,999,999";
+    case M7_BAD_WORD_PATTERN: return "a word-pattern that is empty, or not letters, digits and single dashes";
     default: return "no number of this library";
     }
 }

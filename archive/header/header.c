@@ -127,6 +127,17 @@ static uint32_t feeding(uint32_t budget)
     return feed_sized(M7_TABLE_BYTES, M7_STATE_BYTES, M7_OUTPUT_BYTES, budget);
 }
 
+/* Looking words up alters no memory, refused or not. */
+static uint32_t looking(const char *pattern)
+{
+    keep();
+    answer = m7_words(text.now, text_size, (const uint8_t *)pattern, strlen(pattern));
+    after();
+    CHECK(same(&table) && same(&state) && same(&output) && same(&file));
+    CHECK(answer.passes == 0 && answer.kind == 0);
+    return answer.number;
+}
+
 /* A macro file that is taken, and a fresh state. */
 static void use(const char *macros)
 {
@@ -229,6 +240,17 @@ static void nulls(void)
     answer = m7_feed(table.now, M7_TABLE_BYTES, state.now, M7_STATE_BYTES, NULL, 0, 9,
                      output.now, M7_OUTPUT_BYTES);
     CHECK(answer.number == 0 && answer.kind == M7_OUT && answer.length == 0);
+}
+
+static void nulls_of_words(void)
+{
+    const uint8_t *dash = (const uint8_t *)"-";
+    answer = m7_words(NULL, 0, dash, 1);
+    CHECK(answer.number == 0 && answer.place == 0 && answer.length == 0);
+    answer = m7_words(dash, 1, NULL, 0);
+    CHECK(answer.number == M7_BAD_WORD_PATTERN);
+    answer = m7_words(NULL, 0, NULL, 0);
+    CHECK(answer.number == M7_BAD_WORD_PATTERN);
 }
 
 /* LAYOUTS */
@@ -435,6 +457,47 @@ static void memories_refused(void)
     CHECK(feeding(M7_MOST_BUDGET + 1) == M7_BUDGET_TOO_LARGE && feed("a") == 0);
 }
 
+/* WORDS */
+
+/* Whether so many words are covered, the first of them at the place. */
+static int finds(const char *line, const char *pattern, uint32_t words, uint32_t place)
+{
+    say(line);
+    return looking(pattern) == 0 && answer.length == words && answer.place == place;
+}
+
+static void words_found(void)
+{
+    CHECK(finds("CAT CART, CATARACT", "CA-T", 3, 0));
+    CHECK(finds("SCAT CATS +CART+", "CA-T", 1, 11));
+    CHECK(finds("SCAT CATS cat", "CA-T", 0, 0));
+    CHECK(finds("a DIGGING", "D-G", 1, 2));
+    CHECK(finds("", "-", 0, 0));
+    none();
+    add(" A", M7_MOST_LINE_BYTES / 2);
+    CHECK(text_size == M7_MOST_LINE_BYTES && looking("-A-") == 0);
+    CHECK(answer.length == M7_MOST_LINE_BYTES / 2 && answer.place == 1);
+}
+
+/* 21 comes before 22, and both before 41. */
+static void words_refused(void)
+{
+    none();
+    add("A", M7_MOST_LINE_BYTES + 1);
+    CHECK(looking("-") == M7_LINE_TOO_LONG && looking("") == M7_LINE_TOO_LONG);
+    text.now[1] = 0;
+    CHECK(looking("A--") == M7_LINE_TOO_LONG);
+    say("A\nA");
+    CHECK(looking("-") == M7_BAD_BYTE && looking("A--") == M7_BAD_BYTE);
+    text.now[1] = 0;
+    CHECK(looking("-") == M7_BAD_BYTE && looking("") == M7_BAD_BYTE);
+    say("A A");
+    CHECK(looking("") == M7_BAD_WORD_PATTERN && answer.place == 0);
+    CHECK(looking("A--") == M7_BAD_WORD_PATTERN && answer.place == 0);
+    CHECK(looking("A A") == M7_BAD_WORD_PATTERN && answer.place == 0);
+    CHECK(looking("-A-") == 0 && answer.length == 2 && answer.place == 0);
+}
+
 /* What is not part of the engine: version, meanings, sizes. */
 static void meanings(void)
 {
@@ -456,7 +519,8 @@ static void all_seen(void)
         M7_FILE_TOO_LONG, M7_ZERO_BYTE, M7_INCOMPLETE, M7_BAD_CLASS, M7_NO_UNIT,
         M7_BAD_BRACE, M7_BAD_CALL, M7_NO_ELEMENT, M7_MACRO_TOO_LONG, M7_TOO_MANY_MACROS,
         M7_LINE_TOO_LONG, M7_BAD_BYTE, M7_BAD_CONTROL, M7_BUDGET_USED_UP,
-        M7_NEW_LINE_TOO_LONG, M7_TAG_TOO_LONG, M7_POINTER_TOO_HIGH, M7_COUNTER_TOO_HIGH};
+        M7_NEW_LINE_TOO_LONG, M7_TAG_TOO_LONG, M7_POINTER_TOO_HIGH, M7_COUNTER_TOO_HIGH,
+        M7_BAD_WORD_PATTERN};
     size_t count = sizeof named / sizeof named[0], i;
     for (i = 0; i < count; i++) {
         CHECK(seen[named[i]]);
@@ -464,7 +528,7 @@ static void all_seen(void)
     }
     for (i = 0; i < sizeof seen / sizeof seen[0]; i++)
         CHECK(!seen[i]);
-    CHECK(count == 23);
+    CHECK(count == 24);
 }
 
 int main(void)
@@ -472,6 +536,7 @@ int main(void)
     answers();
     sizes();
     nulls();
+    nulls_of_words();
     table_layout();
     state_layout();
     line_bounds();
@@ -482,6 +547,8 @@ int main(void)
     files_refused();
     lines_refused();
     memories_refused();
+    words_found();
+    words_refused();
     meanings();
     all_seen();
     printf("%d checks hold\n", checks);

@@ -19,6 +19,12 @@ extern "C" {
     fn m7_read(file: *const u8, file_size: usize, table: *mut u8, table_size: usize) -> Answer;
     fn m7_write(table: *const u8, table_size: usize, file: *mut u8, file_size: usize) -> Answer;
     fn m7_fresh(state: *mut u8, state_size: usize) -> Answer;
+    fn m7_words(
+        line: *const u8,
+        line_size: usize,
+        pattern: *const u8,
+        pattern_size: usize,
+    ) -> Answer;
     fn m7_feed(
         table: *mut u8,
         table_size: usize,
@@ -42,6 +48,11 @@ pub fn write(table: &[u8], file: &mut [u8]) -> Answer {
 
 pub fn fresh(state: &mut [u8]) -> Answer {
     unsafe { m7_fresh(state.as_mut_ptr(), state.len()) }
+}
+
+/// Length: the words covered; place: of the first.
+pub fn words(line: &[u8], pattern: &[u8]) -> Answer {
+    unsafe { m7_words(line.as_ptr(), line.len(), pattern.as_ptr(), pattern.len()) }
 }
 
 pub fn feed(

@@ -2,11 +2,12 @@
 
 use crate::engine::{self, Answer, FILE_BYTES, OUTPUT_BYTES, STATE_BYTES, TABLE_BYTES};
 use crate::form::{slot_form, state_of, table_of, SLOT_BYTES};
-use m7_reference::answers::{unescape, Case, Check};
+use m7_reference::answers::{unescape, Case, Check, WordCheck};
 use m7_reference::line::{self, Kind};
 use m7_reference::refusal::Refusal;
 use m7_reference::spell::shortest_spelling;
 use m7_reference::state::State;
+use m7_reference::words::Covered;
 
 /// Texts about calls that the archive does not have.
 pub const NOT_ASKED: &[&str] = &[];
@@ -18,6 +19,8 @@ pub struct Host {
     output: Vec<u8>,
     read: Answer,
     fed: Option<line::Answer>,
+    pattern: Vec<u8>,
+    looked: Option<Result<Covered, Refusal>>,
 }
 
 /// A refusal, if the answer is one.
@@ -31,7 +34,8 @@ impl Host {
         let (mut table, mut state) = (vec![0; TABLE_BYTES], vec![0; STATE_BYTES]);
         let read = engine::read(file, &mut table);
         engine::fresh(&mut state);
-        Host { table, state, output: vec![0; OUTPUT_BYTES], read, fed: None }
+        let output = vec![0; OUTPUT_BYTES];
+        Host { table, state, output, read, fed: None, pattern: Vec::new(), looked: None }
     }
 
     pub fn feed(&mut self, line: &[u8], budget: u64) -> line::Answer {
@@ -82,6 +86,21 @@ impl Host {
         spelling.len() == length && alone[..SLOT_BYTES] == slot_form(&table[n - 1])
     }
 
+    /// Looks a line's words up, and holds what is stored against the answer.
+    fn looks(&mut self, check: &WordCheck) -> bool {
+        match check {
+            WordCheck::Pattern(text) => self.pattern = text.clone(),
+            WordCheck::Look(line) => {
+                let answer = engine::words(line, &self.pattern);
+                let words = answer.length as usize;
+                let first = (words > 0).then_some(answer.place as usize);
+                self.looked = Some(refusal(answer).map_or(Ok(Covered { words, first }), Err));
+            }
+            WordCheck::Answer(wanted) => return self.looked == Some(*wanted),
+        }
+        true
+    }
+
     /// Whether a stored answer holds; a line is fed.
     fn holds(&mut self, check: &Check) -> bool {
         match check {
@@ -105,6 +124,7 @@ impl Host {
             Check::Increment(i, n) => self.state().counter(*i).increment == *n,
             Check::Trace(on) => self.state().trace == *on,
             Check::Nflag(on) => self.state().nflag == *on,
+            Check::Words(check) => self.looks(check),
         }
     }
 }

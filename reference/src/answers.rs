@@ -1,11 +1,16 @@
 //! Stored answers: the text form described in `answers/README.md`.
 
+mod words;
+
+pub use words::WordCheck;
+
 use crate::line::{Answer, Engine, Kind};
 use crate::macros::Table;
 use crate::read::read_file;
 use crate::refusal::Refusal;
 use crate::spell::shortest_length;
 use crate::write::write_table;
+use words::Looking;
 
 /// One line of a case after its file.
 #[derive(Clone, Debug, PartialEq, Eq)]
@@ -27,6 +32,7 @@ pub enum Check {
     Shortest(usize, usize),
     SameAs(Vec<u8>),
     DiffersFrom(Vec<u8>),
+    Words(WordCheck),
 }
 
 #[derive(Clone, Debug, Default)]
@@ -86,7 +92,7 @@ fn check(word: &str, rest: &str) -> Option<Check> {
         "shortest" => Check::Shortest(words.number()?, words.number()?),
         "same-as" => Check::SameAs(words.text()?),
         "differs-from" => Check::DiffersFrom(words.text()?),
-        _ => return None,
+        _ => Check::Words(WordCheck::parse(word, &mut words)?),
     };
     words.rest.is_empty().then_some(check)
 }
@@ -188,13 +194,14 @@ struct Running {
     read: Result<Table, Refusal>,
     engine: Engine,
     answer: Option<Answer>,
+    looking: Looking,
 }
 
 /// Runs a case. The answer is the number of checks that held, or what differs.
 pub fn run(case: &Case) -> Result<usize, String> {
     let read = read_file(&case.file);
     let engine = Engine::new(read.clone().unwrap_or_default());
-    let mut running = Running { read, engine, answer: None };
+    let mut running = Running { read, engine, answer: None, looking: Looking::default() };
     for (number, check) in &case.checks {
         if let Some(said) = running.says_instead(check) {
             return Err(format!("{} (line {number}): wanted {check:?}, got {said}", case.name));
@@ -206,7 +213,7 @@ pub fn run(case: &Case) -> Result<usize, String> {
 impl Check {
     /// Whether it says what an answer is, and does not ask for one.
     pub fn is_answer(&self) -> bool {
-        !matches!(self, Check::Line(..))
+        !matches!(self, Check::Line(..) | Check::Words(WordCheck::Pattern(_) | WordCheck::Look(_)))
     }
 }
 
@@ -220,6 +227,7 @@ impl Running {
                 None
             }
             Check::Answer(wanted) => differs(&self.answer, &Some(wanted.clone())),
+            Check::Words(check) => self.looking.says_instead(check),
             _ => table_instead(check, &self.engine.table),
         }
         .or_else(|| state_instead(check, &self.engine))

@@ -3,6 +3,7 @@
 //! Data flows one way:
 //! `macros` (what a macro is), `read` and `write` and `spell` (macro files),
 //! `matching` (one division), `replace` (one occurrence), `pass`, `line`.
+//! `words` looks up the words of a line.
 //! `answers`, `generate`, `protocol` and `cases` serve the comparison with
 //! other engines.
 
@@ -22,4 +23,5 @@ pub mod replace;
 pub mod spell;
 pub mod spelling;
 pub mod state;
+pub mod words;
 pub mod write;

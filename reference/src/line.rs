@@ -125,6 +125,11 @@ fn look_at(line: &[u8], budget: u64) -> Result<(), Refusal> {
     if budget > BUDGET_END {
         return Err(Refusal::plain(BUDGET_TOO_LARGE));
     }
+    look_at_line(line)
+}
+
+/// 21, then 22.
+pub fn look_at_line(line: &[u8]) -> Result<(), Refusal> {
     if line.len() > LINE_BYTES {
         return Err(Refusal::plain(LINE_TOO_LONG));
     }

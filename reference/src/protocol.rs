@@ -5,6 +5,7 @@ use crate::read::read_file;
 use crate::refusal::Refusal;
 use crate::spell::shortest_length;
 use crate::state::State;
+use crate::words::covered_words;
 use crate::write::write_table;
 
 /// Bytes as lower case hex; `-` for none.
@@ -76,6 +77,7 @@ impl Server {
                 "ok".to_string()
             }
             ["write"] => self.write(),
+            ["words", line, pattern] => look_up(line, pattern),
             ["spell"] => spell_words(&self.engine),
             ["state"] => self.engine.state.to_string(),
             _ => "error unknown command".to_string(),
@@ -123,5 +125,17 @@ impl Server {
             Ok(file) => format!("ok {}", hex(&file)),
             Err(refusal) => refusal_words(refusal),
         }
+    }
+}
+
+/// How many words of a line the word-pattern covers, and the place of the
+/// first, 0 if there is none.
+fn look_up(line: &str, pattern: &str) -> String {
+    let (Some(line), Some(pattern)) = (unhex(line), unhex(pattern)) else {
+        return "error bad hex".to_string();
+    };
+    match covered_words(&line, &pattern) {
+        Ok(covered) => format!("ok {} {}", covered.words, covered.first.unwrap_or(0)),
+        Err(refusal) => refusal_words(refusal),
     }
 }

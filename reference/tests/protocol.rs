@@ -38,6 +38,10 @@ fn server_answers() {
     says("write", &format!("ok {}", hex(b"'a'<'#(n+)'&(s:x:);\n")));
     says("fresh", "ok");
     says("state", "fresh");
+    says(&format!("words {} {}", hex(b"a CAT CART"), hex(b"CA-T")), "ok 2 2");
+    says(&format!("words {} {}", hex(b"SCAT"), hex(b"CA-T")), "ok 0 0");
+    says("words 41 -", "no 41 0");
+    says("words 4 41", "error bad hex");
     says("feed x -", "error bad feed");
     says("read xx", "error bad hex");
     says("other", "error unknown command");

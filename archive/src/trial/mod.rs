@@ -5,6 +5,7 @@ mod budgets;
 mod changes;
 mod counts;
 mod songs;
+mod words;
 
 pub use counts::{grouped, Counts, Group};
 pub use songs::Songs;
@@ -30,6 +31,7 @@ pub struct Trial {
     output: Lent,
     file: Lent,
     line: Lent,
+    pattern: Lent,
     source: Lent,
     table_bytes: Vec<u8>,
     state_bytes: Vec<u8>,
@@ -85,6 +87,7 @@ impl Trial {
             output: Lent::new(OUTPUT_BYTES),
             file: Lent::new(FILE_BYTES),
             line: Lent::new(0),
+            pattern: Lent::new(0),
             source: Lent::new(0),
             table_bytes: vec![0; TABLE_BYTES],
             state_bytes: vec![0; STATE_BYTES],

@@ -63,6 +63,7 @@ impl Songs {
         if random.one_in(16) {
             trial.spoil(random);
         }
+        trial.look(random);
         trial.read(Group::Read, &case.file);
         let short = case.file.len() < 10_000;
         if short || random.one_in(4) {

@@ -9,7 +9,7 @@ use Rattle.macros.specs.Macro.{Table}
 use Rattle.macros.specs.Formed.{Bytes}
 use Rattle.lines.specs.State.{State}
 use Rattle.lines.specs.Line.{Line, lineOf}
-use Rattle.lines.specs.Feeding.{orderOf, outputOf, kindOfDone, ofOrder, answer, hasBadByte}
+use Rattle.lines.specs.Feeding.{orderOf, outputOf, kindOfDone, ofOrder, answer}
 use Rattle.form_state.specs.Form.{stateBytes}
 use Rattle.form_state.specs.Access.{Holds, IsState}
 use Rattle.line_memory.specs.Memory.{Memories, Feeding, IsTable, Counted}
@@ -31,11 +31,6 @@ use Rattle.line_answer.specs.declared.Fed.{Fed}
 pub record Fits (t : List ℕ) : Type 0 where
   pub short : length t ≤ mostLineBytes
   pub bytes : Bytes t
-
--- whether a line holds byte 0 or line feed (22)
-pub record Tested (t : List ℕ) (r : Bool) : Type 0 where
-  pub says : r ≡ hasBadByte t
-  pub bytes : r ≡ false → Bytes t
 
 -- the form of some accepted table
 abbrev pub SomeTable : List ℕ → Type 0

@@ -5,25 +5,8 @@ mod slots;
 use answers::take_line;
 use line_answer::Fed;
 use line_answer::Why;
+use line_test::has_bad_byte;
 ghost use Rattle.line_feed.specs.Contract.{Lent, Feeds};
-ghost use Rattle.line_feed.specs.Answering.{Tested};
-
-// 22: "holds byte 0 or line feed".
-fn has_bad_byte(line: &[u8]) -> bool
-    ensures { λ r. ⌜ Tested (now (line .entry)) r ⌝ }
-{
-    let mut i = 0;
-    while i < line.len() {
-        if line[i] == 0 {
-            return true;
-        }
-        if line[i] == b'\n' {
-            return true;
-        }
-        i += 1;
-    }
-    false
-}
 
 // Feeds a line to a table and a state. A refusal leaves table, state and output as they were.
 pub fn feed(table: &mut [u8], state: &mut [u8], line: &[u8], budget: u32, output: &mut [u8]) -> Fed

@@ -20,7 +20,7 @@ use Rattle.lines.specs.Pass.Walk.{ended as walkEnded, occurs}
 use Rattle.lines.specs.Line.{Numbered, Pass, Ending, Line, isControl, closedBy, textOf, passes, passesOf, hadOccurrence, ending, passesThen}
 use Rattle.lines.specs.Line.Line.{ended, passed}
 use Rattle.lines.specs.Line.Ending.{refused, done, control}
-use Rattle.lines.specs.Demand.{Walks}
+use Rattle.lines.specs.Demand.{Walks, onwardFrom}
 use Rattle.lines.proofs.NextLaws.{to-control, to-done, to-used, to-refused, to-next, to-again, then-one, then-ending, then-passes, occurrence-one}
 use Rattle.lines.proofs.PassLaws.{pass-walks}
 use Rattle.lines.proofs.KeepBytes.{bytes-onto}
@@ -37,7 +37,7 @@ use Rattle.line_passes.proofs.Closing.{due-all, none-due, first-due, cl
 -- A PASS
 
 -- one without an occurrence leaves the state as it was
-none-occurred : (m : Macro) (t : List ℕ) (st : State) (k : Walk) → Walks m t 0 none (record { out = []; size = 0; state = st }) k → (v : Work) → outcome k ≡ good v → occurred k ≡ false → v .state ≡ st
+none-occurred : (m : Macro) (t : List ℕ) (st : State) (k : Walk) → Walks m t (onwardFrom 0 none) (record { out = []; size = 0; state = st }) k → (v : Work) → outcome k ≡ good v → occurred k ≡ false → v .state ≡ st
 unfolding outcome occurred
 none-occurred m t st (walkEnded (bad r w)) h v e f = absurd (let z : _≡_ {A = ℕ} 0 1 = cc in omega arith)
 none-occurred m t st (walkEnded (good x)) h v e f = let z : x ≡ v = cc in subst (λ (y : Work). y .state ≡ st) z (h .0 .state)

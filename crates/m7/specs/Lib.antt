@@ -1,3 +1,4 @@
 pub mod Contract
 pub mod Feeding
 pub mod HostRefusal
+pub mod Words

@@ -1,7 +1,8 @@
-// The engine for the host: reading a macro file, writing out a table, the fresh state, and feeding a line. Each exported function has a file of its own.
+// The engine for the host: reading a macro file, writing out a table, the fresh state, feeding a line, and looking words up. Each exported function has a file of its own.
 mod answers;
 pub mod feed;
 pub mod fresh;
+pub mod looking;
 pub mod read;
 pub mod write;
 

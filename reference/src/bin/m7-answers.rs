@@ -1,12 +1,13 @@
 //! `m7-answers FILE...` prints stored answers as protocol commands, so that
 //! any engine that serves the protocol can be run on them.
 
-use m7_reference::answers::{parse, Case, Check};
+use m7_reference::answers::{parse, Case, Check, WordCheck};
 use m7_reference::protocol::hex;
 use std::io::{self, BufWriter, Write};
 
 fn print(case: &Case, output: &mut impl Write) -> io::Result<()> {
     writeln!(output, "read {}\nfresh", hex(&case.file))?;
+    let mut pattern = "-".to_string();
     for (_, check) in &case.checks {
         match check {
             Check::Line(budget, line) => writeln!(output, "feed {budget} {}", hex(line))?,
@@ -16,6 +17,10 @@ fn print(case: &Case, output: &mut impl Write) -> io::Result<()> {
             Check::Shortest(..) => writeln!(output, "spell")?,
             Check::SameAs(file) | Check::DiffersFrom(file) => {
                 writeln!(output, "read {}\nwrite\nread {}", hex(file), hex(&case.file))?;
+            }
+            Check::Words(WordCheck::Pattern(text)) => pattern = hex(text),
+            Check::Words(WordCheck::Look(line)) => {
+                writeln!(output, "words {} {pattern}", hex(line))?
             }
             _ => {}
         }

@@ -1,15 +1,18 @@
-//! `m7-generate SEED COUNT` prints generated cases as protocol commands.
+//! `m7-generate SEED COUNT` prints generated cases as protocol commands;
+//! with the word `words` behind them, lines to look up words in.
 
-use m7_reference::generate::{any_case, any_file, bound_case, Random};
+use m7_reference::generate::{any_case, any_file, any_look, bound_case, Random};
 use m7_reference::protocol::hex;
 use std::io::{self, BufWriter, Write};
 
-/// The arguments SEED and COUNT.
-fn arguments() -> Option<(u64, usize)> {
+/// The arguments SEED and COUNT, and what to print.
+fn arguments() -> Option<(u64, usize, String)> {
     let mut words = std::env::args().skip(1);
     let seed = words.next()?.parse().ok()?;
     let count = words.next()?.parse().ok()?;
-    words.next().is_none().then_some((seed, count))
+    let sort = words.next().unwrap_or_default();
+    (words.next().is_none() && ["", "words"].contains(&sort.as_str()))
+        .then_some((seed, count, sort))
 }
 
 /// Of ten cases four are files alone, five have lines, and one is near a
@@ -31,14 +34,19 @@ fn print(random: &mut Random, case: usize, output: &mut impl Write) -> io::Resul
 }
 
 fn main() -> io::Result<()> {
-    let Some((seed, count)) = arguments() else {
-        eprintln!("usage: m7-generate SEED COUNT");
+    let Some((seed, count, sort)) = arguments() else {
+        eprintln!("usage: m7-generate SEED COUNT [words]");
         std::process::exit(2);
     };
     let mut random = Random::new(seed);
     let mut output = BufWriter::new(io::stdout().lock());
     for case in 0..count {
-        print(&mut random, case, &mut output)?;
+        if sort == "words" {
+            let (line, pattern) = any_look(&mut random);
+            writeln!(output, "words {} {}", hex(&line), hex(&pattern))?;
+        } else {
+            print(&mut random, case, &mut output)?;
+        }
     }
     output.flush()
 }

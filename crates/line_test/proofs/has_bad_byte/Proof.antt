@@ -7,9 +7,9 @@ use denote.Ref.{now}
 use lib.ListN.{length, take, drop}
 use Rattle.macros.specs.Formed.{Bytes}
 use Rattle.lines.specs.Feeding.{hasBadByte}
-use Rattle.line_feed.proofs.Replying.{bad-zero, bad-feed, bad-next, bytes-next, bad-none, bytes-all}
-use Rattle.line_feed.proofs.has_bad_byte.Statement.{statement}
-use Rattle.line_feed.proofs.has_bad_byte.Tie as tie
+use Rattle.line_test.proofs.BadBytes.{bad-zero, bad-feed, bad-next, bytes-next, bad-none, bytes-all}
+use Rattle.line_test.proofs.has_bad_byte.Statement.{statement}
+use Rattle.line_test.proofs.has_bad_byte.Tie as tie
 
 abbrev Inv-loop : tie.InvT-loop
 Inv-loop line i₀ i = (i ≤ length line) × (hasBadByte line ≡ hasBadByte (drop i line)) × Bytes (take i line)

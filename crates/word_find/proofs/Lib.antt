@@ -1,0 +1,4 @@
+pub mod Forming
+pub mod Looking
+pub mod Marking
+pub mod Walking

@@ -1,0 +1,4 @@
+pub mod Contract
+pub mod Letters
+pub mod Marks
+pub mod Walk

@@ -1,0 +1,3 @@
+pub mod CoverLaws
+pub mod WordLaws
+pub mod LookLaws

@@ -1,0 +1,1 @@
+// Definitions and laws only: words and word-patterns. They stand in specs/.
