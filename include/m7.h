@@ -66,8 +66,8 @@
    10,000 is what the program of document 01 takes. A line that is done needs
    as many passes as there are macros, and that many again for each pass that
    changed the line. A macro such as 'a'='a'; never ends by itself: on a full
-   line a pass of it takes some 50 microseconds, so 10,000 of them take half a
-   second and 1,000,000 take 52 seconds. A larger budget, up to 1,000,000,
+   line 100,000 passes of it took 4.6 seconds, so 10,000 take half a second and
+   1,000,000 some three quarters of a minute. A larger budget, up to 1,000,000,
    never changes an answer other than 31. */
 
 #ifndef M7_H
