@@ -6,7 +6,7 @@ use mathlib.Core.Option.{Option, none, some}
 use native.Mathlib.Omega.{arith}
 use borrow.Author.Tests.{eq-eqb, ne-eqb, le-leb, lt-leb}
 use lib.Dec.{eqb, ltb}
-use Rattle.macros.specs.Macro.{Mark, Move, pick, within, lower}
+use Rattle.macros.specs.Macro.{Mark, Move, pick, within, asciiLower}
 use Rattle.macros.specs.Macro.Mark.{stack, counter}
 use Rattle.macros.specs.Macro.Sign.{plus, minus}
 use Rattle.macros.specs.Macro.Move.{still, before, after}
@@ -71,22 +71,22 @@ module _ (cmd : Bool) (n c m o : ℕ) where
   call-unmoved h =
       simp (ne-eqb m 0 (λ p. omega arith), ne-eqb m 1 (λ p. omega arith), ne-eqb m 2 (λ p. omega arith), ne-eqb m 3 (λ p. omega arith), ne-eqb m 4 (λ p. omega arith))
 
-  called : (v : Option Move) → lower o ≡ false → callStep cmd n c o v ≡ none
+  called : (v : Option Move) → asciiLower o ≡ false → callStep cmd n c o v ≡ none
   unfolding pick callStep
   called none h = refl
   called (some v) h = rw h
 
   pub call-below : o < 97 → callStep cmd n c o (moveOf m) ≡ none
-  unfolding lower within
+  unfolding asciiLower within
   call-below h = called (moveOf m) (simp (lt-leb 97 o h))
 
   pub call-above : 97 ≤ o → 122 < o → callStep cmd n c o (moveOf m) ≡ none
-  unfolding lower within
+  unfolding asciiLower within
   call-above h g = called (moveOf m) (simp (le-leb 97 o h, lt-leb o 122 g))
 
 module _ (cmd : Bool) (n c m o r : ℕ) (four : m ≤ 4) (low : 97 ≤ o) (high : o ≤ 122) (e : r ≡ bit (ltb 0 m)) where
   known : callStep cmd n c o (moveOf m) ≡ calledStep cmd n (callAs c o (moved m four .by))
-  unfolding callStep pick lower within
+  unfolding callStep pick asciiLower within
   known = rw (moved m four .is) (simp (le-leb 97 o low, le-leb o 122 high))
 
   pub call-insert : c ≡ 6 → callStep cmd n c o (moveOf m) ≡ given (not cmd) (actionAt (n + 4 + r) (behindAction false))

@@ -8,7 +8,7 @@ use native.Mathlib.Numerals.{add-one}
 use native.Mathlib.Omega.{arith}
 use borrow.Author.Tests.{eq-eqb, ne-eqb, lt-ltb, le-ltb, le-leb, lt-leb}
 use lib.Dec.{eqb, leb}
-use Rattle.macros.specs.Macro.{Closure, PatternUnit, pick, within, lower}
+use Rattle.macros.specs.Macro.{Closure, PatternUnit, pick, within, asciiLower}
 use Rattle.macros.specs.Macro.Mark.{stack, counter}
 use Rattle.macros.specs.Macro.PatternUnit.{literal, kind, class, callOf}
 use Rattle.form_table.specs.Walk.{given, bit}
@@ -84,11 +84,11 @@ module _ (n t d e u o : ℕ) (j : Joint) (k : Option Closure) (ok : Bool) where
   kind-law p q = plain-law n t d e 2 j k ok (kind o) (unitOf u o) (rw (p, q)) (kind-ended n t d e o j k)
 
   pub stack-law : u ≡ 4 → ok ≡ within 97 122 o → pick ok (ended behindPiece (n + 4) t d e loose k) none ≡ elementStep n t d e j (unitOf u o) k
-  unfolding unitOf pick lower
+  unfolding unitOf pick asciiLower
   stack-law p q = plain-law n t d e 4 j k ok (callOf stack o) (unitOf u o) (rw (p, q)) (stack-ended n t d e o j k)
 
   pub counter-law : u ≡ 5 → ok ≡ within 97 122 o → pick ok (ended behindPiece (n + 4) t d e loose k) none ≡ elementStep n t d e j (unitOf u o) k
-  unfolding unitOf pick lower
+  unfolding unitOf pick asciiLower
   counter-law p q = plain-law n t d e 4 j k ok (callOf counter o) (unitOf u o) (rw (p, q)) (counter-ended n t d e o j k)
 
 module _ (n t d e o : ℕ) (neg : Bool) where

@@ -9,7 +9,7 @@ use native.Mathlib.Omega.{arith}
 use lib.Dec.{eqb, ltb}
 use lib.ListN.{length, getD, drop, drop-of-length-le}
 use lib.Seq.{drop-cons}
-use Rattle.macros.specs.Macro.{Closure, PatternUnit, Move, Call, pick, among, within, lower}
+use Rattle.macros.specs.Macro.{Closure, PatternUnit, Move, Call, pick, among, within, asciiLower}
 use Rattle.macros.specs.Macro.Closure.{once, oneOrMore, zeroOrMore}
 use Rattle.macros.specs.Macro.PatternUnit.{literal, kind, class, callOf}
 use Rattle.macros.specs.Macro.Move.{still, before, after}
@@ -216,7 +216,7 @@ module _ (cmd : Bool) (n : ℕ) where
   moved-grows : (c o : ℕ) (v : Option Move) → Within size (n + 11) (callStep cmd n c o v)
   unfolding callStep
   moved-grows c o none = tt
-  moved-grows c o (some v) = within-pick size _ (lower o) _ _ (called-grows (callAs c o v)) tt
+  moved-grows c o (some v) = within-pick size _ (asciiLower o) _ _ (called-grows (callAs c o v)) tt
 
   begin-grows : (k : ℕ) (a : Bool) (c o : ℕ) → Within size (n + 11) (beginStep cmd k n a c o)
   unfolding beginStep size

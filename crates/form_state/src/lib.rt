@@ -1,6 +1,5 @@
 // The state as bytes: what is read of the stacks and counters in one lent memory.
 use form_bytes::number_at;
-use read_bytes::place;
 ghost use Prim.Native.Nat.{_+_, _-_, _*_, _≤_};
 ghost use mathlib.Core.Path.{_≡_};
 ghost use Rattle.macros.specs.Formed.{Letter};
@@ -8,25 +7,36 @@ ghost use Rattle.lines.specs.State.{stackOf, counterOf, currentEntry};
 ghost use Rattle.form_state.specs.Form.{stateBytes};
 ghost use Rattle.form_state.specs.Access.{IsState, OfState, textLength};
 
+// The number of the letter i: of `a` it is 0.
+pub fn letter_number(i: u8) -> usize
+    requires { ⌜ Letter i ⌝ }
+    ensures { λ r. ⌜ (r ≡ i - 97) × (r ≤ 25) ⌝ }
+{
+    (i - 97) as usize
+}
+
+// The pointer of the stack i.
 pub fn pointer(state: &[u8], i: u8) -> u8
     requires { ⌜ IsState (now state) × Letter i ⌝ }
     ensures { λ r. ⌜ OfState (now (state .entry)) (λ st. r ≡ stackOf st i .pointer) ⌝ }
 {
-    state[2 + place(i)]
+    state[2 + letter_number(i)]
 }
 
+// The value of the counter i.
 pub fn value(state: &[u8], i: u8) -> u32
     requires { ⌜ IsState (now state) × Letter i ⌝ }
     ensures { λ r. ⌜ OfState (now (state .entry)) (λ st. r ≡ counterOf st i .value) ⌝ }
 {
-    number_at(state, 28 + 4 * place(i))
+    number_at(state, 28 + 4 * letter_number(i))
 }
 
+// The increment of the counter i.
 pub fn increment(state: &[u8], i: u8) -> u32
     requires { ⌜ IsState (now state) × Letter i ⌝ }
     ensures { λ r. ⌜ OfState (now (state .entry)) (λ st. r ≡ counterOf st i .increment) ⌝ }
 {
-    number_at(state, 132 + 4 * place(i))
+    number_at(state, 132 + 4 * letter_number(i))
 }
 
 // Where the current entry of the letter i starts.
@@ -35,7 +45,7 @@ pub fn entry_at(state: &[u8], i: u8) -> usize
     ensures { λ r. ⌜ (r + 50 ≤ stateBytes) × OfState (now (state .entry)) (λ st. r ≡ 236 + (1000 * (i - 97) + 50 * (stackOf st i .pointer - 1))) ⌝ }
 {
     let p = pointer(state, i);
-    236 + (1000 * place(i) + 50 * ((p - 1) as usize))
+    236 + (1000 * letter_number(i) + 50 * ((p - 1) as usize))
 }
 
 // How many bytes stand before the first 0: an entry's text holds none.

@@ -9,7 +9,7 @@ use lib.Dec.{eqb, leb}
 use lib.ListN.{length, length-reverse}
 use borrow.Author.Tests.{eqb-true, eqb-false, leb-true, not-true}
 use Rattle.macros.specs.Bounds.{mostEntryBytes}
-use Rattle.macros.specs.Macro.{Move, Call, Action, pick, within, lower}
+use Rattle.macros.specs.Macro.{Move, Call, Action, pick, within, asciiLower}
 use Rattle.macros.specs.Macro.Mark.{stack, counter}
 use Rattle.macros.specs.Macro.Call.{insert, storeTag, setTo, storeText, setIncrement}
 use Rattle.macros.specs.Macro.Action.{text, tag, call}
@@ -79,7 +79,7 @@ module _ (cmd : Bool) (k n : ℕ) where
     next-called (setIncrement i t) l p r e = (low xs (increases i), (f, rw r at l), sym (some-same e), rw (p, r))
 
     next-call : callStep cmd (n + cost xs) (c / 8) o (moveOf (c % 8)) ≡ some s → Next (acts xs) c o s
-    unfolding callStep lower calledStep
+    unfolding callStep asciiLower calledStep
     next-call e = by (moveOf (c % 8)) refl e
       where
         heads : (v : Move) (x : Option Call) → moveCode v ≡ c % 8 → Letter o → callAs (c / 8) o v ≡ x → calledStep cmd (n + cost xs) x ≡ some s → Next (acts xs) c o s

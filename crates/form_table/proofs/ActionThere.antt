@@ -8,7 +8,7 @@ use native.Mathlib.Omega.{arith}
 use lib.ListN.{length}
 use borrow.Author.Tests.{ne-eqb, le-leb}
 use Rattle.macros.specs.Bounds.{mostTags, mostEntryBytes}
-use Rattle.macros.specs.Macro.{Move, Call, Action, pick, within, lower}
+use Rattle.macros.specs.Macro.{Move, Call, Action, pick, within, asciiLower}
 use Rattle.macros.specs.Macro.Call.{insert, storeTag, setTo, storeText, setIncrement}
 use Rattle.macros.specs.Macro.Action.{text, tag, call}
 use Rattle.macros.specs.Formed.{Bytes, Letter, numberFits}
@@ -63,7 +63,7 @@ module _ (cmd : Bool) (k n : ℕ) (xs : List Action) (l : List ℕ) where
   -- CALLS
 
   call-begins : (c : Call) → Letter (letterOf c) → actionStep cmd k (stateOf n (acts xs)) (8 * codeOf c + moveCode (moveIn c)) (letterOf c) ≡ callAt cmd (n + cost xs) (headCall c)
-  unfolding actionStep beginStep callStep calledStep lower pick
+  unfolding actionStep beginStep callStep calledStep asciiLower pick
   call-begins c h =
       rw (
         ne-eqb (8 * codeOf c + moveCode (moveIn c)) 40 (omega (arith, code-range c)),

@@ -8,7 +8,7 @@ use native.Mathlib.Omega.{arith}
 use lib.Dec.{leb}
 use lib.ListN.{replicate, getD, take, drop}
 use borrow.Author.Tests.{leb-true, le-leb}
-use Rattle.macros.specs.Macro.{pick, within, digit, upper, lower, isRange}
+use Rattle.macros.specs.Macro.{pick, within, digit, asciiUpper, asciiLower, isRange}
 use Rattle.macros.specs.Formed.{Between, Octets}
 
 -- TESTS
@@ -61,7 +61,7 @@ both-within l h a z k j e =
 
 -- a range's ends are letters or digits
 pub range-bytes : (a z : ℕ) → isRange a z ≡ true → Between 1 255 a × Between 1 255 z
-unfolding isRange digit upper lower
+unfolding isRange digit asciiUpper asciiLower
 range-bytes a z e =
     or-cases (within 48 57 a && within 48 57 z) _ (and-left _ (leb a z) e) (both-within 48 57 a z (omega arith) (omega arith))
     λ f. or-cases (within 65 90 a && within 65 90 z) _ f (both-within 65 90 a z (omega arith) (omega arith)) (both-within 97 122 a z (omega arith) (omega arith))

@@ -7,7 +7,7 @@ use Prim.Native.Nat.{ℕ, _+_, _*_, _/_, _%_}
 use native.Mathlib.Omega.{arith}
 use lib.Dec.{eqb}
 use borrow.Author.Tests.{eqb-true}
-use Rattle.macros.specs.Macro.{Closure, PatternUnit, pick, within, lower}
+use Rattle.macros.specs.Macro.{Closure, PatternUnit, pick, within, asciiLower}
 use Rattle.macros.specs.Macro.Closure.{once, oneOrMore, zeroOrMore}
 use Rattle.macros.specs.Macro.Mark.{stack, counter}
 use Rattle.macros.specs.Macro.PatternUnit.{literal, kind, class, callOf}
@@ -39,7 +39,7 @@ closure-of oneOrMore = refl
 closure-of zeroOrMore = refl
 
 pub unit-of : (u : PatternUnit) → FormedUnit u → unitOf (unitCode u) (unitOperand u) ≡ some (head u)
-unfolding unitOf unitCode unitOperand pick lower given
+unfolding unitOf unitCode unitOperand pick asciiLower given
 unit-of (literal b) f = granting (within 1 255 b) (literal b) (within-of 1 255 b (f .0) (f .1))
 unit-of (kind n) f = granting (within 1 6 n) (kind n) (within-of 1 6 n (f .0) (f .1))
 unit-of (callOf stack i) f = granting (within 97 122 i) (callOf stack i) (within-of 97 122 i (f .0) (f .1))
@@ -60,7 +60,7 @@ abbrev pub Says : ℕ → ℕ → PatternUnit → Type 0
 Says c o u = (unitCode u ≡ c) × (unitOperand u ≡ o) × FormedHead u
 
 pub of-unit : (c o : ℕ) (u : PatternUnit) → unitOf c o ≡ some u → Says c o u
-unfolding unitOf unitCode unitOperand lower
+unfolding unitOf unitCode unitOperand asciiLower
 of-unit c o u e =
     picked (eqb c 2) e (λ t e. granted (within 1 255 o) e λ w q. rw (← q) (sym (eqb-true c 2 t), refl, (within-low 1 255 o w, within-high 1 255 o w)))
     λ f e. picked (eqb c 3) e (λ t e. granted (within 1 6 o) e λ w q. rw (← q) (sym (eqb-true c 3 t), refl, (within-low 1 6 o w, within-high 1 6 o w)))

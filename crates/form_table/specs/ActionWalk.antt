@@ -5,7 +5,7 @@ use mathlib.Core.List.{[], _∷_}
 use mathlib.Core.Option.{Option, none, some}
 use lib.Dec.{eqb, ltb, leb}
 use Rattle.macros.specs.Bounds.{mostEntryBytes}
-use Rattle.macros.specs.Macro.{Move, Call, pick, among, within, lower}
+use Rattle.macros.specs.Macro.{Move, Call, pick, among, within, asciiLower}
 use Rattle.macros.specs.Macro.Mark.{stack, counter}
 use Rattle.macros.specs.Macro.Sign.{plus, minus}
 use Rattle.macros.specs.Macro.Move.{still, before, after}
@@ -87,7 +87,7 @@ calledStep cmd n (some c) = callAt cmd n c
 -- a call, if its move's code is some and its letter is one
 unfoldable pub callStep : (cmd : Bool) → (n c o : ℕ) → Option Move → Option ActionState
 callStep cmd n c o none = none
-callStep cmd n c o (some v) = pick (lower o) (calledStep cmd n (callAs c o v)) none
+callStep cmd n c o (some v) = pick (asciiLower o) (calledStep cmd n (callAs c o v)) none
 
 -- STEPS
 

@@ -5,7 +5,7 @@ use mathlib.Core.List.{[], _∷_}
 use mathlib.Core.Option.{Option, none, some}
 use lib.Dec.{eqb, ltb}
 use Rattle.macros.specs.Bounds.{mostTags}
-use Rattle.macros.specs.Macro.{Closure, PatternUnit, pick, among, within, lower, isRange}
+use Rattle.macros.specs.Macro.{Closure, PatternUnit, pick, among, within, asciiLower, isRange}
 use Rattle.macros.specs.Macro.Closure.{once, oneOrMore, zeroOrMore}
 use Rattle.macros.specs.Macro.Mark.{stack, counter}
 use Rattle.macros.specs.Macro.PatternUnit.{literal, kind, class, callOf}
@@ -56,8 +56,8 @@ unfoldable pub unitOf : ℕ → ℕ → Option PatternUnit
 unitOf c o =
     pick (eqb c 2) (given (within 1 255 o) (literal o))
     (pick (eqb c 3) (given (within 1 6 o) (kind o))
-    (pick (eqb c 4) (given (lower o) (callOf stack o))
-    (pick (eqb c 5) (given (lower o) (callOf counter o))
+    (pick (eqb c 4) (given (asciiLower o) (callOf stack o))
+    (pick (eqb c 5) (given (asciiLower o) (callOf counter o))
     (pick (eqb c 6) (given (eqb o 0) (class false []))
     (pick (eqb c 7) (given (eqb o 0) (class true [])) none)))))
 

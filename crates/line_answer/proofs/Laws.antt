@@ -5,9 +5,9 @@ use native.Mathlib.Omega.{arith}
 use Rattle.macros.specs.Bounds.{mostFileBytes, mostLineBytes}
 use Rattle.macros.specs.Refusals.{number, place, fileNumber, workNumber}
 use Rattle.read_scan.specs.Scan.{faultOf}
-use Rattle.read_scan.specs.declared.Fault.{Fault}
+use Rattle.read_scan.specs.declared.FileFault.{FileFault}
 use Rattle.refusals.specs.Faults.{refusalOf as workOf}
-use Rattle.refusals.specs.declared.Fault.{Fault as WorkFault}
+use Rattle.refusals.specs.declared.WorkFault.{WorkFault}
 use Rattle.line_answer.specs.Fed.{refusalOf}
 use Rattle.line_answer.specs.declared.Why.{Why}
 use Rattle.line_answer.specs.declared.Why.the-variants.{InMacro, AtWork}
@@ -29,7 +29,7 @@ refusedAs w p = lineReply (number (refusalOf w)) (place (refusalOf w)) p 0 0
 pub because : {w v : Why} {a : Answer} {p : ℕ} → w ≡ v → a ≡ refusedAs v p → a ≡ refusedAs w p
 because {p = p} e f = f ∙ ap (λ (x : Why). refusedAs x p) (sym e)
 
-pub because-macro : {w : Why} {g : Fault} {q k p : ℕ} {a : Answer} → w ≡ InMacro g q → k ≡ fileNumber (faultOf g) → a ≡ lineReply k q p 0 0 → a ≡ refusedAs w p
+pub because-macro : {w : Why} {g : FileFault} {q k p : ℕ} {a : Answer} → w ≡ InMacro g q → k ≡ fileNumber (faultOf g) → a ≡ lineReply k q p 0 0 → a ≡ refusedAs w p
 unfolding number place
 because-macro {q = q} {p = p} e n f = because e (f ∙ ap (λ (x : ℕ). lineReply x q p 0 0) n)
 
@@ -37,7 +37,7 @@ pub because-work : {w : Why} {g : WorkFault} {k p : ℕ} {a : Answer} → w ≡ 
 unfolding number place
 because-work {p = p} e n f = because e (f ∙ ap (λ (x : ℕ). lineReply x 0 p 0 0) n)
 
-pub macro-place : {w : Why} {g : Fault} {q : ℕ} → w ≡ InMacro g q → place (refusalOf w) ≤ mostFileBytes → q ≤ mostFileBytes
+pub macro-place : {w : Why} {g : FileFault} {q : ℕ} → w ≡ InMacro g q → place (refusalOf w) ≤ mostFileBytes → q ≤ mostFileBytes
 unfolding place
 macro-place e h = subst (λ (x : Why). place (refusalOf x) ≤ mostFileBytes) e h
 

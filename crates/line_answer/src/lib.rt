@@ -1,6 +1,6 @@
 // What a call answers, in numbers.
-use read_scan::Fault;
-use refusals::Fault as WorkFault;
+use read_scan::FileFault;
+use refusals::WorkFault;
 ghost use mathlib.Core.Path.{_≡_};
 ghost use Prim.Native.Nat.{_≤_};
 ghost use Rattle.macros.specs.Bounds.{mostFileBytes, mostLineBytes, mostBudget};
@@ -16,7 +16,7 @@ pub enum Why {
     LineTooLong,
     BadByte,
     BadControl,
-    InMacro(Fault, usize),
+    InMacro(FileFault, usize),
     BudgetUsedUp,
     AtWork(WorkFault),
 }
@@ -40,20 +40,20 @@ pub struct Answer {
 }
 
 // 10 to 19.
-pub fn file_number(f: Fault) -> u32
+pub fn file_number(f: FileFault) -> u32
     ensures { λ r. ⌜ r ≡ fileNumber (faultOf f) ⌝ }
 {
     match f {
-        Fault::FileTooLong => 10,
-        Fault::ZeroByte => 11,
-        Fault::Incomplete => 12,
-        Fault::BadClass => 13,
-        Fault::NoUnit => 14,
-        Fault::BadBrace => 15,
-        Fault::BadCall => 16,
-        Fault::NoElement => 17,
-        Fault::MacroTooLong => 18,
-        Fault::TooManyMacros => 19,
+        FileFault::FileTooLong => 10,
+        FileFault::ZeroByte => 11,
+        FileFault::Incomplete => 12,
+        FileFault::BadClass => 13,
+        FileFault::NoUnit => 14,
+        FileFault::BadBrace => 15,
+        FileFault::BadCall => 16,
+        FileFault::NoElement => 17,
+        FileFault::MacroTooLong => 18,
+        FileFault::TooManyMacros => 19,
     }
 }
 

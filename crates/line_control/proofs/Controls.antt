@@ -26,16 +26,16 @@ use Rattle.lines.specs.Feeding.{Order, bytes, same, withTrace, withNflag, flagO
 use Rattle.lines.specs.Feeding.Order.{wrong, orders}
 use Rattle.lines.proofs.KeepBytes.{bytes-octets, bytes-drop}
 use Rattle.read_file.specs.File.{Onto}
-use Rattle.read_scan.specs.declared.Fault.{Fault}
+use Rattle.read_scan.specs.declared.FileFault.{FileFault}
 use Rattle.read_file.specs.declared.Reading.{Reading}
 use Rattle.read_file.specs.declared.Reading.the-variants.{Table as TableOf, Refused as NoTable}
 use Rattle.form_items.specs.Items.{Wrote}
 use Rattle.line_control.specs.Contract.{refusalOf, Obeys, Orders}
-use Rattle.line_control.specs.Ordering.{valueOf, Puts, Sets, OneMore, AddsOne, wrongOf}
+use Rattle.line_control.specs.Ordering.{valueOf, Puts, Sets, OneMore, AddsOne, refusedOf}
 use Rattle.line_control.specs.declared.Why.{Why}
 use Rattle.line_control.specs.declared.Why.the-variants.{BadControl}
 use Rattle.line_control.specs.declared.Order.{Order as Obeyed}
-use Rattle.line_control.specs.declared.Order.the-variants.{Taken, Wrong}
+use Rattle.line_control.specs.declared.Order.the-variants.{Taken, Refused}
 
 -- WORDS
 
@@ -244,13 +244,13 @@ module _ {b t : List ℕ} where
   module _ {v : ℕ} (e : v ≡ valueOf (take (length t - 6) (drop 6 t))) where
     pub sets-trace : begins (bytes "$TRACE") t ≡ true → {b′ : List ℕ} (r : Obeyed) → Puts withTrace v b b′ r → Sets b b′ t r
     sets-trace w Taken p = record { sets = λ ms st h. (withTrace v st, trace-set ms st t w v (value-behind t e) (p .0), p .1 st h) }
-    sets-trace w (Wrong x) p = record { sets = λ ms st h. (trace-wrong ms st t w v (value-behind t e) (p .0) ∙ ap (λ (y : Why). wrong (refusalOf y)) (sym (p .1)), p .2) }
+    sets-trace w (Refused x) p = record { sets = λ ms st h. (trace-wrong ms st t w v (value-behind t e) (p .0) ∙ ap (λ (y : Why). wrong (refusalOf y)) (sym (p .1)), p .2) }
 
     pub sets-nflag : begins (bytes "$NFLAG") t ≡ true → {b′ : List ℕ} (r : Obeyed) → Puts withNflag v b b′ r → Sets b b′ t r
     sets-nflag w Taken p = record { sets = λ ms st h. (withNflag v st, nflag-set ms st t w v (value-behind t e) (p .0), p .1 st h) }
-    sets-nflag w (Wrong x) p = record { sets = λ ms st h. (nflag-wrong ms st t w v (value-behind t e) (p .0) ∙ ap (λ (y : Why). wrong (refusalOf y)) (sym (p .1)), p .2) }
+    sets-nflag w (Refused x) p = record { sets = λ ms st h. (nflag-wrong ms st t w v (value-behind t e) (p .0) ∙ ap (λ (y : Why). wrong (refusalOf y)) (sym (p .1)), p .2) }
 
-  pub sets-none : begins (bytes "$TRACE") t ≡ false → begins (bytes "$NFLAG") t ≡ false → Sets b b t (Wrong BadControl)
+  pub sets-none : begins (bytes "$TRACE") t ≡ false → begins (bytes "$NFLAG") t ≡ false → Sets b b t (Refused BadControl)
   sets-none f g = record { sets = λ ms st h. (no-word ms st t f g, refl) }
 
 -- MACROS
@@ -277,11 +277,11 @@ put-back ms new count b out fin a c e f g =
     g ∙ (rw (t, n) refl ∙ e)
 
 module _ (b out : List ℕ) (count : ℕ) (s : List ℕ) (r : Reading) (o : Onto s count b out r) (y : Bytes s) where
-  pub add-wrong : {f : Fault} {q : ℕ} {w : Obeyed} → r ≡ NoTable f q → w ≡ wrongOf r → AddsOne b out count s w
+  pub add-wrong : {f : FileFault} {q : ℕ} {w : Obeyed} → r ≡ NoTable f q → w ≡ refusedOf r → AddsOne b out count s w
   unfolding macroOrder
   add-wrong {f} {q} {w} e g =
       let o′ : Onto s count b out (NoTable f q) = rw e at o in
-      rw (g ∙ ap wrongOf e)
+      rw (g ∙ ap refusedOf e)
       (record { obeys = λ ms h l st b′ k. let x = o′ ms (h .accepted) (h .form) l in (ap (macroOrder ms st) (x .0), x .1, refl) })
 
   module _ {n : ℕ} (e : r ≡ TableOf n) where
@@ -302,7 +302,7 @@ module _ (b out : List ℕ) (count : ℕ) (s : List ℕ) (r : Reading) (o : Onto
                 k,
               );
         }
-    add-more {fin} (Wrong v) g =
+    add-more {fin} (Refused v) g =
         record {
           obeys = λ ms h l st b′ k.
               let x = read ms (h .accepted) (h .form) l in
@@ -327,4 +327,4 @@ module _ {tb b t : List ℕ} {count : ℕ} where
 
   pub orders-flag : begins (bytes "$MACRO") t ≡ false → {b′ : List ℕ} (r : Obeyed) → Sets b b′ t r → Orders tb tb b b′ count t r
   orders-flag m Taken x = record { obeys = λ ms h l st hs. let y = x .sets ms st hs in (ms, y .0, no-macro ms st t m ∙ y .1, h, y .2) }
-  orders-flag m (Wrong w) x = record { obeys = λ ms h l st hs. let y = x .sets ms st hs in (no-macro ms st t m ∙ y .0, refl, y .1) }
+  orders-flag m (Refused w) x = record { obeys = λ ms h l st hs. let y = x .sets ms st hs in (no-macro ms st t m ∙ y .0, refl, y .1) }

@@ -17,17 +17,17 @@ use Rattle.line_memory.specs.Memory.{IsTable}
 use Rattle.line_control.specs.declared.Why.{Why}
 use Rattle.line_control.specs.declared.Why.the-variants.{BadControl, InMacro}
 use Rattle.line_control.specs.declared.Order.{Order}
-use Rattle.line_control.specs.declared.Order.the-variants.{Taken, Wrong}
+use Rattle.line_control.specs.declared.Order.the-variants.{Taken, Refused}
 
 -- 01's refusal for each reason
 abbrev pub refusalOf : Why → Refusal
 refusalOf BadControl = ofLine badControl
 refusalOf (InMacro f p) = ofFile (faultOf f) p
 
--- what a control line orders, and what table and state hold then; a wrong one leaves both as they were
+-- what a control line orders, and what table and state hold then; a refused one leaves both as they were
 abbrev pub Obeys : Ordered → (table table′ b b′ : List ℕ) → Order → Type 0
 Obeys o table table′ b b′ Taken = (ks : Table) × (st : State) × (o ≡ orders ks st) × IsTable table′ ks × Holds b′ st
-Obeys o table table′ b b′ (Wrong w) = (o ≡ wrong (refusalOf w)) × (table′ ≡ table) × (b′ ≡ b)
+Obeys o table table′ b b′ (Refused w) = (o ≡ wrong (refusalOf w)) × (table′ ≡ table) × (b′ ≡ b)
 
 pub record Orders (table table′ b b′ : List ℕ) (count : ℕ) (t : List ℕ) (r : Order) : Type 0 where
   pub obeys : (ms : Table) → IsTable table ms → length ms ≡ count → (st : State) → Holds b st → Obeys (orderOf ms st t) table table′ b b′ r

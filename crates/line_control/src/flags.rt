@@ -64,7 +64,7 @@ fn put_trace(state: &mut [u8], v: u8) -> Order
     ensures { λ r. ⌜ Puts withTrace v (now (state .entry)) (now (state .exit)) r ⌝ }
 {
     if 1 < v {
-        return Order::Wrong(Why::BadControl);
+        return Order::Refused(Why::BadControl);
     }
     set_trace(state, v);
     Order::Taken
@@ -76,7 +76,7 @@ fn put_nflag(state: &mut [u8], v: u8) -> Order
     ensures { λ r. ⌜ Puts withNflag v (now (state .entry)) (now (state .exit)) r ⌝ }
 {
     if 1 < v {
-        return Order::Wrong(Why::BadControl);
+        return Order::Refused(Why::BadControl);
     }
     set_nflag(state, v);
     Order::Taken
@@ -93,5 +93,5 @@ pub(crate) fn set_flag(state: &mut [u8], line: &[u8]) -> Order
     if starts_with(line, b"$NFLAG") {
         return put_nflag(state, flag_value(&line[6..]));
     }
-    Order::Wrong(Why::BadControl)
+    Order::Refused(Why::BadControl)
 }

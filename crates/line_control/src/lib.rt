@@ -6,7 +6,7 @@ use flags::starts_with;
 use form_items::clear;
 use read_file::Reading;
 use read_file::file::read_onto;
-use read_scan::Fault;
+use read_scan::FileFault;
 ghost use mathlib.Core.Path.{_≡_};
 ghost use Prim.Native.Nat.{_≤_};
 ghost use lib.ListN.{length};
@@ -16,27 +16,27 @@ ghost use Rattle.form_table.specs.Form.{tableBytes};
 ghost use Rattle.form_state.specs.Access.{IsState};
 ghost use Rattle.line_memory.specs.Memory.{Counted};
 ghost use Rattle.line_control.specs.Contract.{Orders};
-ghost use Rattle.line_control.specs.Ordering.{AddsOne, OneMore, wrongOf};
+ghost use Rattle.line_control.specs.Ordering.{AddsOne, OneMore, refusedOf};
 
 // Why a control line is refused: 23, or a fault in its macro with the place.
 pub enum Why {
     BadControl,
-    InMacro(Fault, usize),
+    InMacro(FileFault, usize),
 }
 
 // What a control line comes to.
 pub enum Order {
     Taken,
-    Wrong(Why),
+    Refused(Why),
 }
 
 // A fault handed on. A table is never handed here.
-fn wrong_of(reading: Reading) -> Order
-    ensures { λ r. ⌜ r ≡ wrongOf reading ⌝ }
+fn refused_of(reading: Reading) -> Order
+    ensures { λ r. ⌜ r ≡ refusedOf reading ⌝ }
 {
     match reading {
-        Reading::Table(_) => Order::Wrong(Why::BadControl),
-        Reading::Refused(f, p) => Order::Wrong(Why::InMacro(f, p)),
+        Reading::Table(_) => Order::Refused(Why::BadControl),
+        Reading::Refused(f, p) => Order::Refused(Why::InMacro(f, p)),
     }
 }
 
@@ -50,7 +50,7 @@ fn one_more(table: &mut [u8], count: usize, n: usize) -> Order
     }
     let at = 1024 * count;
     clear(table, at, 98304 - at);
-    Order::Wrong(Why::BadControl)
+    Order::Refused(Why::BadControl)
 }
 
 // "`$MACRO` and the bytes after it, read as a macro file of one macro, adds the newest."
@@ -60,12 +60,12 @@ fn add_macro(table: &mut [u8], count: usize, rest: &[u8]) -> Order
 {
     let reading = read_onto(rest, table, count);
     let Reading::Table(n) = reading else {
-        return wrong_of(reading);
+        return refused_of(reading);
     };
     one_more(table, count, n)
 }
 
-// Carries out a control line. A wrong one leaves table and state as they were.
+// Carries out a control line. A refused one leaves table and state as they were.
 pub fn control(table: &mut [u8], count: usize, state: &mut [u8], line: &[u8]) -> Order
     requires { ⌜ Counted (now table) count × IsState (now state) × Bytes (now line) ⌝ }
     ensures { λ r. ⌜ Orders (now (table .entry)) (now (table .exit)) (now (state .entry)) (now (state .exit)) count (now (line .entry)) r ⌝ }

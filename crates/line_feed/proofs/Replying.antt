@@ -27,7 +27,7 @@ use Rattle.line_control.specs.Contract.{refusalOf as controlRefusal}
 use Rattle.line_control.specs.declared.Why.{Why as ControlWhy}
 use Rattle.line_control.specs.declared.Why.the-variants.{BadControl, InMacro}
 use Rattle.line_control.specs.declared.Order.{Order as Obeyed}
-use Rattle.line_control.specs.declared.Order.the-variants.{Taken, Wrong}
+use Rattle.line_control.specs.declared.Order.the-variants.{Taken, Refused as Wrong}
 use Rattle.line_passes.specs.Contract.{Run, Left, Started, Comes, Lies, LineLeft, Runs}
 use Rattle.line_passes.specs.Contract.{refusalOf as workRefusal}
 use Rattle.line_passes.specs.declared.Why.{Why as WorkWhy}

@@ -14,7 +14,7 @@ use Rattle.form_state.specs.Form.{stateBytes}
 use Rattle.form_state.specs.Access.{Holds, IsState}
 use Rattle.line_memory.specs.Memory.{Memories, Feeding, IsTable, Counted}
 use Rattle.line_control.specs.declared.Order.{Order}
-use Rattle.line_control.specs.declared.Order.the-variants.{Taken, Wrong}
+use Rattle.line_control.specs.declared.Order.the-variants.{Taken, Refused as Wrong}
 use Rattle.line_control.specs.declared.Why.{Why as ControlWhy}
 use Rattle.line_control.specs.declared.Why.the-variants.{BadControl, InMacro}
 use Rattle.line_passes.specs.Contract.{Left, Comes, Lies}

@@ -104,7 +104,7 @@ fn ruled(
 {
     let order = control(table, count, after, line);
     keep(state, after, order);
-    let Order::Wrong(w) = order else {
+    let Order::Refused(w) = order else {
         lay_out(output, &line[..0]);
         return Fed::Control(begun);
     };

@@ -19,7 +19,7 @@ use Rattle.form_state.specs.Access.{IsState}
 use Rattle.pass_replace.specs.Contract.{IsSlot}
 use Rattle.pass_one.specs.Contract.{Lent, Passes}
 use Rattle.pass_one.specs.Contract.{Comes as PassComes}
-use Rattle.refusals.specs.declared.Fault.{Fault}
+use Rattle.refusals.specs.declared.WorkFault.{WorkFault}
 use Rattle.pass_moment.specs.declared.Passed.{Passed}
 use Rattle.pass_moment.specs.declared.Passed.the-variants.{Over as Passing, Refused as Refuses}
 use Rattle.line_memory.specs.Memory.{IsTable, padded}
@@ -142,7 +142,7 @@ module _ {g : Given} {m : Memories} {a : Stand} (y : Ready g m a) where
           }
 
       module _ {b′ nw′ mk′ : List ℕ} {r : Passed} (p : Passes (slotPart (g .table) k) (take (a .size) (m .text)) (m .state) b′ (m .new) nw′ (m .marks) mk′ r) where
-        step-refused : {f : Fault} {n : ℕ} → r ≡ Refuses f n → Steps g m (record { state = b′; text = m .text; new = nw′; marks = mk′; flags = m .flags }) a (Over (Refused (AtWork f) (a .begun + 1)))
+        step-refused : {f : WorkFault} {n : ℕ} → r ≡ Refuses f n → Steps g m (record { state = b′; text = m .text; new = nw′; marks = mk′; flags = m .flags }) a (Over (Refused (AtWork f) (a .begun + 1)))
         step-refused {f} {n} j =
             let p₂ = done-as p (Refuses f n) j in
             record {
@@ -273,7 +273,7 @@ module _ {tb tx nw fl : List ℕ} {r : Passed} {on : Stand} (y : Followed tb tx 
   line-fits = omega (arith, length-take-le n nw new-fits, new-within, y .text)
 
 module _ {tb tx nw fl : List ℕ} {count : ℕ} {r : Passed} {on : Stand} where
-  pub after-refused : {x : Fault} {n : ℕ} → r ≡ Refuses x n → Follows tb count tx tx nw fl fl r on (Over (Refused (AtWork x) (on .begun)))
+  pub after-refused : {x : WorkFault} {n : ℕ} → r ≡ Refuses x n → Follows tb count tx tx nw fl fl r on (Over (Refused (AtWork x) (on .begun)))
   after-refused e = rw e (record { by = record { next = refl; line = refl; closed = refl } })
 
   module _ {o : Bool} {n : ℕ} (e : r ≡ Passing o n) where

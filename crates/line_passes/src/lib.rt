@@ -5,7 +5,7 @@ mod slots;
 use kinds::kind_table;
 use line_memory::lay_out;
 use passes::all_passes;
-use refusals::Fault;
+use refusals::WorkFault;
 ghost use mathlib.Core.Path.{_≡_};
 ghost use Rattle.line_passes.specs.Contract.{Started, Runs, RunsTo};
 ghost use Rattle.line_passes.specs.Passing.{Begun, runOf, isRefused};
@@ -13,7 +13,7 @@ ghost use Rattle.line_passes.specs.Passing.{Begun, runOf, isRefused};
 // Why the table at work refuses a line: 31, or a pass's fault.
 pub enum Why {
     BudgetUsedUp,
-    AtWork(Fault),
+    AtWork(WorkFault),
 }
 
 // How a line ends: done, with its length and whether it had an occurrence; a control line, with its length; or refused. Last the passes begun.

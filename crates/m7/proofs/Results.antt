@@ -28,14 +28,14 @@ use Rattle.form_state.specs.Form.{stateBytes, stateForm}
 use Rattle.form_state.proofs.Held.{octets-of}
 use Rattle.read_scan.specs.Scan.{faultOf}
 use Rattle.read_file.specs.File.{Lent, Onto}
-use Rattle.read_scan.specs.declared.Fault.{Fault}
+use Rattle.read_scan.specs.declared.FileFault.{FileFault}
 use Rattle.read_file.specs.declared.Reading.{Reading}
 use Rattle.read_file.specs.declared.Reading.the-variants.{Table as TableOf, Refused as NoTable}
 use Rattle.write_file.specs.Contract.{Reply, meaning, laidOut, SomeTable, WritesOut}
 use Rattle.write_file.specs.Contract.{reply as replyOf}
 use Rattle.write_file.specs.Contract.Reply.{size, refusal}
 use Rattle.write_file.specs.Slots.{refusalOf, Holds}
-use Rattle.write_file.specs.declared.Fault.{Fault as WritingFault}
+use Rattle.write_file.specs.declared.WritingFault.{WritingFault}
 use Rattle.write_file.specs.declared.Answer.{Answer as Writing}
 use Rattle.write_file.specs.declared.Answer.the-variants.{Written as WrittenOut, Refused as NotWritten}
 use Rattle.line_memory.specs.Memory.{padded}
@@ -98,7 +98,7 @@ module _ (s z made : List ℕ) (r : Reading) (zeros : z ≡ replicate 98304 0) (
     read-taken old l f g = gives (reads-sized s old l ∙ ap (ofReading old) (onto .1)) (g ∙ ap (reply 0 0) (onto .2)) (f ∙ sym (onto .3))
 
   -- a refusal with its place
-  module _ {f : Fault} {q : ℕ} (e : r ≡ NoTable f q) where
+  module _ {f : FileFault} {q : ℕ} (e : r ≡ NoTable f q) where
     not-read : readOnto [] s ≡ refusedAt (faultOf f) q
     not-read = subst (Onto s 0 z made) e given [] none-accepted (none-form ∙ sym zeros) refl .0
 

@@ -5,7 +5,7 @@ use crate::answers::refusal;
 use crate::answers::taken;
 use line_answer::Answer;
 use write_file::Answer as Writing;
-use write_file::Fault as WritingFault;
+use write_file::WritingFault;
 ghost use mathlib.Core.Path.{_≡_};
 ghost use Rattle.macros.specs.Refusals.{fileNumber};
 ghost use Rattle.write_file.specs.Slots.{refusalOf};

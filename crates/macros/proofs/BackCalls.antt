@@ -9,7 +9,7 @@ use lib.ListN.{length}
 use lib.Dec.{eqb, ltb}
 use borrow.Author.Tests.{eqb-true, le-leb, lt-leb, lt-ltb, ltb-false, ltb-true, ne-eqb}
 use Rattle.macros.specs.Bounds.{mostEntryBytes}
-use Rattle.macros.specs.Macro.{Action, Call, Mark, Move, Sign, among, digit, lower, markByte, pick, tags, within}
+use Rattle.macros.specs.Macro.{Action, Call, Mark, Move, Sign, among, digit, asciiLower, markByte, pick, tags, within}
 use Rattle.macros.specs.Macro.Mark.{counter, stack}
 use Rattle.macros.specs.Macro.Sign.{minus, plus}
 use Rattle.macros.specs.Macro.Move.{after, before, still}
@@ -70,12 +70,12 @@ call-closed pl ph c b s e r = move (calling pl ph) b (behindCall pl c) s (rw (e,
 -- a lower case letter is nothing else
 pub record Lowercase (i : ℕ) : Type 0 where
   pub slash : eqb i 47 ≡ false
-  pub low : lower i ≡ true
+  pub low : asciiLower i ≡ true
   pub figure : digit i ≡ false
   pub sign : isSign i ≡ false
 
 lowercase : (i : ℕ) → Letter i → Lowercase i
-unfolding lower digit within isSign signOf
+unfolding asciiLower digit within isSign signOf
 lowercase i g =
     record {
       slash = ne-eqb i 47 (omega arith);

@@ -7,7 +7,7 @@ use native.Mathlib.Omega.{arith}
 use lib.ListN.{length, length-reverse}
 use lib.Dec.{eqb}
 use borrow.Author.Tests.{eqb-true, le-leb, lt-ltb, ne-eqb}
-use Rattle.macros.specs.Macro.{Mark, Member, PatternUnit, Piece, among, depth, digit, elements, isRange, lower, markByte, pick, tags, upper, within}
+use Rattle.macros.specs.Macro.{Mark, Member, PatternUnit, Piece, among, depth, digit, elements, isRange, asciiLower, markByte, pick, tags, asciiUpper, within}
 use Rattle.macros.specs.Macro.Closure.{once, oneOrMore, zeroOrMore}
 use Rattle.macros.specs.Macro.Member.{range, single}
 use Rattle.macros.specs.Macro.Mark.{counter, stack}
@@ -243,7 +243,7 @@ module _ (y : Style) (fair : Fair y) (ps : List Piece) (neg : Bool) where
 
   read-range : (c : Before) (l : Last) (acc : List Member) (a z : ℕ) → Fits c l → isRange a z ≡ true
       → Reads (members ps neg l acc) (a ∷ 45 ∷ z ∷ []) (members ps neg free (range a z ∷ membersAtEnd l acc))
-  unfolding skips partByte membersByte breaks among pick dashes dashed newMember membersAtEnd alnum digit upper lower within spared
+  unfolding skips partByte membersByte breaks among pick dashes dashed newMember membersAtEnd alnum digit asciiUpper asciiLower within spared
   read-range c l acc a z f e =
       let p = first-alnum a z e in
       let q = second-alnum a z e in
@@ -276,7 +276,7 @@ open-class ps [] t h r = absurd h
 open-class ps (b ∷ w) t h (next {st′ = u} f e r) = move (opened ps) b u refl (rw h e) r
 
 first-byte : (y : Style) (isLast : Bool) (m : Member) → FormedMember m → Tilde-less (memberBytes y bracket isLast m)
-unfolding memberBytes Tilde-less byte needsClass joinsClass alnum digit upper lower among within spared
+unfolding memberBytes Tilde-less byte needsClass joinsClass alnum digit asciiUpper asciiLower among within spared
 first-byte y isLast (range a z) g = absent (126 ∷ []) a 126 (apart alnum (126 ∷ []) a (first-alnum a z g) refl) refl
 first-byte y isLast (single a) g = by (y .classToo a) (needsClass bracket isLast a) refl
   where
@@ -311,7 +311,7 @@ module _ (y : Style) (fair : Fair y) (h : Joinable) (ps : List Piece) where
   read-mark counter = next refl (settles h ps 35 (loose h 35 refl refl refl) refl) (next refl refl stay)
 
   read-call-of : (m : Mark) (i : ℕ) → Letter i → Reads (pattern h ps) (markByte m ∷ 40 ∷ i ∷ 41 ∷ []) (pattern (unit (callOf m i)) (settled h ps))
-  unfolding skips partByte pick within lower
+  unfolding skips partByte pick within asciiLower
   read-call-of m i g =
       then (read-mark m)
       (move (patternCall m (settled h ps)) i (patternCalled m (settled h ps) i) (ne-eqb i 47 (omega arith)) (rw (le-leb 97 i (g .0), le-leb i 122 (g .1))) (next refl refl stay))

@@ -12,7 +12,7 @@ use borrow.Author.Tests.{eqb-false, le-ltb, ltb-true}
 use Rattle.macros.specs.Bounds.{mostFileBytes, mostMacroBytes, mostMacros}
 use Rattle.macros.specs.Refusals.{FileRefusal}
 use Rattle.macros.specs.Refusals.FileRefusal.{fileTooLong, zeroByte}
-use Rattle.macros.specs.Macro.{Macro, Mark, Table, among, lower, pick}
+use Rattle.macros.specs.Macro.{Macro, Mark, Table, among, asciiLower, pick}
 use Rattle.macros.specs.Macro.PatternUnit.{callOf, literal}
 use Rattle.macros.specs.Macro.Action.{text}
 use Rattle.macros.specs.Formed.{Byte, Bytes, Formed, Octets}
@@ -44,7 +44,7 @@ gap-none = refl
 
 -- every byte
 keeps : (st : Part) (n b : ℕ) → Byte b → (skips st && eqb b 47) ≡ false → load st ≤ n → Fit st → Good n (partByte st b)
-unfolding partByte skips symbolByte quoteByte tagByte load Fit lower slack settled leavesUnit gap withMark slackMark Done costActions costText figures
+unfolding partByte skips symbolByte quoteByte tagByte load Fit asciiLower slack settled leavesUnit gap withMark slackMark Done costActions costText figures
 keeps (pattern h ps) n b g s l f = pattern-good n b g h ps s l f
 keeps (patternEscape ps) n b g s l f =
     let c = escaped b in

@@ -8,7 +8,7 @@ use native.Mathlib.Omega.{arith}
 use lib.ListN.{length, length-append, length-reverse}
 use lib.Dec.{eqb, ltb}
 use borrow.Author.Tests.{eqb-true, lt-ltb, ltb-false, ltb-true}
-use Rattle.macros.specs.Macro.{Action, Call, Mark, Move, among, digit, lower, markByte, pick, tags}
+use Rattle.macros.specs.Macro.{Action, Call, Mark, Move, among, digit, asciiLower, markByte, pick, tags}
 use Rattle.macros.specs.Macro.Mark.{counter, stack}
 use Rattle.macros.specs.Macro.Move.{after, before, still}
 use Rattle.macros.specs.Macro.Call.{insert, setIncrement, setTo, storeTag, storeText}
@@ -137,8 +137,8 @@ no-command true true e f = clash e refl
 no-command true false e f = clash f refl
 no-command false q e f = clash e refl
 
-pub low-name : (b : ℕ) → lower b ≡ true → Letter b
-unfolding lower
+pub low-name : (b : ℕ) → asciiLower b ≡ true → Letter b
+unfolding asciiLower
 low-name b e = (within-left 97 122 b e, within-right 97 122 b e)
 
 number-good : (cmd : Bool) (n : ℕ) (c : ℕ → Call) (o : Option ℕ) → ((k : ℕ) → length (callBytes spellText (c k)) ≡ 5 + figures (some k)) → 4 + figures o ≤ n

@@ -7,7 +7,7 @@ use native.Mathlib.Omega.{arith}
 use lib.ListN.{length, length-append}
 use lib.Dec.{eqb, leb}
 use borrow.Author.Tests.{eqb-true, leb-true, not-true}
-use Rattle.macros.specs.Macro.{among, digit, isRange, lower, upper, within}
+use Rattle.macros.specs.Macro.{among, digit, isRange, asciiLower, asciiUpper, within}
 use Rattle.macros.specs.Read.{breaks}
 
 pub clash : {A : Type 0} {b : Bool} → b ≡ true → b ≡ false → A
@@ -123,7 +123,7 @@ within-right a z b e = leb-true b z (and-right (leb a b) (leb b z) e)
 
 -- a range's ends are letters or digits
 unfoldable pub alnum : ℕ → Bool
-alnum b = digit b || (upper b || lower b)
+alnum b = digit b || (asciiUpper b || asciiLower b)
 
 left-of : (a x b y c z : Bool) → (a && x || (b && y || c && z)) ≡ true → (a || (b || c)) ≡ true
 left-of true x b y c z e = refl
@@ -139,8 +139,8 @@ right-of a false b false c false e = simp and-false at e
 
 pub first-alnum : (a z : ℕ) → isRange a z ≡ true → alnum a ≡ true
 unfolding isRange alnum
-first-alnum a z e = left-of (digit a) (digit z) (upper a) (upper z) (lower a) (lower z) (and-left _ (leb a z) e)
+first-alnum a z e = left-of (digit a) (digit z) (asciiUpper a) (asciiUpper z) (asciiLower a) (asciiLower z) (and-left _ (leb a z) e)
 
 pub second-alnum : (a z : ℕ) → isRange a z ≡ true → alnum z ≡ true
 unfolding isRange alnum
-second-alnum a z e = right-of (digit a) (digit z) (upper a) (upper z) (lower a) (lower z) (and-left _ (leb a z) e)
+second-alnum a z e = right-of (digit a) (digit z) (asciiUpper a) (asciiUpper z) (asciiLower a) (asciiLower z) (and-left _ (leb a z) e)

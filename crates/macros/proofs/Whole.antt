@@ -7,7 +7,7 @@ use Prim.Native.Nat.{_%_, _+_, _/_, _<_, suc, zero, ℕ, _≤_}
 use native.Mathlib.Omega.{arith}
 use lib.Dec.{eqb, ltb}
 use borrow.Author.Tests.{ltb-false, ltb-true}
-use Rattle.macros.specs.Macro.{Action, Call, Closure, Macro, Mark, Member, Move, PatternUnit, Piece, Symbol, among, digit, lower, markByte, pick, upper}
+use Rattle.macros.specs.Macro.{Action, Call, Closure, Macro, Mark, Member, Move, PatternUnit, Piece, Symbol, among, digit, asciiLower, markByte, pick, asciiUpper}
 use Rattle.macros.specs.Macro.Closure.{once, oneOrMore, zeroOrMore}
 use Rattle.macros.specs.Macro.Member.{range, single}
 use Rattle.macros.specs.Macro.Mark.{counter, stack}
@@ -53,10 +53,10 @@ whole-digits (suc k) n h = by (ltb n 10) refl (λ g. whole-digits k (n / 10) g)
     by false e w = let g : 10 ≤ n = ltb-false n 10 e in whole-append (digitsBy k (n / 10)) ((48 + n % 10) ∷ []) (w (omega arith)) (omega arith, tt)
 
 alnum-byte : (b : ℕ) → alnum b ≡ true → Byte b
-unfolding alnum digit upper lower
-alnum-byte b e = by (digit b) (upper b) (lower b) refl refl refl e
+unfolding alnum digit asciiUpper asciiLower
+alnum-byte b e = by (digit b) (asciiUpper b) (asciiLower b) refl refl refl e
   where
-    by : (x y z : Bool) → digit b ≡ x → upper b ≡ y → lower b ≡ z → (x || (y || z)) ≡ true → Byte b
+    by : (x y z : Bool) → digit b ≡ x → asciiUpper b ≡ y → asciiLower b ≡ z → (x || (y || z)) ≡ true → Byte b
     by true y z f g h e = omega (arith, within-left 48 57 b f, within-right 48 57 b f)
     by false true z f g h e = omega (arith, within-left 65 90 b g, within-right 65 90 b g)
     by false false true f g h e = omega (arith, within-left 97 122 b h, within-right 97 122 b h)

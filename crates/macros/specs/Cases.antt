@@ -5,7 +5,7 @@ use mathlib.Core.List.{List, [], _∷_, _++_}
 use lib.ListN.{length, replicate}
 use Prim.Native.String.{String}
 use Prim.Native.Char.{Char, code}
-use Rattle.macros.specs.Macro.{Table, pick, among, within, upper, lower, digit, isRange, markByte, tags, elements, depth}
+use Rattle.macros.specs.Macro.{Table, pick, among, within, asciiUpper, asciiLower, digit, isRange, markByte, tags, elements, depth}
 pub use Rattle.macros.specs.Quoted.{bytes}
 use Rattle.macros.specs.Formed.{limit, numberFits}
 use Rattle.macros.specs.Refusals.{hostNumber, lineNumber, fileNumber, workNumber, number, place}
@@ -26,7 +26,7 @@ use Rattle.macros.specs.Write.Written.{file, refused}
 
 -- opens Macro and Formed
 unfoldable pub opensTests : ℕ
-unfolding pick among within upper lower digit isRange markByte tags elements depth limit numberFits
+unfolding pick among within asciiUpper asciiLower digit isRange markByte tags elements depth limit numberFits
 opensTests = 0
 
 -- opens Refusals

@@ -88,12 +88,12 @@ unfoldable pub within : ℕ → ℕ → ℕ → Bool
 within a z b = leb a b && leb b z
 
 -- `A` to `Z`
-unfoldable pub upper : ℕ → Bool
-upper = within (code "A") (code "Z")
+unfoldable pub asciiUpper : ℕ → Bool
+asciiUpper = within (code "A") (code "Z")
 
 -- `a` to `z`
-unfoldable pub lower : ℕ → Bool
-lower = within (code "a") (code "z")
+unfoldable pub asciiLower : ℕ → Bool
+asciiLower = within (code "a") (code "z")
 
 -- `0` to `9`
 unfoldable pub digit : ℕ → Bool
@@ -101,7 +101,7 @@ digit = within (code "0") (code "9")
 
 -- "Range ends are both lower, both upper or both digits, rising or equal."
 unfoldable pub isRange : ℕ → ℕ → Bool
-isRange a z = (digit a && digit z || (upper a && upper z || lower a && lower z)) && leb a z
+isRange a z = (digit a && digit z || (asciiUpper a && asciiUpper z || asciiLower a && asciiLower z)) && leb a z
 
 -- the byte of a mark
 unfoldable pub markByte : Mark → ℕ

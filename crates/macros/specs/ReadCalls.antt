@@ -9,7 +9,7 @@ use Prim.Native.Char.{code}
 use Rattle.macros.specs.Quoted.{_is_}
 use Rattle.macros.specs.Bounds.{mostEntryBytes}
 use Rattle.macros.specs.Refusals.FileRefusal.{incomplete, badCall}
-use Rattle.macros.specs.Macro.{Mark, Sign, Move, Call, pick, lower, digit, tags}
+use Rattle.macros.specs.Macro.{Mark, Sign, Move, Call, pick, asciiLower, digit, tags}
 use Rattle.macros.specs.Macro.Mark.{stack, counter}
 use Rattle.macros.specs.Macro.Sign.{plus, minus}
 use Rattle.macros.specs.Macro.Move.{still, before, after}
@@ -63,12 +63,12 @@ unfoldable pub callByte : (cmd : Bool) → Phase → ℕ → Turn
 -- behind `&(` here may stand a digit, a sign or a letter
 callByte cmd (begun stack) b =
     pick (digit b) (into (tagged (b - code "0")))
-    (pick (isSign b) (into (signed stack (signOf b))) (pick (lower b) (into (named stack b still)) wrong))
+    (pick (isSign b) (into (signed stack (signOf b))) (pick (asciiLower b) (into (named stack b still)) wrong))
 -- behind `#(` here may stand a sign, but not in a command, or a letter
 callByte cmd (begun counter) b =
-    pick (isSign b && not cmd) (into (signed counter (signOf b))) (pick (lower b) (into (named counter b still)) wrong)
+    pick (isSign b && not cmd) (into (signed counter (signOf b))) (pick (asciiLower b) (into (named counter b still)) wrong)
 -- behind a sign here may stand a letter
-callByte cmd (signed m s) b = pick (lower b) (into (named m b (before s))) wrong
+callByte cmd (signed m s) b = pick (asciiLower b) (into (named m b (before s))) wrong
 -- behind `&(i` here may stand `)`, but not in a command, or `:`; without a sign also `=` or a sign
 callByte cmd (named stack i v) b =
     pick (b is ")" && not cmd) (closed (insert stack i v))
@@ -90,9 +90,9 @@ callByte cmd (increment i o) b =
 -- behind `&(n` here may stand a digit or `,`
 callByte cmd (tagged n) b = pick (digit b) (into (tagged (andDigit (some n) b))) (pick (b is ",") (into (comma n)) wrong)
 -- behind `&(n,` here may stand a sign or a letter
-callByte cmd (comma n) b = pick (isSign b) (into (tagSigned n (signOf b))) (pick (lower b) (into (tagNamed n b still)) wrong)
+callByte cmd (comma n) b = pick (isSign b) (into (tagSigned n (signOf b))) (pick (asciiLower b) (into (tagNamed n b still)) wrong)
 -- behind `&(n,` and a sign here may stand a letter
-callByte cmd (tagSigned n s) b = pick (lower b) (into (tagNamed n b (before s))) wrong
+callByte cmd (tagSigned n s) b = pick (asciiLower b) (into (tagNamed n b (before s))) wrong
 -- behind `&(n,i` here may stand `)` or, without a sign, a sign
 callByte cmd (tagNamed n i v) b =
     pick (b is ")") (closed (storeTag n i v)) (pick (isSign b && isStill v) (into (tagNamed n i (after (signOf b)))) wrong)

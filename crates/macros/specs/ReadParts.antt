@@ -6,7 +6,7 @@ use mathlib.Core.List.{List, [], _∷_, reverse}
 use mathlib.Core.Option.{Option, none, some}
 use Rattle.macros.specs.Quoted.{_is_}
 use Rattle.macros.specs.Refusals.FileRefusal.{incomplete}
-use Rattle.macros.specs.Macro.{Mark, Piece, Call, Action, Macro, pick, lower}
+use Rattle.macros.specs.Macro.{Mark, Piece, Call, Action, Macro, pick, asciiLower}
 use Rattle.macros.specs.Macro.Mark.{stack, counter}
 use Rattle.macros.specs.Macro.PatternUnit.{literal, callOf}
 use Rattle.macros.specs.Macro.Action.{text}
@@ -55,7 +55,7 @@ partByte (patternEscape ps) b = on (pattern (unit (literal (escaped b))) ps)
 partByte (opened ps) b = openedByte ps b
 partByte (members ps neg l ms) b = membersByte ps neg l ms b
 partByte (membersEscape ps neg l ms) b = newMember ps neg l ms (escaped b)
-partByte (patternCall m ps) b = pick (lower b) (on (patternCalled m ps b)) (otherwise (patternCall m ps) b)
+partByte (patternCall m ps) b = pick (asciiLower b) (on (patternCalled m ps b)) (otherwise (patternCall m ps) b)
 partByte (patternCalled m ps i) b = pick (b is ")") (on (pattern (unit (callOf m i)) ps)) (otherwise (patternCalled m ps i) b)
 partByte (awaitSymbol ps) b = symbolByte ps b
 partByte (awaitQuote f) b = quoteByte f b

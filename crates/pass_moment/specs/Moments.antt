@@ -6,8 +6,8 @@ use mathlib.Core.Bool.{Bool, true, false}
 use mathlib.Core.List.{List}
 use lib.ListN.{length, getD, set}
 use Rattle.macros.specs.Bounds.{mostLineBytes}
-use Rattle.refusals.specs.declared.Fault.{Fault}
-use Rattle.refusals.specs.declared.Fault.the-variants.{NewLineTooLong}
+use Rattle.refusals.specs.declared.WorkFault.{WorkFault}
+use Rattle.refusals.specs.declared.WorkFault.the-variants.{NewLineTooLong}
 use Rattle.refusals.specs.declared.Outcome.{Outcome}
 use Rattle.refusals.specs.declared.Outcome.the-variants.{Made, Refused as MadeRefused}
 use Rattle.pass_moment.specs.declared.Passed.{Passed}
@@ -29,7 +29,7 @@ abbrev pub movedTo : Moment → ℕ → Moment
 movedTo a n = record { place = a .place + 1; last = a .last; size = n; occurred = a .occurred; refusal = a .refusal }
 
 -- "The table at work, at the first such step": no place is left, and the new line has k bytes; `occurred` is not read after a refusal
-abbrev pub refusedAt : Fault → ℕ → Moment
+abbrev pub refusedAt : WorkFault → ℕ → Moment
 refusedAt f k = record { place = pastPlaces; last = pastPlaces; size = k; occurred = true; refusal = RefusedBy f }
 
 -- part 5: "A match .. makes the replacement and goes on at its end", which is q

@@ -1,6 +1,6 @@
 // Moments of a pass (01, part 5): from place to place, and what it comes to.
-use refusals::Fault;
 use refusals::Outcome;
+use refusals::WorkFault;
 ghost use Prim.Native.Nat.{_≤_};
 ghost use mathlib.Core.Path.{_≡_};
 ghost use lib.ListN.{length};
@@ -10,13 +10,13 @@ ghost use Rattle.pass_moment.specs.Moments.{startAt, movedTo, refusedAt,
 // Whether there was an occurrence, and the bytes of the new line; or a refusal, with the bytes that the new line has by then.
 pub enum Passed {
     Over(bool, usize),
-    Refused(Fault, usize),
+    Refused(WorkFault, usize),
 }
 
 // Whether a step of the pass was refused.
 pub enum Refusal {
     NotRefused,
-    RefusedBy(Fault),
+    RefusedBy(WorkFault),
 }
 
 // A moment of a pass: the place to be tried next, the end of the match just made, the bytes of the new line,
@@ -43,7 +43,7 @@ pub fn start() -> Moment
 }
 
 // After a refusal no place is left: 1,055 lies past every place.
-fn refused(f: Fault, k: usize) -> Moment
+fn refused(f: WorkFault, k: usize) -> Moment
     ensures { λ r. ⌜ r ≡ refusedAt f k ⌝ }
 {
     Moment {
@@ -97,7 +97,7 @@ fn copy_byte(line: &[u8], at: Moment, out: &mut [u8]) -> Moment
         return moved(at, n);
     }
     if 1054 <= n {
-        return refused(Fault::NewLineTooLong, n);
+        return refused(WorkFault::NewLineTooLong, n);
     }
     out[n] = line[p];
     moved(at, n + 1)

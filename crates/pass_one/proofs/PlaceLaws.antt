@@ -25,8 +25,8 @@ use Rattle.lines.proofs.CopyLaws.{ends-on, ends-inside}
 use Rattle.lines.proofs.MatchLaws.{Matches, match-matches}
 use Rattle.form_state.specs.Access.{IsState}
 use Rattle.refusals.specs.Faults.{refusalOf}
-use Rattle.refusals.specs.declared.Fault.{Fault}
-use Rattle.refusals.specs.declared.Fault.the-variants.{NewLineTooLong}
+use Rattle.refusals.specs.declared.WorkFault.{WorkFault}
+use Rattle.refusals.specs.declared.WorkFault.the-variants.{NewLineTooLong}
 use Rattle.refusals.specs.declared.Outcome.{Outcome}
 use Rattle.refusals.specs.declared.Outcome.the-variants.{Made, Refused as MadeRefused}
 use Rattle.pass_replace.specs.Contract.{EndsFrom, IsSlot, IsDivided, IsMoment, Lent, Occurs, doneOf, sizeOf}
@@ -328,7 +328,7 @@ module _ (s items kinds t b out marks ends : List ℕ) (a : Moment) (y : AtPlace
           grown (Made k) v h z = omega arith
           grown (MadeRefused f k) v h z = omega arith
 
-      act-refused : (f : Fault) (k : ℕ) → Occurs s ends′ t b b′ out out′ (a .size) (MadeRefused f k) → Acted (refusedAt f k) out′
+      act-refused : (f : WorkFault) (k : ℕ) → Occurs s ends′ t b b′ out out′ (a .size) (MadeRefused f k) → Acted (refusedAt f k) out′
       act-refused f k oc =
           let h = y .short in
           let l = y .place in

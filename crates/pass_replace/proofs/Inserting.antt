@@ -32,7 +32,7 @@ use Rattle.pass_replace.specs.Moments.{Does, Inserts, Changes, Onward, D
 use Rattle.pass_replace.specs.declared.tags.Span.{Span}
 use Rattle.pass_replace.specs.declared.texts.Text.{Text}
 use Rattle.pass_replace.specs.declared.texts.Text.the-variants.{Tag, Entry}
-use Rattle.refusals.specs.declared.Fault.{Fault}
+use Rattle.refusals.specs.declared.WorkFault.{WorkFault}
 use Rattle.refusals.specs.declared.Outcome.{Outcome}
 use Rattle.refusals.specs.declared.Outcome.the-variants.{Made, Refused}
 use Rattle.pass_replace.proofs.Braces.{cut-is}
@@ -164,7 +164,7 @@ module _ (tag t : List ℕ) {out b b₁ : List ℕ} {k : ℕ} {r : Outcome} wher
 
 -- the access between its two moves
 module _ (tag t : List ℕ) {out b b₁ : List ℕ} {k : ℕ} {r : Outcome} (l : k ≤ mostLineBytes) (p : Changes (movesIn 1 (getD t 0 0) (getD t 1 0)) b k b₁ r) where
-  pub action-before : {fault : Fault} {j : ℕ} → r ≡ Refused fault j → Does (actionIn tag t) out b k out b₁ r
+  pub action-before : {fault : WorkFault} {j : ℕ} → r ≡ Refused fault j → Does (actionIn tag t) out b k out b₁ r
   unfolding actionIn
   action-before e = does-stop (movesIn 3 (getD t 0 0) (getD t 1 0)) (does-stop (accessIn tag t) (changes-does out p l) e) e
 
@@ -235,7 +235,7 @@ module _ (f : List ℕ → Work → Done) {size k : ℕ} (items : List ℕ) {out
         ∙ ap (λ (x : List ℕ). f x w >>= actIn f 0 (drop (actionSize x) (drop at items))) (sym e)
         ∙ ap (λ (x : List ℕ). f t w >>= actIn f 0 x) (drop-drop (actionSize t) at items)
 
-    pub rest-stop : {fault : Fault} {j : ℕ} → r ≡ Refused fault j → Does (actIn f 0 items) out b size out₂ b₂ r
+    pub rest-stop : {fault : WorkFault} {j : ℕ} → r ≡ Refused fault j → Does (actIn f 0 items) out b size out₂ b₂ r
     rest-stop g = rest .on out₂ b₂ r (does-by cons (does-stop (actIn f 0 (drop (at + actionSize t) items)) p g))
 
     pub rest-next : {j n : ℕ} → r ≡ Made j → n ≡ actionSize t → Rest f items out b size (drop (at + n) items) out₂ b₂ j

@@ -20,7 +20,7 @@ use Rattle.form_state.specs.Access.{Holds, IsState, OfState, OfWork}
 use Rattle.form_table.specs.Actions.{textIn}
 use Rattle.pass_replace.specs.Acting.{markIn, movedIn, signIn, moveIn, movesIn, storedIn, setsIn}
 use Rattle.pass_replace.specs.Moments.{Kept, Changes}
-use Rattle.refusals.specs.declared.Fault.the-variants.{TagTooLong, PointerTooHigh, CounterTooHigh}
+use Rattle.refusals.specs.declared.WorkFault.the-variants.{TagTooLong, PointerTooHigh, CounterTooHigh}
 use Rattle.refusals.specs.declared.Outcome.{Outcome}
 use Rattle.refusals.specs.declared.Outcome.the-variants.{Made, Refused}
 use Rattle.pass_replace.proofs.Stepping.{changes-by, changes-none, changes-refused, changes-made}

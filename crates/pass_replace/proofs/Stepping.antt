@@ -14,8 +14,8 @@ use Rattle.form_state.specs.Access.{Holds, IsState, OfWork}
 use Rattle.refusals.specs.Faults.{refusalOf}
 use Rattle.pass_replace.specs.Contract.{sizeOf}
 use Rattle.pass_replace.specs.Moments.{Does, Room, Inserts, Kept, Changes, Onward}
-use Rattle.refusals.specs.declared.Fault.{Fault}
-use Rattle.refusals.specs.declared.Fault.the-variants.{NewLineTooLong}
+use Rattle.refusals.specs.declared.WorkFault.{WorkFault}
+use Rattle.refusals.specs.declared.WorkFault.the-variants.{NewLineTooLong}
 use Rattle.refusals.specs.declared.Outcome.{Outcome}
 use Rattle.refusals.specs.declared.Outcome.the-variants.{Made, Refused}
 
@@ -39,7 +39,7 @@ does-then {f} {g} {k} {j} {out} {b} {out₁} {b₁} {s = s} p e q =
       past = q .past ∙ past-on out₁ out z (p′ .past);
     }
 
-pub does-stop : (g : Work → Done) {f : Work → Done} {k j : ℕ} {out b out₁ b₁ : List ℕ} {r : Outcome} {fault : Fault} → Does f out b k out₁ b₁ r → r ≡ Refused fault j → Does (λ w. f w >>= g) out b k out₁ b₁ r
+pub does-stop : (g : Work → Done) {f : Work → Done} {k j : ℕ} {out b out₁ b₁ : List ℕ} {r : Outcome} {fault : WorkFault} → Does f out b k out₁ b₁ r → r ≡ Refused fault j → Does (λ w. f w >>= g) out b k out₁ b₁ r
 does-stop g {f} {k} {j} {out} {b} {out₁} {b₁} {r} {fault} p e =
     let p′ : Does f out b k out₁ b₁ (Refused fault j) = subst (λ (o : Outcome). Does f out b k out₁ b₁ o) e p in
     subst (λ (o : Outcome). Does (λ w. f w >>= g) out b k out₁ b₁ o) (sym e)
@@ -93,7 +93,7 @@ abbrev IsMade : Outcome → Type 0
 IsMade (Made k) = Unit {0}
 IsMade (Refused f k) = ⊥
 
-apart : {k j : ℕ} {fault : Fault} → Made k ≡ Refused fault j → ⊥
+apart : {k j : ℕ} {fault : WorkFault} → Made k ≡ Refused fault j → ⊥
 apart e = subst IsMade e tt
 
 pub onward-made : {f : Work → Done} {b b₁ : List ℕ} {s r : Outcome} {k : ℕ} → s ≡ Made k → Changes f b k b₁ r → Onward f b s b₁ r
@@ -103,7 +103,7 @@ onward-made {f} {b} {b₁} {s} {r} e p =
       refused = λ fault j g. absurd (apart (sym e ∙ g));
     }
 
-pub onward-stop : {f : Work → Done} {b : List ℕ} {s : Outcome} {fault : Fault} {j : ℕ} → s ≡ Refused fault j → Onward f b s b s
+pub onward-stop : {f : Work → Done} {b : List ℕ} {s : Outcome} {fault : WorkFault} {j : ℕ} → s ≡ Refused fault j → Onward f b s b s
 onward-stop e = record { made = λ k g. absurd (apart (sym g ∙ e)); refused = λ fault j g. (refl, refl) }
 
 pub does-onward : {f g : Work → Done} {k : ℕ} {out b out₁ b₁ b₂ : List ℕ} (s : Outcome) {r : Outcome} → Does f out b k out₁ b₁ s → Onward g b₁ s b₂ r → Does (λ w. f w >>= g) out b k out₁ b₂ r
@@ -116,7 +116,7 @@ pub changes-none : {b : List ℕ} {k : ℕ} → IsState b → Changes good b k b
 changes-none s = record { comes = λ w h. (w, refl, record { out = refl; size = refl }, h); state = s; size = refl }
 
 -- a refusal leaves the moment that it finds
-pub changes-refused : {f : Work → Done} {b : List ℕ} {k : ℕ} (fault : Fault) → IsState b → ((w : Work) → Holds b (w .state) → f w ≡ bad (refusalOf fault) w) → Changes f b k b (Refused fault k)
+pub changes-refused : {f : Work → Done} {b : List ℕ} {k : ℕ} (fault : WorkFault) → IsState b → ((w : Work) → Holds b (w .state) → f w ≡ bad (refusalOf fault) w) → Changes f b k b (Refused fault k)
 changes-refused fault s e = record { comes = λ w h. (w, e w h, record { out = refl; size = refl }, h); state = s; size = refl }
 
 -- a store makes the moment g

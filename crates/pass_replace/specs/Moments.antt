@@ -8,7 +8,7 @@ use Rattle.macros.specs.Write.{digits}
 use Rattle.lines.specs.Replacing.{Work, Done, puts}
 use Rattle.form_state.specs.Access.{Holds, IsState}
 use Rattle.pass_replace.specs.Contract.{IsMoment, doneOf, sizeOf}
-use Rattle.refusals.specs.declared.Fault.{Fault}
+use Rattle.refusals.specs.declared.WorkFault.{WorkFault}
 use Rattle.refusals.specs.declared.Outcome.{Outcome}
 use Rattle.refusals.specs.declared.Outcome.the-variants.{Made, Refused}
 
@@ -44,7 +44,7 @@ pub record Changes (f : Work → Done) (b : List ℕ) (k : ℕ) (b′ : List ℕ
 -- the step f behind the answer s: where that is a refusal, nothing is done
 pub record Onward (f : Work → Done) (b : List ℕ) (s : Outcome) (b′ : List ℕ) (r : Outcome) : Type 0 where
   pub made : (k : ℕ) → s ≡ Made k → Changes f b k b′ r
-  pub refused : (e : Fault) (k : ℕ) → s ≡ Refused e k → (b′ ≡ b) × (r ≡ s)
+  pub refused : (e : WorkFault) (k : ℕ) → s ≡ Refused e k → (b′ ≡ b) × (r ≡ s)
 
 -- the first n bytes are the digits
 pub record Digits (v : ℕ) (new : List ℕ) (n : ℕ) : Type 0 where

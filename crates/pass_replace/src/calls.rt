@@ -7,8 +7,8 @@ use crate::texts::is_within;
 use form_state::increment;
 use form_state::pointer;
 use form_state::value;
-use refusals::Fault;
 use refusals::Outcome;
+use refusals::WorkFault;
 ghost use mathlib.Core.Path.{_≡_};
 ghost use Prim.Native.Nat.{_≤_, _<_};
 ghost use lib.ListN.{getD};
@@ -49,7 +49,7 @@ fn move_pointer(state: &mut [u8], i: u8, up: bool, size: usize) -> Outcome
 {
     let n = moved(wide(pointer(state, i)), 1, up);
     if 20 < n {
-        return Outcome::Refused(Fault::PointerTooHigh, size);
+        return Outcome::Refused(WorkFault::PointerTooHigh, size);
     }
     set_pointer(state, i, n as u8);
     Outcome::Made(size)
@@ -62,7 +62,7 @@ fn move_value(state: &mut [u8], i: u8, up: bool, size: usize) -> Outcome
 {
     let n = moved(value(state, i), increment(state, i), up);
     if 999999999 < n {
-        return Outcome::Refused(Fault::CounterTooHigh, size);
+        return Outcome::Refused(WorkFault::CounterTooHigh, size);
     }
     set_value(state, i, n);
     Outcome::Made(size)
@@ -112,7 +112,7 @@ pub(crate) fn store(state: &mut [u8], i: u8, text: &[u8], size: usize) -> Outcom
     ensures { λ r. ⌜ Changes (stores i (now (text .entry))) (now (state .entry)) size (now (state .exit)) r ⌝ }
 {
     if 50 < text.len() {
-        return Outcome::Refused(Fault::TagTooLong, size);
+        return Outcome::Refused(WorkFault::TagTooLong, size);
     }
     set_entry(state, i, text);
     Outcome::Made(size)

@@ -3,7 +3,7 @@ use crate::texts::copy;
 use form_bytes::put_number;
 use form_items::clear;
 use form_state::entry_at;
-use read_bytes::place;
+use form_state::letter_number;
 ghost use Prim.Native.Nat.{_≤_};
 ghost use lib.ListN.{length};
 ghost use Rattle.macros.specs.Bounds.{mostEntries, mostEntryBytes, mostCounter};
@@ -16,7 +16,7 @@ pub(crate) fn set_pointer(state: &mut [u8], i: u8, n: u8)
     requires { ⌜ IsState (now state) × Letter i × Between 1 mostEntries n ⌝ }
     ensures { λ _. ⌜ OfWork (now (state .entry)) (λ w. Holds (now (state .exit)) (withPointer i n w .state)) ⌝ }
 {
-    let at = 2 + place(i);
+    let at = 2 + letter_number(i);
     state[at] = n;
 }
 
@@ -25,7 +25,7 @@ pub(crate) fn set_value(state: &mut [u8], i: u8, n: u32)
     requires { ⌜ IsState (now state) × Letter i × Between 1 mostCounter n ⌝ }
     ensures { λ _. ⌜ OfWork (now (state .entry)) (λ w. Holds (now (state .exit)) (withValue i n w .state)) ⌝ }
 {
-    put_number(state, 28 + 4 * place(i), n);
+    put_number(state, 28 + 4 * letter_number(i), n);
 }
 
 // The increment of the counter i.
@@ -33,7 +33,7 @@ pub(crate) fn set_increment(state: &mut [u8], i: u8, n: u32)
     requires { ⌜ IsState (now state) × Letter i × Between 1 mostCounter n ⌝ }
     ensures { λ _. ⌜ OfWork (now (state .entry)) (λ w. Holds (now (state .exit)) (withIncrement i n w .state)) ⌝ }
 {
-    put_number(state, 132 + 4 * place(i), n);
+    put_number(state, 132 + 4 * letter_number(i), n);
 }
 
 // The text of the current entry of the stack i, and zeros behind it.

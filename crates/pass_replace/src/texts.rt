@@ -2,8 +2,8 @@
 use crate::tags::Span;
 use form_state::entry;
 use form_state::value;
-use refusals::Fault;
 use refusals::Outcome;
+use refusals::WorkFault;
 ghost use mathlib.Core.Path.{_≡_};
 ghost use Prim.Native.Nat.{_+_, _≤_, _<_};
 ghost use lib.ListN.{length};
@@ -35,7 +35,7 @@ fn put(out: &mut [u8], size: usize, bytes: &[u8]) -> Outcome
     ensures { λ r. ⌜ Inserts (now (bytes .entry)) (now (out .entry)) size (now (out .exit)) r ⌝ }
 {
     if 1054 - size < bytes.len() {
-        return Outcome::Refused(Fault::NewLineTooLong, size);
+        return Outcome::Refused(WorkFault::NewLineTooLong, size);
     }
     copy(out, size, bytes);
     Outcome::Made(size + bytes.len())

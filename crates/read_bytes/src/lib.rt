@@ -1,8 +1,6 @@
-// Single bytes of a macro file: breaks, letters and digits, what an escape means, and a letter's place.
-ghost use Prim.Native.Nat.{_-_, _≤_};
+// Single bytes of a macro file: breaks, letters and digits, and what an escape means.
 ghost use mathlib.Core.Path.{_≡_};
-ghost use Rattle.macros.specs.Macro.{lower, digit};
-ghost use Rattle.macros.specs.Formed.{Letter};
+ghost use Rattle.macros.specs.Macro.{asciiLower, digit};
 ghost use Rattle.macros.specs.Read.{breaks, escaped};
 
 // The byte that `\` and a byte mean.
@@ -33,7 +31,7 @@ pub fn is_break(b: u8) -> bool
 
 // A lower case letter.
 pub fn is_lower(b: u8) -> bool
-    ensures { λ r. ⌜ r ≡ lower b ⌝ }
+    ensures { λ r. ⌜ r ≡ asciiLower b ⌝ }
 {
     97 <= b && b <= 122
 }
@@ -43,12 +41,4 @@ pub fn is_digit(b: u8) -> bool
     ensures { λ r. ⌜ r ≡ digit b ⌝ }
 {
     48 <= b && b <= 57
-}
-
-// Where the letter i stands in the alphabet.
-pub fn place(i: u8) -> usize
-    requires { ⌜ Letter i ⌝ }
-    ensures { λ r. ⌜ (r ≡ i - 97) × (r ≤ 25) ⌝ }
-{
-    (i - 97) as usize
 }

@@ -17,8 +17,8 @@ use Rattle.form_table.specs.Form.{slotBytes, body, slot, slots}
 use Rattle.form_items.specs.Items.{Wrote}
 use Rattle.form_table.proofs.Actions.{slot-length}
 use Rattle.read_file.specs.File.{Macroed, MacroFrom, ReadsMacro, usedBytes, slotOf, Seeks, Adds, AddsFrom, noQuote, noMacro}
-use Rattle.read_scan.specs.declared.Fault.{Fault}
-use Rattle.read_scan.specs.declared.Fault.the-variants.{TooManyMacros}
+use Rattle.read_scan.specs.declared.FileFault.{FileFault}
+use Rattle.read_scan.specs.declared.FileFault.the-variants.{TooManyMacros}
 use Rattle.read_file.specs.declared.Head.{Head}
 use Rattle.read_file.specs.declared.Built.{Built}
 use Rattle.read_file.specs.declared.Built.the-variants.{Made, Refused as NoMacro}
@@ -99,7 +99,7 @@ module _ (s : List ℕ) (c : ℕ) (old out : List ℕ) (n at : ℕ) (x : Adds s 
       z : MacroFrom s q old₂ mid m
       z = y₂ .from
 
-      pub adds-fault : {f : Fault} {v : ℕ} {w : Added} → n < 96 → m ≡ NoMacro f v → w ≡ noMacro m n → AddsFrom s c old out w
+      pub adds-fault : {f : FileFault} {v : ℕ} {w : Added} → n < 96 → m ≡ NoMacro f v → w ≡ noMacro m n → AddsFrom s c old out w
       adds-fault {f} {v} h i j =
           let d : MacroFrom s q old₂ mid (NoMacro f v) = rw i at z in
           rw (j ∙ ap (λ (b : Built). noMacro b n) i) (adds-then there (λ l k. d .2 l (omega arith)))

@@ -22,8 +22,8 @@ use Rattle.read_scan.specs.Scan.{run, Here, Passes, Reached}
 use Rattle.form_items.specs.Items.{Wrote}
 use Rattle.read_file.specs.Call.{CalledFrom, markOf, nextEnd}
 use Rattle.read_file.specs.Action.{Does, CommandFrom, CommandsFrom}
-use Rattle.read_scan.specs.declared.Fault.{Fault}
-use Rattle.read_scan.specs.declared.Fault.the-variants.{Incomplete}
+use Rattle.read_scan.specs.declared.FileFault.{FileFault}
+use Rattle.read_scan.specs.declared.FileFault.the-variants.{Incomplete}
 use Rattle.read_scan.specs.declared.Next.{Next}
 use Rattle.read_scan.specs.declared.Next.the-variants.{Byte, Refused as NoByte}
 use Rattle.read_file.specs.declared.Ended.{Ended}
@@ -135,7 +135,7 @@ module _ {s : List ℕ} {a p : ℕ} (old out : List ℕ) (n k : ℕ) (c : Bool) 
   lead : (f : Front) (l : List Action) (cs : List Call) (ms : List Macro) → run s a ms false p (commands none f l cs) ≡ run s a ms false (p + 1) (commands (some (markOf c)) f l cs)
   lead f l cs ms = here-on x ms (commands none f l cs) (commands (some (markOf c)) f l cs) (λ q o. refl) (command-mark (markOf c) f l cs)
 
-  pub command-none : {f : Fault} {q : ℕ} {w : Ended} → r ≡ NoByte f q → w ≡ nextEnd r → CommandFrom s a p old out n k w
+  pub command-none : {f : FileFault} {q : ℕ} {w : Ended} → r ≡ NoByte f q → w ≡ nextEnd r → CommandFrom s a p old out n k w
   command-none {f} {q} e i =
       let z : Passes s a (p + 1) (NoByte f q) = rw e at y in
       rw (i ∙ ap nextEnd e) (z .found, λ g l cs u ms. lead g l cs ms ∙ z .answer (commands (some (markOf c)) g l cs) ms (command-skips (some (markOf c)) g l cs))
@@ -170,7 +170,7 @@ module _ {s : List ℕ} {a p : ℕ} (old out : List ℕ) (n k : ℕ) (c : Bool) 
 -- ALL COMMANDS
 
 module _ (s : List ℕ) (a p : ℕ) (old out : List ℕ) (n k : ℕ) {v e : ℕ} (g : Does s a p old out n k v e) (l : p ≤ v) {r : Next} (y : Passes s a v r) where
-  pub does-fault : {f : Fault} {q : ℕ} {w : Ended} → r ≡ NoByte f q → w ≡ nextEnd r → CommandsFrom s a p old out n k w
+  pub does-fault : {f : FileFault} {q : ℕ} {w : Ended} → r ≡ NoByte f q → w ≡ nextEnd r → CommandsFrom s a p old out n k w
   does-fault {f} {q} i j =
       let z : Passes s a v (NoByte f q) = rw i at y in
       rw (j ∙ ap nextEnd i) (z .found, λ h t cs u ms. g .answer h t cs u ms ∙ z .answer (commands none h t (g .calls ++ cs)) ms (command-skips none h t (g .calls ++ cs)))
@@ -193,7 +193,7 @@ module _ (s : List ℕ) (a p : ℕ) (old out : List ℕ) (n k : ℕ) {v e : ℕ}
     pub does-end : b ≡ 59 → CommandsFrom s a p old out n k (Upto q e)
     does-end h = (omega (arith, does-byte .found .0), rw h at (does-byte .found .1), does-pass)
 
-    pub does-fault-2 : (mid : List ℕ) {w : Ended} {f : Fault} {z : ℕ} → CommandFrom s a q out mid e k w → w ≡ NoEnd f z → CommandsFrom s a p old mid n k w
+    pub does-fault-2 : (mid : List ℕ) {w : Ended} {f : FileFault} {z : ℕ} → CommandFrom s a q out mid e k w → w ≡ NoEnd f z → CommandsFrom s a p old mid n k w
     does-fault-2 mid {w} {f} {z} x j =
         let t : CommandFrom s a q out mid e k (NoEnd f z) = rw j at x in
         rw j (t .0, λ h c cs u ms. does-pass .answer h c cs u ms ∙ t .1 h c (does-pass .calls ++ cs) u ms)

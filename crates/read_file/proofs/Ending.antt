@@ -11,7 +11,7 @@ use lib.Dec.{eqb, leb, ltb}
 use lib.ListN.{length}
 use borrow.Author.Tests.{eq-eqb, ne-eqb, eqb-true, le-leb, lt-leb, ltb-true, ltb-false}
 use Rattle.macros.specs.Refusals.FileRefusal.{badCall}
-use Rattle.macros.specs.Macro.{Macro, Mark, Move, Call, Sign, pick, within, lower, digit, tags, among}
+use Rattle.macros.specs.Macro.{Macro, Mark, Move, Call, Sign, pick, within, asciiLower, digit, tags, among}
 use Rattle.macros.specs.Macro.Mark.{stack, counter}
 use Rattle.macros.specs.Macro.Move.{still, before, after}
 use Rattle.macros.specs.Macro.Call.{insert, storeTag, setTo, storeText, setIncrement}
@@ -27,8 +27,8 @@ use Rattle.read_scan.specs.Scan.{run, Here, Calls, Reached, faultOf, wrongCall}
 use Rattle.read_number.specs.Number.{Counts, Digits, Kept, Behind, most}
 use Rattle.form_items.specs.Items.{Wrote}
 use Rattle.read_file.specs.Call.{Names, Letter, Naming, Comes, Called, Ends, Sets, SetFrom, TagFrom, TagNaming, TagLetter, Unclosed, nextEnd, numberEnd, nameEnd, nextName}
-use Rattle.read_scan.specs.declared.Fault.{Fault}
-use Rattle.read_scan.specs.declared.Fault.the-variants.{BadCall}
+use Rattle.read_scan.specs.declared.FileFault.{FileFault}
+use Rattle.read_scan.specs.declared.FileFault.the-variants.{BadCall}
 use Rattle.read_scan.specs.declared.Next.{Next}
 use Rattle.read_scan.specs.declared.Next.the-variants.{Byte, Refused as NoByte}
 use Rattle.read_number.specs.declared.Number.{Number}
@@ -59,14 +59,14 @@ ends-from s a p p′ old out n x x′ cmd k F G (NoEnd f q) h j g y = (y .0, λ 
 
 module _ (s : List ℕ) (a p : ℕ) (old out : List ℕ) (n x : ℕ) (cmd : Bool) (k : ℕ) (F : CallSite → Part) {q : ℕ} (ph : Phase) (g : Comes s a cmd k F p (λ pl. calling pl ph) q) where
   -- no byte more
-  pub ends-none : {r : Next} {f : Fault} {v : ℕ} {w : Ended} → Calls s a q r → r ≡ NoByte f v → w ≡ nextEnd r → Ends s a p old out n x cmd k F w
+  pub ends-none : {r : Next} {f : FileFault} {v : ℕ} {w : Ended} → Calls s a q r → r ≡ NoByte f v → w ≡ nextEnd r → Ends s a p old out n x cmd k F w
   ends-none {r} {f} {v} y e i =
       let z : Calls s a q (NoByte f v) = rw e at y in
       rw (i ∙ ap nextEnd e) (z .found, λ pl u t ms. g pl u t ms ∙ call-none pl ph ms z)
 
   module _ {c : ℕ} (y : Here s a q c) where
     -- a byte that cannot be
-    pub ends-wrong : (f : Fault) → (c ≡ 32 → ⊥) → callByte cmd ph c ≡ wrong → faultOf f ≡ wrongCall c → Ends s a p old out n x cmd k F (NoEnd f q)
+    pub ends-wrong : (f : FileFault) → (c ≡ 32 → ⊥) → callByte cmd ph c ≡ wrong → faultOf f ≡ wrongCall c → Ends s a p old out n x cmd k F (NoEnd f q)
     ends-wrong f h e i =
         let t = y .stands in
         (omega (arith, t .there), λ pl u v ms. g pl u v ms ∙ here-wrong pl ph ms y f h (rw u e) i)
@@ -139,7 +139,7 @@ unfolding four
 set-size n code i w = refl
 
 module _ (s : List ℕ) (a p : ℕ) (old out : List ℕ) (n code i top : ℕ) {r : Number} (y : Counts s a p true r) where
-  pub set-none : {f : Fault} {q : ℕ} {w : Ended} → r ≡ NoNumber f q → w ≡ numberEnd r → SetFrom s a p old out n code i top w
+  pub set-none : {f : FileFault} {q : ℕ} {w : Ended} → r ≡ NoNumber f q → w ≡ numberEnd r → SetFrom s a p old out n code i top w
   set-none {f} {q} e j =
       let z : Counts s a p true (NoNumber f q) = rw e at y in
       rw (j ∙ ap numberEnd e) (λ ph c g cmd k. (z .0, λ pl u v ms. z .1 (λ o. calling pl (ph o)) (g .eats pl) ms))
@@ -152,7 +152,7 @@ module _ (s : List ℕ) (a p : ℕ) (old out : List ℕ) (n code i top : ℕ) {r
         → Comes s a cmd k (λ pl. calling pl (ph none)) p (λ pl. calling pl (ph (set-byte .4 .value))) q
     comes ph c g cmd k pl u t ms = set-byte .4 .answer (λ o. calling pl (ph o)) (g .eats pl) ms
 
-    set-wrong : (f : Fault) → (b ≡ 41 → ⊥) → faultOf f ≡ wrongCall b → SetFrom s a p old out n code i top (NoEnd f q)
+    set-wrong : (f : FileFault) → (b ≡ 41 → ⊥) → faultOf f ≡ wrongCall b → SetFrom s a p old out n code i top (NoEnd f q)
     set-wrong f h j ph c g cmd k =
         ends-wrong s a p old out n 4 cmd k (λ pl. calling pl (ph none)) (ph (set-byte .4 .value)) (comes ph c g cmd k) (set-byte .1) f (set-byte .2 .1 refl)
         (g .others cmd (set-byte .4 .value) b (set-byte .2 .0) h) j
@@ -198,10 +198,10 @@ module _ (s : List ℕ) (a p : ℕ) (old out : List ℕ) (n code i top : ℕ) {r
             (omega (arith, set-byte .0)) (set-byte .0))
 
     -- the `)` of a number out of range is a wrong byte too
-    late : (f : Fault) → b ≡ 41 → faultOf f ≡ wrongCall b → SetFrom s a p old out n code i top (NoEnd BadCall q) → SetFrom s a p old out n code i top (NoEnd f q)
+    late : (f : FileFault) → b ≡ 41 → faultOf f ≡ wrongCall b → SetFrom s a p old out n code i top (NoEnd BadCall q) → SetFrom s a p old out n code i top (NoEnd f q)
     late f h j x ph c g cmd k = let z = x ph c g cmd k in (z .0, λ pl u t ms. z .1 pl u t ms ∙ ap (λ d. refusedAt d q) (wrong-close ∙ (ap wrongCall (sym h) ∙ sym j)))
 
-    pub set-refused : {w : Bool} → Unclosed b 41 m v top w → w ≡ true → (f : Fault) → faultOf f ≡ wrongCall b → SetFrom s a p old out n code i top (NoEnd f q)
+    pub set-refused : {w : Bool} → Unclosed b 41 m v top w → w ≡ true → (f : FileFault) → faultOf f ≡ wrongCall b → SetFrom s a p old out n code i top (NoEnd f q)
     set-refused {w} x e′ f j =
         let z : Unclosed b 41 m v top true = rw e′ at x in
         ⊎-elim (λ h. set-wrong f h j)
@@ -236,7 +236,7 @@ unfolding callByte pick isStill isSign
 tag-moved cmd w i d e = ⊎-elim (λ f. rw f refl) (λ f. rw f refl) (signs d true e .0)
 
 stack-first : (cmd : Bool) (b : ℕ) → digit b ≡ false
-    → callByte cmd (begun stack) b ≡ pick (isSign b && true) (into (signed stack (signOf b))) (pick (lower b) (into (named stack b still)) wrong)
+    → callByte cmd (begun stack) b ≡ pick (isSign b && true) (into (signed stack (signOf b))) (pick (asciiLower b) (into (named stack b still)) wrong)
 unfolding callByte pick
 stack-first cmd b h = simp (h, and-true)
 
@@ -286,7 +286,7 @@ unfolding callItems
 tag-items w i v = refl
 
 module _ {s : List ℕ} {a p b : ℕ} (x : Here s a p b) where
-  pub tag-wrong : (f : Fault) → (b ≡ 32 → ⊥) → digit b ≡ false → (b ≡ 44 → ⊥) → faultOf f ≡ wrongCall b → TagNaming s a p (NoName f p)
+  pub tag-wrong : (f : FileFault) → (b ≡ 32 → ⊥) → digit b ≡ false → (b ≡ 44 → ⊥) → faultOf f ≡ wrongCall b → TagNaming s a p (NoName f p)
   tag-wrong f g h e i =
       let t = x .stands in
       (omega (arith, t .there), λ w pl ms. here-wrong pl (tagged w) ms x f g (tag-stray (isCommand pl) w b h e) i)
@@ -295,7 +295,7 @@ module _ {s : List ℕ} {a p b : ℕ} (x : Here s a p b) where
     at-comma : (w : ℕ) (pl : CallSite) (ms : List Macro) → run s a ms false p (calling pl (tagged w)) ≡ run s a ms false (p + 1) (calling pl (comma w))
     at-comma w pl ms = here-into pl (tagged w) ms x (comma w) (tag-comma (isCommand pl) w b e)
 
-    pub tag-none : {f : Fault} {q : ℕ} {z : Name} → r ≡ NoByte f q → z ≡ nextName r → TagNaming s a p z
+    pub tag-none : {f : FileFault} {q : ℕ} {z : Name} → r ≡ NoByte f q → z ≡ nextName r → TagNaming s a p z
     tag-none {f} {q} i j =
         let z : Calls s a (p + 1) (NoByte f q) = rw i at y in
         rw (j ∙ ap nextName i) (z .found, λ w pl ms. at-comma w pl ms ∙ call-none pl (comma w) ms z)
@@ -322,7 +322,7 @@ module _ {s : List ℕ} {a p b : ℕ} (x : Here s a p b) where
       tag-named (NoName f u) z = (z .0, λ w pl ms. behind w pl ms ∙ z .1 pl (comma w) (tagSigned w) (tagNamed w) (names-comma (isCommand pl) c w) ms)
 
 module _ (s : List ℕ) (a p : ℕ) (old out : List ℕ) (n v k : ℕ) {r : Name} (z : TagNaming s a p r) where
-  pub tag-noname : {f : Fault} {u : ℕ} {o : Ended} → r ≡ NoName f u → o ≡ nameEnd r → TagFrom s a p old out n v k o
+  pub tag-noname : {f : FileFault} {u : ℕ} {o : Ended} → r ≡ NoName f u → o ≡ nameEnd r → TagFrom s a p old out n v k o
   tag-noname {f} {u} j h =
       let l : TagNaming s a p (NoName f u) = rw j at z in
       rw (h ∙ ap nameEnd j) (λ w m cmd. (l .0, λ pl g t ms. l .1 w pl ms))
@@ -334,12 +334,12 @@ module _ (s : List ℕ) (a p : ℕ) (old out : List ℕ) (n v k : ℕ) {r : Name
     named-tag : (w : ℕ) (cmd : Bool) → Comes s a cmd k (λ pl. calling pl (tagged w)) p (λ pl. calling pl (tagNamed w i (tag-letter .move))) u
     named-tag w cmd pl g t ms = tag-letter .answer w pl ms
 
-    tag-open : (f : Fault) → (d ≡ 41 → ⊥) → faultOf f ≡ wrongCall d → TagFrom s a p old out n v k (NoEnd f u)
+    tag-open : (f : FileFault) → (d ≡ 41 → ⊥) → faultOf f ≡ wrongCall d → TagFrom s a p old out n v k (NoEnd f u)
     tag-open f g h w l cmd =
         ends-wrong s a p old out n 0 cmd k (λ pl. calling pl (tagged w)) (tagNamed w i (tag-letter .move)) (named-tag w cmd) (tag-letter .here) f (tag-letter .solid)
         (tag-unclosed cmd w i d (tag-letter .move) g (joined (isSign d) (isStill (tag-letter .move)) (tag-letter .last))) h
 
-    tag-unfit : d ≡ 41 → ((w : ℕ) → v ≡ most w → within 1 k w ≡ false) → (f : Fault) → faultOf f ≡ wrongCall d → TagFrom s a p old out n v k (NoEnd f u)
+    tag-unfit : d ≡ 41 → ((w : ℕ) → v ≡ most w → within 1 k w ≡ false) → (f : FileFault) → faultOf f ≡ wrongCall d → TagFrom s a p old out n v k (NoEnd f u)
     tag-unfit g h f j w l cmd =
         let y =
         ends-unfit s a p old out n 0 cmd k (λ pl. calling pl (tagged w)) (tagNamed w i (tag-letter .move)) (named-tag w cmd) (tag-letter .here)
@@ -347,7 +347,7 @@ module _ (s : List ℕ) (a p : ℕ) (old out : List ℕ) (n v k : ℕ) {r : Name
         in
         (y .0, λ pl x t ms. y .1 pl x t ms ∙ ap (λ c. refusedAt c u) (wrong-close ∙ (ap wrongCall (sym g) ∙ sym j)))
 
-    pub tag-refused : {w : Bool} → Unclosed d 41 true v k w → w ≡ true → (f : Fault) → faultOf f ≡ wrongCall d → TagFrom s a p old out n v k (NoEnd f u)
+    pub tag-refused : {w : Bool} → Unclosed d 41 true v k w → w ≡ true → (f : FileFault) → faultOf f ≡ wrongCall d → TagFrom s a p old out n v k (NoEnd f u)
     tag-refused {w} x e f j =
         let y : Unclosed d 41 true v k true = rw e at x in
         ⊎-elim (λ h. tag-open f h j) (λ h. ⊎-elim (λ l. absurd (true≢false l)) (λ l. tag-unfit (h .0) (λ o c. unfit k v o c (l .1)) f j) (h .1)) y

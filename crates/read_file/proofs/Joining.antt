@@ -25,8 +25,8 @@ use Rattle.form_items.specs.Items.{Wrote}
 use Rattle.read_pattern.specs.Pattern.{Begins, Patterned}
 use Rattle.read_file.specs.Action.{SymbolAt, QuoteAt, FrontAt, ReplacedFrom, Replaced, CommandsFrom, symbolOf}
 use Rattle.read_file.specs.File.{ended, macroAt, MacroFrom, ReadsMacro, PartsFrom, Parted, wholeOf, noPattern, noNext, noEnd}
-use Rattle.read_scan.specs.declared.Fault.{Fault}
-use Rattle.read_scan.specs.declared.Fault.the-variants.{MacroTooLong}
+use Rattle.read_scan.specs.declared.FileFault.{FileFault}
+use Rattle.read_scan.specs.declared.FileFault.the-variants.{MacroTooLong}
 use Rattle.read_scan.specs.declared.Next.{Next}
 use Rattle.read_scan.specs.declared.Next.the-variants.{Byte, Refused as NoByte}
 use Rattle.read_pattern.specs.declared.Whole.{Whole}
@@ -73,7 +73,7 @@ module _ {s : List ℕ} {a q : ℕ} (x : Here s a q 59) (f : Front) (l : List Ac
 -- THE SYMBOL AND THE QUOTE
 
 module _ (s : List ℕ) (a p : ℕ) {n : Next} (y : SymbolAt s a p n) where
-  pub front-none : {f : Fault} {q : ℕ} → n ≡ NoByte f q → FrontAt s a p n
+  pub front-none : {f : FileFault} {q : ℕ} → n ≡ NoByte f q → FrontAt s a p n
   front-none {f} {q} i = let z : SymbolAt s a p (NoByte f q) = rw i at y in rw i z
 
   module _ {b u : ℕ} (k : n ≡ Byte b u) where
@@ -81,7 +81,7 @@ module _ (s : List ℕ) (a p : ℕ) {n : Next} (y : SymbolAt s a p n) where
     its-symbol = rw k at y
 
     module _ {n₂ : Next} (z : QuoteAt s a (u + 1) n₂) where
-      pub front-open : {f : Fault} {q : ℕ} → n₂ ≡ NoByte f q → FrontAt s a p n₂
+      pub front-open : {f : FileFault} {q : ℕ} → n₂ ≡ NoByte f q → FrontAt s a p n₂
       front-open {f} {q} i =
           let g : QuoteAt s a (u + 1) (NoByte f q) = rw i at z in
           rw i (g .0, λ ps ms. its-symbol .2 ps ms ∙ g .1 (record { pieces = ps; symbol = symbolOf b }) ms)
@@ -94,7 +94,7 @@ module _ (s : List ℕ) (a p : ℕ) {n : Next} (y : SymbolAt s a p n) where
 -- REPLACEMENT AND COMMANDS
 
 module _ (s : List ℕ) (a p : ℕ) (o₁ : List ℕ) (b i t : ℕ) (o₂ : List ℕ) {m : Ended} (w : ReplacedFrom s a p o₁ o₂ i t m) where
-  pub parts-replacement-fault : {f : Fault} {q : ℕ} {d : Built} → m ≡ NoEnd f q → d ≡ noEnd m → PartsFrom s a p o₁ o₂ b i t d
+  pub parts-replacement-fault : {f : FileFault} {q : ℕ} {d : Built} → m ≡ NoEnd f q → d ≡ noEnd m → PartsFrom s a p o₁ o₂ b i t d
   parts-replacement-fault {f} {q} i₁ j =
       let g : ReplacedFrom s a p o₁ o₂ i t (NoEnd f q) = rw i₁ at w in
       rw (j ∙ ap noEnd i₁) g
@@ -104,7 +104,7 @@ module _ (s : List ℕ) (a p : ℕ) (o₁ : List ℕ) (b i t : ℕ) (o₂ : List
     its-replacement = rw k₄ at w
 
     module _ (o₃ : List ℕ) {m₂ : Ended} (d : CommandsFrom s a g o₂ o₃ j t m₂) where
-      pub parts-commands-fault : {f : Fault} {q : ℕ} {b₁ : Built} → m₂ ≡ NoEnd f q → b₁ ≡ noEnd m₂ → PartsFrom s a p o₁ o₃ b i t b₁
+      pub parts-commands-fault : {f : FileFault} {q : ℕ} {b₁ : Built} → m₂ ≡ NoEnd f q → b₁ ≡ noEnd m₂ → PartsFrom s a p o₁ o₃ b i t b₁
       parts-commands-fault {f} {q} i₁ j₁ =
           let y₁ : CommandsFrom s a g o₂ o₃ j t (NoEnd f q) = rw i₁ at d in
           rw (j₁ ∙ ap noEnd i₁) (y₁ .0, λ h u ms. its-replacement .answer h u ms ∙ y₁ .1 h (its-replacement .actions) [] u ms)
@@ -156,12 +156,12 @@ module _ (s : List ℕ) (a p : ℕ) (o₁ : List ℕ) (b i t : ℕ) (o₂ : List
 
 module _ (s : List ℕ) (a : ℕ) (h : a < length s) (e : getD s a 0 ≡ 39) (old o₁ : List ℕ) where
   -- a refusal in the pattern
-  macro-none : (f : Fault) (q : ℕ) → (q ≤ length s) × ((ms : List Macro) → run s a ms false (a + 1) (pattern nothing []) ≡ refusedAt (faultOf f) q) → MacroFrom s a old o₁ (NoMacro f q)
+  macro-none : (f : FileFault) (q : ℕ) → (q ≤ length s) × ((ms : List Macro) → run s a ms false (a + 1) (pattern nothing []) ≡ refusedAt (faultOf f) q) → MacroFrom s a old o₁ (NoMacro f q)
   unfolding after ended macroAt
   macro-none f q z = (z .0, ap ended (z .1 []), λ ms l. macro-begins s a ms h e l ∙ ap (after s ms) (z .1 ms))
 
 module _ (s : List ℕ) (a : ℕ) (h : a < length s) (e : getD s a 0 ≡ 39) (old o₁ : List ℕ) {r : Whole} (x : Begins s a old o₁ r) where
-  pub macro-pattern-fault : {f : Fault} {q : ℕ} {w : Built} → r ≡ NoWhole f q → w ≡ noPattern r → MacroFrom s a old o₁ w
+  pub macro-pattern-fault : {f : FileFault} {q : ℕ} {w : Built} → r ≡ NoWhole f q → w ≡ noPattern r → MacroFrom s a old o₁ w
   macro-pattern-fault {f} {q} i j =
       let z : Begins s a old o₁ (NoWhole f q) = rw i at x in
       rw (j ∙ ap noPattern i) (macro-none s a h e old o₁ f q z)
@@ -180,7 +180,7 @@ module _ (s : List ℕ) (a : ℕ) (h : a < length s) (e : getD s a 0 ≡ 39) (ol
     )
 
     module _ {n : Next} (y : FrontAt s a p n) where
-      pub macro-front-fault : {f : Fault} {q : ℕ} {w : Built} → n ≡ NoByte f q → w ≡ noNext n → MacroFrom s a old o₁ w
+      pub macro-front-fault : {f : FileFault} {q : ℕ} {w : Built} → n ≡ NoByte f q → w ≡ noNext n → MacroFrom s a old o₁ w
       unfolding after ended
       macro-front-fault {f} {q} i j =
           let z : FrontAt s a p (NoByte f q) = rw i at y in
@@ -224,7 +224,7 @@ module _ {s : List ℕ} {a : ℕ} {old out : List ℕ} {r : Built} (x : MacroFro
   pub reads-made : {q : ℕ} {h : Head} → r ≡ Made q h → ReadsMacro s a old out (Made q h)
   reads-made e = record { from = rw e at x; zeros = tt }
 
-  pub reads-none : {f : Fault} {q : ℕ} → r ≡ NoMacro f q → {fin : List ℕ} {k : ℕ} → Wrote out fin 0 (replicate k 0) → k ≡ length fin → length fin ≡ length old → ReadsMacro s a old fin (NoMacro f q)
+  pub reads-none : {f : FileFault} {q : ℕ} → r ≡ NoMacro f q → {fin : List ℕ} {k : ℕ} → Wrote out fin 0 (replicate k 0) → k ≡ length fin → length fin ≡ length old → ReadsMacro s a old fin (NoMacro f q)
   reads-none {f} {q} e {fin} {k} w g h =
       let d : MacroFrom s a old out (NoMacro f q) = rw e at x in
       record { from = d; zeros = wrote-all w (length-replicate {A = ℕ} k 0 ∙ g) ∙ ap (λ (n : ℕ). replicate {A = ℕ} n 0) (g ∙ h) }

@@ -9,7 +9,7 @@ use native.Mathlib.Omega.{arith}
 use lib.Dec.{eqb}
 use lib.ListN.{length}
 use borrow.Author.Tests.{ne-eqb}
-use Rattle.macros.specs.Macro.{Macro, Mark, Move, Call, Sign, pick, within, lower, digit}
+use Rattle.macros.specs.Macro.{Macro, Mark, Move, Call, Sign, pick, within, asciiLower, digit}
 use Rattle.macros.specs.Macro.Mark.{stack, counter}
 use Rattle.macros.specs.Macro.Move.{still, before, after}
 use Rattle.macros.specs.Macro.Call.{insert, setTo, setIncrement}
@@ -23,7 +23,7 @@ use Rattle.read_scan.specs.Scan.{run, Here, Calls, faultOf, wrongCall}
 use Rattle.read_number.specs.Number.{Counts, Digits, Kept, most}
 use Rattle.form_items.specs.Items.{Wrote}
 use Rattle.read_file.specs.Call.{Names, Letter, Naming, Comes, Ends, CalledFrom, NamedFrom, Sets, SetFrom, TagFrom, StoreFrom, Asks, Starts, signsIn, markOf, nextEnd, numberEnd, nameEnd}
-use Rattle.read_scan.specs.declared.Fault.{Fault}
+use Rattle.read_scan.specs.declared.FileFault.{FileFault}
 use Rattle.read_scan.specs.declared.Next.{Next}
 use Rattle.read_scan.specs.declared.Next.the-variants.{Byte, Refused as NoByte}
 use Rattle.read_number.specs.declared.Number.{Number}
@@ -148,7 +148,7 @@ pub number-at : (s : List ℕ) (a p : ℕ) {r : Number} {v : ℕ} {m : Bool} {b 
 number-at s a p y e = rw e at y
 
 module _ (s : List ℕ) (a p : ℕ) (old out : List ℕ) (n : ℕ) (cmd : Bool) (k : ℕ) where
-  pub stack-none : {r : Number} {f : Fault} {q : ℕ} {w : Ended} → Counts s a p true r → r ≡ NoNumber f q → w ≡ numberEnd r → CalledFrom s a p old out n stack cmd k w
+  pub stack-none : {r : Number} {f : FileFault} {q : ℕ} {w : Ended} → Counts s a p true r → r ≡ NoNumber f q → w ≡ numberEnd r → CalledFrom s a p old out n stack cmd k w
   stack-none {r} {f} {q} y e i =
       let z : Counts s a p true (NoNumber f q) = rw e at y in
       rw (i ∙ ap numberEnd e) (z .0, λ pl u t ms. z .1 (tagState pl) (eats-tagged pl) ms)
@@ -194,7 +194,7 @@ names-of true cmd b h = names-counter cmd b
 names-of false cmd b h = names-stack cmd b (h refl)
 
 module _ (s : List ℕ) (a p : ℕ) (old out : List ℕ) (n : ℕ) (cmd : Bool) (mk : Mark) (sg : Bool) {b : ℕ} (nm : Names cmd sg b (begun mk) (signed mk) (named mk)) where
-  pub mark-noname : {r : Name} {f : Fault} {u : ℕ} {w : Ended} → Naming s a p b sg r → r ≡ NoName f u → w ≡ nameEnd r → NamedFrom s a p old out n mk cmd w
+  pub mark-noname : {r : Name} {f : FileFault} {u : ℕ} {w : Ended} → Naming s a p b sg r → r ≡ NoName f u → w ≡ nameEnd r → NamedFrom s a p old out n mk cmd w
   mark-noname {r} {f} {u} z e i =
       let t : Naming s a p b sg (NoName f u) = rw e at z in
       rw (i ∙ ap nameEnd e) (λ k. (t .0, λ pl x y ms. t .1 pl (begun mk) (signed mk) (named mk) (rw x nm) ms))
@@ -203,7 +203,7 @@ module _ (s : List ℕ) (a p : ℕ) (old out : List ℕ) (n : ℕ) (cmd : Bool) 
   mark-named t k pl x y ms = t .answer pl (begun mk) (signed mk) (named mk) (rw x nm) ms
 
   module _ {i m c u : ℕ} (t : Letter s a p b sg i m c u) {r : Tail} (x : Asks mk cmd sg c m r) where
-    pub mark-wrong : r ≡ Wrong → (f : Fault) → faultOf f ≡ wrongCall c → NamedFrom s a p old out n mk cmd (NoEnd f u)
+    pub mark-wrong : r ≡ Wrong → (f : FileFault) → faultOf f ≡ wrongCall c → NamedFrom s a p old out n mk cmd (NoEnd f u)
     mark-wrong e f j k =
         let h : Asks mk cmd sg c m Wrong = rw e at x in
         ends-wrong s a p old out n 0 cmd k (λ pl. calling pl (begun mk)) (named mk i (t .move)) (mark-named t k) (t .here) f (t .solid) (h i (t .move) (t .code) (t .last)) j
@@ -237,7 +237,7 @@ module _ (s : List ℕ) (a p : ℕ) (old out : List ℕ) (n : ℕ) (cmd : Bool) 
 -- THE FIRST BYTE OF A COUNTER'S CALL
 
 module _ (s : List ℕ) (a p : ℕ) (old out : List ℕ) (n : ℕ) (cmd : Bool) {r : Next} (y : Calls s a p r) where
-  pub counter-none : {f : Fault} {q : ℕ} {w : Ended} → r ≡ NoByte f q → w ≡ nextEnd r → NamedFrom s a p old out n counter cmd w
+  pub counter-none : {f : FileFault} {q : ℕ} {w : Ended} → r ≡ NoByte f q → w ≡ nextEnd r → NamedFrom s a p old out n counter cmd w
   counter-none e i k = ends-none s a p old out n 0 cmd k (λ pl. calling pl (begun counter)) (begun counter) (λ pl u t ms. refl) y e i
 
   module _ {b q : ℕ} (e : r ≡ Byte b q) where

@@ -8,7 +8,7 @@ use native.Mathlib.Omega.{arith}
 use lib.Dec.{eqb}
 use lib.ListN.{length}
 use Rattle.macros.specs.Refusals.FileRefusal.{badCall}
-use Rattle.macros.specs.Macro.{Macro, Move, Call, Sign, pick, lower, tags}
+use Rattle.macros.specs.Macro.{Macro, Move, Call, Sign, pick, asciiLower, tags}
 use Rattle.macros.specs.Macro.Sign.{plus, minus}
 use Rattle.macros.specs.Macro.Move.{still, before, after}
 use Rattle.macros.specs.Formed.{numberFits}
@@ -20,7 +20,7 @@ use Rattle.read_scan.specs.Scan.MacroRead.{refusedAt}
 use Rattle.form_table.specs.Form.{moveCode}
 use Rattle.read_scan.specs.Scan.{run, Here, Calls, faultOf, wrongCall}
 use Rattle.read_file.specs.Call.{Names, Letter, Naming, signCode, nextName}
-use Rattle.read_scan.specs.declared.Fault.{Fault}
+use Rattle.read_scan.specs.declared.FileFault.{FileFault}
 use Rattle.read_scan.specs.declared.Next.{Next}
 use Rattle.read_scan.specs.declared.Next.the-variants.{Byte, Refused as NoByte}
 use Rattle.read_file.specs.declared.Name.{Name}
@@ -57,11 +57,11 @@ module _ {s : List ℕ} {a p : ℕ} (pl : CallSite) (ph : Phase) (ms : List Macr
   pub call-next : {c q : ℕ} → Calls s a p (Byte c q) → run s a ms false p (calling pl ph) ≡ run s a ms false q (calling pl ph)
   call-next y = y .answer (calling pl ph) ms (call-skips pl ph) (space-call pl ph)
 
-  pub call-none : {f : Fault} {q : ℕ} → Calls s a p (NoByte f q) → run s a ms false p (calling pl ph) ≡ refusedAt (faultOf f) q
+  pub call-none : {f : FileFault} {q : ℕ} → Calls s a p (NoByte f q) → run s a ms false p (calling pl ph) ≡ refusedAt (faultOf f) q
   call-none y = y .answer (calling pl ph) ms (call-skips pl ph) (space-call pl ph)
 
   module _ {b : ℕ} (x : Here s a p b) where
-    pub here-wrong : (f : Fault) → (b ≡ 32 → ⊥) → callByte (isCommand pl) ph b ≡ wrong → faultOf f ≡ wrongCall b → run s a ms false p (calling pl ph) ≡ refusedAt (faultOf f) p
+    pub here-wrong : (f : FileFault) → (b ≡ 32 → ⊥) → callByte (isCommand pl) ph b ≡ wrong → faultOf f ≡ wrongCall b → run s a ms false p (calling pl ph) ≡ refusedAt (faultOf f) p
     here-wrong f g e h = here-stop x ms (calling pl ph) _ (wrong-call pl ph b e g) ∙ rw h refl
 
     pub here-into : (ph′ : Phase) → callByte (isCommand pl) ph b ≡ into ph′ → run s a ms false p (calling pl ph) ≡ run s a ms false (p + 1) (calling pl ph′)
@@ -135,7 +135,7 @@ module _ {s : List ℕ} {a p b : ℕ} (sg : Bool) (x : Here s a p b) (h : (isSig
   unfolding pick
   lead pl start sgn nam g ms = here-into pl start ms x (sgn (signOf b)) (g .first ∙ rw h refl)
 
-  pub signed-none : {f : Fault} {q : ℕ} {w : Name} → r ≡ NoByte f q → w ≡ nextName r → Naming s a p b sg w
+  pub signed-none : {f : FileFault} {q : ℕ} {w : Name} → r ≡ NoByte f q → w ≡ nextName r → Naming s a p b sg w
   signed-none {f} {q} e i =
       let z : Calls s a (p + 1) (NoByte f q) = rw e at y in
       rw (i ∙ ap nextName e) (z .found, λ pl start sgn nam g ms. lead pl start sgn nam g ms ∙ call-none pl (sgn (signOf b)) ms z)
@@ -144,7 +144,7 @@ module _ {s : List ℕ} {a p b : ℕ} (sg : Bool) (x : Here s a p b) (h : (isSig
     pub signed-byte : Calls s a (p + 1) (Byte c q)
     signed-byte = rw e at y
 
-    pub signed-wrong : (f : Fault) → lower c ≡ false → faultOf f ≡ wrongCall c → Naming s a p b sg (NoName f q)
+    pub signed-wrong : (f : FileFault) → asciiLower c ≡ false → faultOf f ≡ wrongCall c → Naming s a p b sg (NoName f q)
     unfolding pick
     signed-wrong f l i =
         let z = signed-byte in
@@ -154,7 +154,7 @@ module _ {s : List ℕ} {a p b : ℕ} (sg : Bool) (x : Here s a p b) (h : (isSig
               ∙ (call-next pl (sgn (signOf b)) ms z ∙ here-wrong pl (sgn (signOf b)) ms (z .found .1) f (z .found .2) (g .second (signOf b) c ∙ rw l refl) i),
         )
 
-    module _ (l : lower c ≡ true) {r′ : Next} (y′ : Calls s a (q + 1) r′) where
+    module _ (l : asciiLower c ≡ true) {r′ : Next} (y′ : Calls s a (q + 1) r′) where
       letter : (pl : CallSite) (start : Phase) (sgn : Sign → Phase) (nam : ℕ → Move → Phase) → Names (isCommand pl) sg b start sgn nam → (ms : List Macro)
           → run s a ms false p (calling pl start) ≡ run s a ms false (q + 1) (calling pl (nam c (before (signOf b))))
       unfolding pick
@@ -163,7 +163,7 @@ module _ {s : List ℕ} {a p b : ℕ} (sg : Bool) (x : Here s a p b) (h : (isSig
           ∙ (call-next pl (sgn (signOf b)) ms signed-byte
           ∙ here-into pl (sgn (signOf b)) ms (signed-byte .found .1) (nam c (before (signOf b))) (g .second (signOf b) c ∙ rw l refl))
 
-      pub signed-none-2 : {f : Fault} {v : ℕ} {w : Name} → r′ ≡ NoByte f v → w ≡ nextName r′ → Naming s a p b sg w
+      pub signed-none-2 : {f : FileFault} {v : ℕ} {w : Name} → r′ ≡ NoByte f v → w ≡ nextName r′ → Naming s a p b sg w
       signed-none-2 {f} {v} e′ i =
           let z : Calls s a (q + 1) (NoByte f v) = rw e′ at y′ in
           rw (i ∙ ap nextName e′) (z .found, λ pl start sgn nam g ms. letter pl start sgn nam g ms ∙ call-none pl (nam c (before (signOf b))) ms z)
@@ -184,19 +184,19 @@ module _ {s : List ℕ} {a p b : ℕ} (sg : Bool) (x : Here s a p b) (h : (isSig
 -- A LETTER AT ONCE
 
 module _ {s : List ℕ} {a p b : ℕ} (sg : Bool) (x : Here s a p b) (h : (isSign b && sg) ≡ false) where
-  pub name-wrong : (f : Fault) → (b ≡ 32 → ⊥) → lower b ≡ false → faultOf f ≡ wrongCall b → Naming s a p b sg (NoName f p)
+  pub name-wrong : (f : FileFault) → (b ≡ 32 → ⊥) → asciiLower b ≡ false → faultOf f ≡ wrongCall b → Naming s a p b sg (NoName f p)
   unfolding pick
   name-wrong f k l i =
       let t = x .stands in
       (omega (arith, t .there), λ pl start sgn nam g ms. here-wrong pl start ms x f k (g .first ∙ (rw h (rw l refl))) i)
 
-  module _ (l : lower b ≡ true) {r : Next} (y : Calls s a (p + 1) r) where
+  module _ (l : asciiLower b ≡ true) {r : Next} (y : Calls s a (p + 1) r) where
     named : (pl : CallSite) (start : Phase) (sgn : Sign → Phase) (nam : ℕ → Move → Phase) → Names (isCommand pl) sg b start sgn nam → (ms : List Macro)
         → run s a ms false p (calling pl start) ≡ run s a ms false (p + 1) (calling pl (nam b still))
     unfolding pick
     named pl start sgn nam g ms = here-into pl start ms x (nam b still) (g .first ∙ (rw h (rw l refl)))
 
-    pub name-none : {f : Fault} {q : ℕ} {w : Name} → r ≡ NoByte f q → w ≡ nextName r → Naming s a p b sg w
+    pub name-none : {f : FileFault} {q : ℕ} {w : Name} → r ≡ NoByte f q → w ≡ nextName r → Naming s a p b sg w
     name-none {f} {q} e i =
         let z : Calls s a (p + 1) (NoByte f q) = rw e at y in
         rw (i ∙ ap nextName e) (z .found, λ pl start sgn nam g ms. named pl start sgn nam g ms ∙ call-none pl (nam b still) ms z)
@@ -227,7 +227,7 @@ module _ {s : List ℕ} {a p b : ℕ} (sg : Bool) (x : Here s a p b) (h : (isSig
         moved pl start sgn nam g ms =
             there pl start sgn nam g ms ∙ here-into pl (nam b still) ms (name-byte .found .1) (nam b (after (signOf c))) (g .third b c j)
 
-        pub name-none-2 : {f : Fault} {v : ℕ} {w : Name} → r′ ≡ NoByte f v → w ≡ nextName r′ → Naming s a p b sg w
+        pub name-none-2 : {f : FileFault} {v : ℕ} {w : Name} → r′ ≡ NoByte f v → w ≡ nextName r′ → Naming s a p b sg w
         name-none-2 {f} {v} e′ i =
             let z : Calls s a (q + 1) (NoByte f v) = rw e′ at y′ in
             rw (i ∙ ap nextName e′) (z .found, λ pl start sgn nam g ms. moved pl start sgn nam g ms ∙ call-none pl (nam b (after (signOf c))) ms z)

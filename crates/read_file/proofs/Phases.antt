@@ -3,7 +3,7 @@
 use mathlib.Core.Path.{_≡_, refl}
 use mathlib.Core.Bool.{Bool}
 use Prim.Native.Nat.{ℕ}
-use Rattle.macros.specs.Macro.{Mark, pick, within, lower, digit}
+use Rattle.macros.specs.Macro.{Mark, pick, within, asciiLower, digit}
 use Rattle.macros.specs.Macro.Mark.{stack, counter}
 use Rattle.macros.specs.Read.{Part, CallSite, Phase, partByte, isSign, turned, callByte, otherwise, isCommand}
 use Rattle.macros.specs.ReadSoFar.Part.{calling}
@@ -14,7 +14,7 @@ use Rattle.read_scan.specs.Scan.{wrongCall}
 use Rattle.read_scan.proofs.Laws.{otherwise-wrong}
 
 space-wrong : (cmd : Bool) (ph : Phase) → callByte cmd ph 32 ≡ wrong
-unfolding callByte digit lower within isSign pick
+unfolding callByte digit asciiLower within isSign pick
 space-wrong cmd (begun stack) = refl
 space-wrong cmd (begun counter) = refl
 space-wrong cmd (signed m x) = refl

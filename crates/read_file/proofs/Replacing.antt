@@ -26,8 +26,8 @@ use Rattle.read_number.specs.Number.{Counts, Digits, Kept, most}
 use Rattle.form_items.specs.Items.{Wrote}
 use Rattle.read_file.specs.Call.{CalledFrom, Unclosed, markOf, nextEnd, numberEnd}
 use Rattle.read_file.specs.Action.{Acts, ActionFrom, EscapeFrom, Replaced, ReplacedFrom, IsMark, wrongTag}
-use Rattle.read_scan.specs.declared.Fault.{Fault}
-use Rattle.read_scan.specs.declared.Fault.the-variants.{Incomplete, BadCall}
+use Rattle.read_scan.specs.declared.FileFault.{FileFault}
+use Rattle.read_scan.specs.declared.FileFault.the-variants.{Incomplete, BadCall}
 use Rattle.read_scan.specs.declared.Next.{Next}
 use Rattle.read_scan.specs.declared.Next.the-variants.{Byte, Refused as NoByte}
 use Rattle.read_number.specs.declared.Number.{Number}
@@ -169,7 +169,7 @@ unfolding partByte skips
 escape-on {s} {a} {p} {d} x f l ms = at-on x ms (replacementEscape f l) (replacement none f (text (escaped d) ∷ l)) (λ q o. refl) refl refl
 
 module _ {s : List ℕ} {a p : ℕ} (old out : List ℕ) (n : ℕ) (x : Here s a p 92) {r : Next} (y : Stays s a (p + 1) r) where
-  pub escape-none : {f : Fault} {q : ℕ} {w : Ended} → r ≡ NoByte f q → w ≡ nextEnd r → EscapeFrom s a p old out n w
+  pub escape-none : {f : FileFault} {q : ℕ} {w : Ended} → r ≡ NoByte f q → w ≡ nextEnd r → EscapeFrom s a p old out n w
   escape-none {f} {q} e i =
       let z : Stays s a (p + 1) (NoByte f q) = rw e at y in
       rw (i ∙ ap nextEnd e) (λ k. (z .found, λ g l u ms. here-on x ms (replacement none g l) (replacementEscape g l) (λ q o. refl) (part-escape g l) ∙ z .answer (replacementEscape g l) ms))
@@ -193,7 +193,7 @@ module _ {s : List ℕ} {a p : ℕ} (old out : List ℕ) (n k : ℕ) (c : Bool) 
   lead : (f : Front) (l : List Action) (ms : List Macro) → run s a ms false p (replacement none f l) ≡ run s a ms false (p + 1) (replacement (some (markOf c)) f l)
   lead f l ms = here-on x ms (replacement none f l) (replacement (some (markOf c)) f l) (λ q o. refl) (part-mark (markOf c) f l)
 
-  pub marked-none : {f : Fault} {q : ℕ} {w : Ended} → r ≡ NoByte f q → w ≡ nextEnd r → ActionFrom s a p old out n k w
+  pub marked-none : {f : FileFault} {q : ℕ} {w : Ended} → r ≡ NoByte f q → w ≡ nextEnd r → ActionFrom s a p old out n k w
   marked-none {f} {q} e i =
       let z : Passes s a (p + 1) (NoByte f q) = rw e at y in
       rw (i ∙ ap nextEnd e) (z .found, λ g l u ms. lead g l ms ∙ z .answer (replacement (some (markOf c)) g l) ms (part-skips (some (markOf c)) g l))
@@ -264,7 +264,7 @@ module _ (s : List ℕ) (a p : ℕ) (old out : List ℕ) (n k : ℕ) (x : Here s
   opens : (f : Front) (l : List Action) (ms : List Macro) → run s a ms false p (replacement none f l) ≡ run s a ms false (p + 1) (tagNumber none f l)
   opens f l ms = here-on x ms (replacement none f l) (tagNumber none f l) (λ q o. refl) (part-tag f l)
 
-  pub brace-none : {r : Number} {f : Fault} {q : ℕ} {w : Ended} → Counts s a (p + 1) false r → r ≡ NoNumber f q → w ≡ numberEnd r → ActionFrom s a p old out n k w
+  pub brace-none : {r : Number} {f : FileFault} {q : ℕ} {w : Ended} → Counts s a (p + 1) false r → r ≡ NoNumber f q → w ≡ numberEnd r → ActionFrom s a p old out n k w
   brace-none {r} {f} {q} y e i =
       let z : Counts s a (p + 1) false (NoNumber f q) = rw e at y in
       rw (i ∙ ap numberEnd e) (z .0, λ g l u ms. opens g l ms ∙ z .1 (λ o. tagNumber o g l) (eats-tag g l) ms)
@@ -276,7 +276,7 @@ module _ (s : List ℕ) (a p : ℕ) (old out : List ℕ) (n k : ℕ) (x : Here s
     in-file : q ≤ length s
     in-file = let t = y .1 .stands in omega (arith, t .there)
 
-    brace-wrong : (f : Fault) → (b ≡ 125 → ⊥) → faultOf f ≡ wrongTag b → ActionFrom s a p old out n k (NoEnd f q)
+    brace-wrong : (f : FileFault) → (b ≡ 125 → ⊥) → faultOf f ≡ wrongTag b → ActionFrom s a p old out n k (NoEnd f q)
     brace-wrong f h i =
         (in-file, λ g l u ms. comes g l ms ∙ (here-stop (y .1) ms (tagNumber (y .4 .value) g l) (wrongTag b) (tag-stray (y .4 .value) g l b (y .2 .0) h) ∙ rw i refl))
 
@@ -316,10 +316,10 @@ module _ (s : List ℕ) (a p : ℕ) (old out : List ℕ) (n k : ℕ) (x : Here s
                 )
 
     -- the `}` of a number out of range is a wrong byte too
-    late : (f : Fault) → b ≡ 125 → faultOf f ≡ wrongTag b → ActionFrom s a p old out n k (NoEnd BadCall q) → ActionFrom s a p old out n k (NoEnd f q)
+    late : (f : FileFault) → b ≡ 125 → faultOf f ≡ wrongTag b → ActionFrom s a p old out n k (NoEnd BadCall q) → ActionFrom s a p old out n k (NoEnd f q)
     late f h j x = (x .0, λ g l u ms. x .1 g l u ms ∙ ap (λ d. refusedAt d q) (wrong-brace ∙ (ap wrongTag (sym h) ∙ sym j)))
 
-    pub brace-refused : {w : Bool} → Unclosed b 125 m v k w → w ≡ true → (f : Fault) → faultOf f ≡ wrongTag b → ActionFrom s a p old out n k (NoEnd f q)
+    pub brace-refused : {w : Bool} → Unclosed b 125 m v k w → w ≡ true → (f : FileFault) → faultOf f ≡ wrongTag b → ActionFrom s a p old out n k (NoEnd f q)
     brace-refused {w} x e f j =
         let z : Unclosed b 125 m v k true = rw e at x in
         ⊎-elim (λ h. brace-wrong f h j)
@@ -336,7 +336,7 @@ module _ (s : List ℕ) (a p : ℕ) (old out : List ℕ) (n k : ℕ) (x : Here s
 -- THE WHOLE REPLACEMENT
 
 module _ (s : List ℕ) (a p : ℕ) (old out : List ℕ) (n k : ℕ) {v e : ℕ} (g : Acts s a p old out n k v e) (l : p ≤ v) {r : Next} (y : Passes s a v r) where
-  pub acts-fault : {f : Fault} {q : ℕ} {w : Ended} → r ≡ NoByte f q → w ≡ nextEnd r → ReplacedFrom s a p old out n k w
+  pub acts-fault : {f : FileFault} {q : ℕ} {w : Ended} → r ≡ NoByte f q → w ≡ nextEnd r → ReplacedFrom s a p old out n k w
   acts-fault {f} {q} i j =
       let z : Passes s a v (NoByte f q) = rw i at y in
       rw (j ∙ ap nextEnd i) (z .found, λ h u ms. g .answer h [] u ms ∙ z .answer (replacement none h (g .actions ++ [])) ms (part-skips none h (g .actions ++ [])))
@@ -370,7 +370,7 @@ module _ (s : List ℕ) (a p : ℕ) (old out : List ℕ) (n k : ℕ) {v e : ℕ}
               ∙ here-on (acts-byte .found .1) ms (replacement none f (z .actions)) (commands none f (z .actions) []) (λ q o. refl) (part-quote f (z .actions) b h);
         }
 
-    pub acts-fault-2 : (mid : List ℕ) {w : Ended} {f : Fault} {z : ℕ} → ActionFrom s a q out mid e k w → w ≡ NoEnd f z → ReplacedFrom s a p old mid n k w
+    pub acts-fault-2 : (mid : List ℕ) {w : Ended} {f : FileFault} {z : ℕ} → ActionFrom s a q out mid e k w → w ≡ NoEnd f z → ReplacedFrom s a p old mid n k w
     acts-fault-2 mid {w} {f} {z} x j =
         let t : ActionFrom s a q out mid e k (NoEnd f z) = rw j at x in
         rw j (t .0, λ h u ms. acts-pass .answer h [] u ms ∙ t .1 h (acts-pass .actions ++ []) u ms)

@@ -21,8 +21,8 @@ use Rattle.form_table.proofs.Tables.{slots-size, formSize}
 use Rattle.read_scan.specs.Scan.{faultOf}
 use Rattle.form_items.specs.Items.{Wrote}
 use Rattle.read_file.specs.File.{ZeroAt, Adds, AddsFrom, Lent, Onto, macrosBy, tableOf}
-use Rattle.read_scan.specs.declared.Fault.{Fault}
-use Rattle.read_scan.specs.declared.Fault.the-variants.{FileTooLong, ZeroByte}
+use Rattle.read_scan.specs.declared.FileFault.{FileFault}
+use Rattle.read_scan.specs.declared.FileFault.the-variants.{FileTooLong, ZeroByte}
 use Rattle.read_file.specs.declared.Added.{Added}
 use Rattle.read_file.specs.declared.Added.the-variants.{All, Refused as NotAll}
 use Rattle.read_file.specs.declared.Reading.{Reading}
@@ -136,7 +136,7 @@ module _ (s : List ℕ) (c : ℕ) (old out : List ℕ) (h : length s ≤ 32768) 
             joined ms f c l old k out (reverse (a .added)) n (omega (arith, a .size, d)) (omega (arith, a .counted, d)) (a .few) (a .wrote),
           )
 
-  module _ {n q : ℕ} {f : Fault} (e : r ≡ NotAll f q n) where
+  module _ {n q : ℕ} {f : FileFault} (e : r ≡ NotAll f q n) where
     pub not-all : AddsFrom s c old out (NotAll f q n)
     not-all = rw e at y
 
@@ -169,7 +169,7 @@ module _ (s : List ℕ) (c : ℕ) (old out : List ℕ) (ms : Table) (a : Accepte
       let z : _≡_ {A = ℕ} 0 1 = cc in
       absurd (omega arith)
 
-  pub where-refused : (r : Reading) → Onto s c old out r → (k : FileRefusal) (q : ℕ) → readOnto ms s ≡ refusedAt k q → (f : Fault) × (faultOf f ≡ k) × (r ≡ NoTable f q) × (out ≡ old)
+  pub where-refused : (r : Reading) → Onto s c old out r → (k : FileRefusal) (q : ℕ) → readOnto ms s ≡ refusedAt k q → (f : FileFault) × (faultOf f ≡ k) × (r ≡ NoTable f q) × (out ≡ old)
   where-refused (TableOf n) x k q g =
       let p : readOnto ms s ≡ table (x ms a e l .0) = x ms a e l .1 in
       let z : _≡_ {A = ℕ} 0 1 = cc in

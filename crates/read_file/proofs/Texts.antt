@@ -22,8 +22,8 @@ use Rattle.form_table.specs.Form.{callItems, moveCode, evened}
 use Rattle.read_scan.specs.Scan.{run, At, Here, Passes, Stays, Calls, Reached, faultOf, wrongCall}
 use Rattle.form_items.specs.Items.{Wrote}
 use Rattle.read_file.specs.Call.{Comes, Ends, Texting, TextRead, TextFrom, StoreFrom, PutStore, padding, nextEnd}
-use Rattle.read_scan.specs.declared.Fault.{Fault}
-use Rattle.read_scan.specs.declared.Fault.the-variants.{Incomplete, BadCall}
+use Rattle.read_scan.specs.declared.FileFault.{FileFault}
+use Rattle.read_scan.specs.declared.FileFault.the-variants.{Incomplete, BadCall}
 use Rattle.read_scan.specs.declared.Next.{Next}
 use Rattle.read_scan.specs.declared.Next.the-variants.{Byte, Refused as NoByte}
 use Rattle.read_file.specs.declared.Ended.{Ended}
@@ -86,7 +86,7 @@ module _ {s : List ℕ} {a p b : ℕ} (x : Here s a p b) (h : b ≡ 58 → ⊥) 
       escape : (pl : CallSite) (i : ℕ) (v : Move) (t : List ℕ) → length t ≡ k → (ms : List Macro) → run s a ms false p (callText pl i v t) ≡ run s a ms false (p + 1) (callTextEscape pl i v t)
       escape pl i v t l ms = here-on x ms (callText pl i v t) (callTextEscape pl i v t) (λ q o. refl) (byte-escape pl i v t b h g (omega (arith, l)) e)
 
-      pub text-none : {f : Fault} {q : ℕ} → r ≡ NoByte f q → Texting s a p k r
+      pub text-none : {f : FileFault} {q : ℕ} → r ≡ NoByte f q → Texting s a p k r
       text-none {f} {q} i =
           let z : Stays s a (p + 1) (NoByte f q) = rw i at y in
           rw i (z .found, λ pl i v t l ms. escape pl i v t l ms ∙ z .answer (callTextEscape pl i v t) ms)
@@ -124,7 +124,7 @@ reading-none old n h =
     }
 
 module _ {s : List ℕ} {a p : ℕ} {old out : List ℕ} {n at k : ℕ} (g : Reading s a p old out n at k) {r : Next} (y : Passes s a at r) where
-  pub reading-fault : {f : Fault} {q : ℕ} {w : Ended} → r ≡ NoByte f q → w ≡ nextEnd r → TextFrom s a p old out n w
+  pub reading-fault : {f : FileFault} {q : ℕ} {w : Ended} → r ≡ NoByte f q → w ≡ nextEnd r → TextFrom s a p old out n w
   reading-fault {f} {q} e i =
       let z : Passes s a at (NoByte f q) = rw e at y in
       rw (i ∙ ap nextEnd e) (z .found, λ pl i v ms. g .answer pl i v ms ∙ z .answer (callText pl i v (g .text)) ms (text-skips pl i v (g .text)))
@@ -149,7 +149,7 @@ module _ {s : List ℕ} {a p : ℕ} {old out : List ℕ} {n at k : ℕ} (g : Rea
         }
 
     module _ {r′ : Next} (x : Texting s a q k r′) where
-      pub reading-fault-2 : {f : Fault} {u : ℕ} {w : Ended} → r′ ≡ NoByte f u → w ≡ nextEnd r′ → TextFrom s a p old out n w
+      pub reading-fault-2 : {f : FileFault} {u : ℕ} {w : Ended} → r′ ≡ NoByte f u → w ≡ nextEnd r′ → TextFrom s a p old out n w
       reading-fault-2 {f} {u} i j =
           let z : Texting s a q k (NoByte f u) = rw i at x in
           rw (j ∙ ap nextEnd i) (z .0, λ pl i v ms. there pl i v ms ∙ z .1 pl i v (g .text) (g .size) ms)
@@ -226,7 +226,7 @@ apart : (n : ℕ) → n + 2 + 2 ≡ n + 4
 apart n = omega arith
 
 module _ (s : List ℕ) (a p : ℕ) (old mid : List ℕ) (n i m : ℕ) {r : Ended} (y : TextFrom s a p old mid (n + 4) r) where
-  pub store-fault : {f : Fault} {q : ℕ} → r ≡ NoEnd f q → StoreFrom s a p old mid n i m r
+  pub store-fault : {f : FileFault} {q : ℕ} → r ≡ NoEnd f q → StoreFrom s a p old mid n i m r
   store-fault {f} {q} e =
       let z : TextFrom s a p old mid (n + 4) (NoEnd f q) = rw e at y in
       rw e (λ v h cmd k. (z .0, λ pl u t ms. z .1 pl i v ms))
@@ -239,7 +239,7 @@ module _ (s : List ℕ) (a p : ℕ) (old mid : List ℕ) (n i m : ℕ) {r : Ende
     comes v cmd k pl u t ms = store-text .answer pl i v ms
 
     module _ {r′ : Next} (z : Calls s a q r′) where
-      pub store-none : {f : Fault} {u : ℕ} {w : Ended} → r′ ≡ NoByte f u → w ≡ nextEnd r′ → StoreFrom s a p old mid n i m w
+      pub store-none : {f : FileFault} {u : ℕ} {w : Ended} → r′ ≡ NoByte f u → w ≡ nextEnd r′ → StoreFrom s a p old mid n i m w
       store-none {f} {u} {w} g h v l cmd k =
           ends-none s a p old mid n 4 cmd k (λ pl. callText pl i v []) (texted i v (store-text .text)) (comes v cmd k) z g h
 
@@ -247,7 +247,7 @@ module _ (s : List ℕ) (a p : ℕ) (old mid : List ℕ) (n i m : ℕ) {r : Ende
         pub store-byte : Calls s a q (Byte b u)
         store-byte = rw j′ at z
 
-        pub store-wrong : (f : Fault) → (b ≡ 41 → ⊥) → faultOf f ≡ wrongCall b → StoreFrom s a p old mid n i m (NoEnd f u)
+        pub store-wrong : (f : FileFault) → (b ≡ 41 → ⊥) → faultOf f ≡ wrongCall b → StoreFrom s a p old mid n i m (NoEnd f u)
         store-wrong f h g v l cmd k =
             ends-wrong s a p old mid n 4 cmd k (λ pl. callText pl i v []) (texted i v (store-text .text))
             (λ pl x t ms. comes v cmd k pl x t ms ∙ store-byte .answer (calling pl (texted i v (store-text .text))) ms (call-skips pl _) (space-call pl _))

@@ -16,8 +16,8 @@ use Rattle.macros.specs.ReadSoFar.Part.{awaitSymbol, awaitQuote, replacement}
 use Rattle.macros.specs.ReadSoFar.Step.{on, stop}
 use Rattle.read_scan.specs.Scan.{run, Here, Passes}
 use Rattle.read_file.specs.Action.{SymbolAt, QuoteAt, symbolOf}
-use Rattle.read_scan.specs.declared.Fault.{Fault}
-use Rattle.read_scan.specs.declared.Fault.the-variants.{Incomplete}
+use Rattle.read_scan.specs.declared.FileFault.{FileFault}
+use Rattle.read_scan.specs.declared.FileFault.the-variants.{Incomplete}
 use Rattle.read_scan.specs.declared.Next.{Next}
 use Rattle.read_scan.specs.declared.Next.the-variants.{Byte, Refused as NoByte}
 use Rattle.read_scan.proofs.Laws.{here-on, here-stop}
@@ -53,7 +53,7 @@ unfolding partByte symbolByte pick
 symbol-other ps b e f g h = simp (ne-eqb _ _ e, ne-eqb _ _ f, ne-eqb _ _ g, ne-eqb _ _ h)
 
 module _ (s : List ℕ) (a p v : ℕ) (g : Waits s a awaitSymbol p v) (l : p ≤ v) {r : Next} (y : Passes s a v r) where
-  pub symbol-none : {f : Fault} {q : ℕ} → r ≡ NoByte f q → SymbolAt s a p r
+  pub symbol-none : {f : FileFault} {q : ℕ} → r ≡ NoByte f q → SymbolAt s a p r
   symbol-none {f} {q} e =
       let z : Passes s a v (NoByte f q) = rw e at y in
       rw e (z .found, λ ps ms. g ps ms ∙ z .answer (awaitSymbol ps) ms (symbol-skips ps))
@@ -107,7 +107,7 @@ unfolding partByte quoteByte pick
 quote-other f b g h = simp (ne-eqb _ _ g, ne-eqb _ _ h)
 
 module _ (s : List ℕ) (a p v : ℕ) (g : Waits s a awaitQuote p v) (l : p ≤ v) {r : Next} (y : Passes s a v r) where
-  pub quote-none : {f : Fault} {q : ℕ} → r ≡ NoByte f q → QuoteAt s a p r
+  pub quote-none : {f : FileFault} {q : ℕ} → r ≡ NoByte f q → QuoteAt s a p r
   quote-none {f} {q} e =
       let z : Passes s a v (NoByte f q) = rw e at y in
       rw e (z .found, λ h ms. g h ms ∙ z .answer (awaitQuote h) ms (quote-skips h))

@@ -7,7 +7,7 @@ use mathlib.Core.Option.{Option, none, some}
 use mathlib.Core.Logic.{_⊎_}
 use lib.Dec.{eqb}
 use lib.ListN.{length}
-use Rattle.macros.specs.Macro.{Macro, Mark, Sign, Move, Call, pick, within, lower, digit, tags}
+use Rattle.macros.specs.Macro.{Macro, Mark, Sign, Move, Call, pick, within, asciiLower, digit, tags}
 use Rattle.macros.specs.Macro.Mark.{stack, counter}
 use Rattle.macros.specs.Macro.Move.{still, before, after}
 use Rattle.macros.specs.Macro.Call.{insert}
@@ -22,8 +22,8 @@ use Rattle.form_table.specs.Form.{callItems, moveCode}
 use Rattle.read_scan.specs.Scan.{faultOf, run, Reached, Here}
 use Rattle.read_number.specs.Number.{Eats, most}
 use Rattle.form_items.specs.Items.{Wrote}
-use Rattle.read_scan.specs.declared.Fault.{Fault}
-use Rattle.read_scan.specs.declared.Fault.the-variants.{Incomplete}
+use Rattle.read_scan.specs.declared.FileFault.{FileFault}
+use Rattle.read_scan.specs.declared.FileFault.the-variants.{Incomplete}
 use Rattle.read_scan.specs.declared.Next.{Next}
 use Rattle.read_scan.specs.declared.Next.the-variants.{Byte, Refused as NoByte}
 use Rattle.read_number.specs.declared.Number.{Number}
@@ -48,8 +48,8 @@ signCode b = pick (eqb b 43) 1 2
 
 -- phases that take a letter with at most one sign, where sg says whether one may stand: at the first byte b; behind a sign; behind a letter
 pub record Names (cmd sg : Bool) (b : ℕ) (start : Phase) (sgn : Sign → Phase) (nam : ℕ → Move → Phase) : Type 0 where
-  pub first : callByte cmd start b ≡ pick (isSign b && sg) (into (sgn (signOf b))) (pick (lower b) (into (nam b still)) wrong)
-  pub second : (x : Sign) (c : ℕ) → callByte cmd (sgn x) c ≡ pick (lower c) (into (nam c (before x))) wrong
+  pub first : callByte cmd start b ≡ pick (isSign b && sg) (into (sgn (signOf b))) (pick (asciiLower b) (into (nam b still)) wrong)
+  pub second : (x : Sign) (c : ℕ) → callByte cmd (sgn x) c ≡ pick (asciiLower c) (into (nam c (before x))) wrong
   pub third : (i c : ℕ) → (isSign c && sg) ≡ true → callByte cmd (nam i still) c ≡ into (nam i (after (signOf c)))
 
 -- the letter i with a move of the code m, read from b at p on, and the byte c behind them at q

@@ -20,7 +20,7 @@ use Rattle.read_scan.specs.Scan.{MacroRead, faultOf, run}
 use Rattle.read_scan.specs.Scan.MacroRead.{refusedAt as noneAt, patternTo, macroTo}
 use Rattle.form_items.specs.Items.{Wrote}
 use Rattle.read_file.specs.Action.{symbolOf}
-use Rattle.read_scan.specs.declared.Fault.the-variants.{Incomplete}
+use Rattle.read_scan.specs.declared.FileFault.the-variants.{Incomplete}
 use Rattle.read_scan.specs.declared.Next.{Next}
 use Rattle.read_scan.specs.declared.Next.the-variants.{Byte, Refused as NoByte}
 use Rattle.read_pattern.specs.declared.Whole.{Whole}

@@ -11,7 +11,7 @@ use read_bytes::escaped_byte;
 use read_bytes::is_break;
 use read_number::Number;
 use read_number::digits;
-use read_scan::Fault;
+use read_scan::FileFault;
 use read_scan::Next;
 use read_scan::scan::any_byte;
 use read_scan::scan::next_byte;
@@ -44,10 +44,10 @@ fn find_symbol(s: &[u8], a: usize, first: usize) -> Next
             return Next::Byte(b, q);
         }
         if b == b'\'' {
-            return Next::Refused(Fault::Incomplete, q);
+            return Next::Refused(FileFault::Incomplete, q);
         }
         if b == b';' {
-            return Next::Refused(Fault::Incomplete, q);
+            return Next::Refused(FileFault::Incomplete, q);
         }
         at = q + 1;
     }
@@ -68,7 +68,7 @@ fn find_quote(s: &[u8], a: usize, first: usize) -> Next
             return Next::Byte(b, q);
         }
         if b == b';' {
-            return Next::Refused(Fault::Incomplete, q);
+            return Next::Refused(FileFault::Incomplete, q);
         }
         at = q + 1;
     }
@@ -140,16 +140,16 @@ fn marked(
 }
 
 // What a byte that `{n}` cannot have shows: it is no open part of its own.
-fn tag_fault(b: u8) -> Fault
+fn tag_fault(b: u8) -> FileFault
     ensures { λ r. ⌜ faultOf r ≡ wrongTag b ⌝ }
 {
     if b == b';' {
-        return Fault::Incomplete;
+        return FileFault::Incomplete;
     }
     if b == 10 {
-        return Fault::Incomplete;
+        return FileFault::Incomplete;
     }
-    Fault::BadCall
+    FileFault::BadCall
 }
 
 // `{n}`, whose `{` stands at a place: if the pattern has no such tag, the `}` is a wrong byte, 16.
@@ -196,7 +196,7 @@ fn action(s: &[u8], out: &mut [u8], a: usize, at: usize, b: u8, n: usize, tags: 
         return marked(s, out, a, at, n, b == b'#', tags);
     }
     if is_break(b) {
-        return Ended::Refused(Fault::Incomplete, at);
+        return Ended::Refused(FileFault::Incomplete, at);
     }
     put_item(out, n, TEXT, b);
     Ended::Upto(at + 1, n + 2)
@@ -264,7 +264,7 @@ fn command(s: &[u8], out: &mut [u8], a: usize, at: usize, b: u8, n: usize, tags:
     ensures { λ r. ⌜ CommandFrom (now (s .entry)) a at (now (out .entry)) (now (out .exit)) n tags r ⌝ }
 {
     if b == b'\'' {
-        return Ended::Refused(Fault::Incomplete, at);
+        return Ended::Refused(FileFault::Incomplete, at);
     }
     if is_mark(b) {
         return marked_command(s, out, a, at, n, b == b'#', tags);

@@ -25,7 +25,7 @@ use read_bytes::is_break;
 use read_bytes::is_lower;
 use read_number::Number;
 use read_number::digits;
-use read_scan::Fault;
+use read_scan::FileFault;
 use read_scan::Next;
 use read_scan::scan::any_byte;
 use read_scan::scan::call_byte;
@@ -50,7 +50,7 @@ pub(crate) fn next_end(n: Next) -> Ended
     ensures { λ r. ⌜ r ≡ nextEnd n ⌝ }
 {
     match n {
-        Next::Byte(_, q) => Ended::Refused(Fault::Incomplete, q),
+        Next::Byte(_, q) => Ended::Refused(FileFault::Incomplete, q),
         Next::Refused(f, q) => Ended::Refused(f, q),
     }
 }
@@ -60,7 +60,7 @@ pub(crate) fn number_end(n: Number) -> Ended
     ensures { λ r. ⌜ r ≡ numberEnd n ⌝ }
 {
     match n {
-        Number::Got(_, _, _, q) => Ended::Refused(Fault::Incomplete, q),
+        Number::Got(_, _, _, q) => Ended::Refused(FileFault::Incomplete, q),
         Number::Refused(f, q) => Ended::Refused(f, q),
     }
 }
@@ -70,7 +70,7 @@ fn name_end(n: Name) -> Ended
     ensures { λ r. ⌜ r ≡ nameEnd n ⌝ }
 {
     match n {
-        Name::Got(_, _, _, q) => Ended::Refused(Fault::Incomplete, q),
+        Name::Got(_, _, _, q) => Ended::Refused(FileFault::Incomplete, q),
         Name::Refused(f, q) => Ended::Refused(f, q),
     }
 }
@@ -80,7 +80,7 @@ fn next_name(n: Next) -> Name
     ensures { λ r. ⌜ r ≡ nextName n ⌝ }
 {
     match n {
-        Next::Byte(_, q) => Name::Refused(Fault::Incomplete, q),
+        Next::Byte(_, q) => Name::Refused(FileFault::Incomplete, q),
         Next::Refused(f, q) => Name::Refused(f, q),
     }
 }
@@ -250,10 +250,10 @@ fn text_byte(s: &[u8], a: usize, at: usize, b: u8, k: usize) -> Next
     ensures { λ r. ⌜ Texting (now (s .entry)) a at k r ⌝ }
 {
     if is_break(b) {
-        return Next::Refused(Fault::Incomplete, at);
+        return Next::Refused(FileFault::Incomplete, at);
     }
     if MOST_ENTRY_BYTES <= k {
-        return Next::Refused(Fault::BadCall, at);
+        return Next::Refused(FileFault::BadCall, at);
     }
     if b != b'\\' {
         return Next::Byte(b, at);

@@ -15,7 +15,7 @@ use crate::slots::store;
 use form_items::clear;
 use read_pattern::Whole;
 use read_pattern::pattern::whole;
-use read_scan::Fault;
+use read_scan::FileFault;
 use read_scan::MOST_MACRO_BYTES;
 use read_scan::Next;
 ghost use mathlib.Core.Path.{_≡_};
@@ -51,7 +51,7 @@ fn parts(s: &[u8], out: &mut [u8], a: usize, at: usize, b: u8, i: usize, tags: u
         return no_end(third);
     };
     if MOST_MACRO_BYTES <= q - a {
-        return Built::Refused(Fault::MacroTooLong, q);
+        return Built::Refused(FileFault::MacroTooLong, q);
     }
     let head = Head {
         symbol: symbol_code(b),
@@ -165,7 +165,7 @@ fn add_macros(file: &[u8], table: &mut [u8], scratch: &mut [u8], count: usize) -
             return no_quote(seek, n, file.len());
         };
         if MOST_MACROS <= n {
-            return Added::Refused(Fault::TooManyMacros, q, n);
+            return Added::Refused(FileFault::TooManyMacros, q, n);
         }
         let built = read_macro(file, scratch, q);
         let Built::Made(z, head) = built else {
@@ -183,11 +183,11 @@ pub fn read_onto(file: &[u8], table: &mut [u8], count: usize) -> Reading
     ensures { λ r. ⌜ Onto (now (file .entry)) count (now (table .entry)) (now (table .exit)) r ⌝ }
 {
     if MOST_FILE_BYTES < file.len() {
-        return Reading::Refused(Fault::FileTooLong, MOST_FILE_BYTES);
+        return Reading::Refused(FileFault::FileTooLong, MOST_FILE_BYTES);
     }
     let zero = first_zero(file);
     if zero < file.len() {
-        return Reading::Refused(Fault::ZeroByte, zero);
+        return Reading::Refused(FileFault::ZeroByte, zero);
     }
     let mut scratch: [u8; 1024] = [0; 1024];
     let added = add_macros(file, table, &mut scratch, count);
@@ -206,7 +206,7 @@ fn no_pattern(w: Whole) -> Built
     ensures { λ r. ⌜ r ≡ noPattern w ⌝ }
 {
     match w {
-        Whole::Pattern(q, _, _) => Built::Refused(Fault::Incomplete, q),
+        Whole::Pattern(q, _, _) => Built::Refused(FileFault::Incomplete, q),
         Whole::Refused(f, q) => Built::Refused(f, q),
     }
 }
@@ -216,7 +216,7 @@ fn no_next(n: Next) -> Built
     ensures { λ r. ⌜ r ≡ noNext n ⌝ }
 {
     match n {
-        Next::Byte(_, q) => Built::Refused(Fault::Incomplete, q),
+        Next::Byte(_, q) => Built::Refused(FileFault::Incomplete, q),
         Next::Refused(f, q) => Built::Refused(f, q),
     }
 }
@@ -226,7 +226,7 @@ fn no_end(e: Ended) -> Built
     ensures { λ r. ⌜ r ≡ noEnd e ⌝ }
 {
     match e {
-        Ended::Upto(q, _) => Built::Refused(Fault::Incomplete, q),
+        Ended::Upto(q, _) => Built::Refused(FileFault::Incomplete, q),
         Ended::Refused(f, q) => Built::Refused(f, q),
     }
 }
@@ -236,9 +236,9 @@ fn no_quote(seek: Seek, n: usize, size: usize) -> Added
     ensures { λ r. ⌜ r ≡ noQuote seek n size ⌝ }
 {
     match seek {
-        Seek::Quote(q) => Added::Refused(Fault::Incomplete, q, n),
+        Seek::Quote(q) => Added::Refused(FileFault::Incomplete, q, n),
         Seek::Done => Added::All(n),
-        Seek::Skipping => Added::Refused(Fault::Incomplete, size, n),
+        Seek::Skipping => Added::Refused(FileFault::Incomplete, size, n),
     }
 }
 
@@ -247,7 +247,7 @@ fn no_macro(b: Built, n: usize) -> Added
     ensures { λ r. ⌜ r ≡ noMacro b n ⌝ }
 {
     match b {
-        Built::Made(q, _) => Added::Refused(Fault::Incomplete, q, n),
+        Built::Made(q, _) => Added::Refused(FileFault::Incomplete, q, n),
         Built::Refused(f, q) => Added::Refused(f, q, n),
     }
 }

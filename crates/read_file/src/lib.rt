@@ -4,7 +4,7 @@ mod calls;
 pub mod file;
 mod slots;
 
-use read_scan::Fault;
+use read_scan::FileFault;
 
 // The bytes of a macro file.
 pub(crate) const MOST_FILE_BYTES: usize = 32768;
@@ -26,7 +26,7 @@ pub(crate) const MOST_COUNTER: u64 = 999_999_999;
 // A letter, its move's code, and the byte behind them with its place; or a refusal with its place.
 pub(crate) enum Name {
     Got(u8, u8, u8, usize),
-    Refused(Fault, usize),
+    Refused(FileFault, usize),
 }
 
 // What the byte behind a call's letter asks for: a text; a number of at most so much, for the item of this code; the item of this code; nothing.
@@ -40,7 +40,7 @@ pub(crate) enum Tail {
 // The place behind what was read, and the end of the items written; or a refusal with its place.
 pub(crate) enum Ended {
     Upto(usize, usize),
-    Refused(Fault, usize),
+    Refused(FileFault, usize),
 }
 
 // A MACRO AND A FILE
@@ -57,7 +57,7 @@ pub struct Head {
 // The place behind a macro's `;`, and its head; or a refusal with its place.
 pub enum Built {
     Made(usize, Head),
-    Refused(Fault, usize),
+    Refused(FileFault, usize),
 }
 
 // Between macros: the next first quote; or the file's end, outside of a skip or in one.
@@ -70,11 +70,11 @@ pub(crate) enum Seek {
 // The macros that the table has with all of a file's; or a refusal with its place, and the macros by then.
 pub(crate) enum Added {
     All(usize),
-    Refused(Fault, usize, usize),
+    Refused(FileFault, usize, usize),
 }
 
 // The macros that the table has with a file's; or the refusal with its place.
 pub enum Reading {
     Table(usize),
-    Refused(Fault, usize),
+    Refused(FileFault, usize),
 }

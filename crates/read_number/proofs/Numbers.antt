@@ -8,7 +8,7 @@ use Prim.Native.Nat.{ℕ, _+_, _-_, _*_, _≤_, _<_}
 use native.Mathlib.Omega.{arith}
 use lib.Dec.{ltb, leb}
 use borrow.Author.Tests.{ne-eqb, lt-ltb, le-ltb, ltb-true, ltb-false, leb-true}
-use Rattle.macros.specs.Macro.{Macro, Mark, Action, pick, within, lower, digit}
+use Rattle.macros.specs.Macro.{Macro, Mark, Action, pick, within, asciiLower, digit}
 use Rattle.macros.specs.Macro.Mark.{stack}
 use Rattle.macros.specs.Read.{Part, Front, CallSite, partByte, skips, andDigit, tagByte, turned, callByte, otherwise, isSign}
 use Rattle.macros.specs.ReadSoFar.Step.{on}
@@ -18,7 +18,7 @@ use Rattle.read_scan.specs.Bytes.{Placed, with?, seen, nextByte, spaceless}
 use Rattle.read_scan.specs.Bytes.Placed.{byteAt}
 use Rattle.read_scan.specs.Scan.{MacroRead, noted, run, Passes}
 use Rattle.read_number.specs.Number.{Eats, most, numberFault, counting, leading, behind, valueFrom, any?, numbered, numberFrom, Kept, Digits, Behind, Counts}
-use Rattle.read_scan.specs.declared.Fault.{Fault}
+use Rattle.read_scan.specs.declared.FileFault.{FileFault}
 use Rattle.read_scan.specs.declared.Next.{Next}
 use Rattle.read_scan.specs.declared.Next.the-variants.{Byte, Refused as NoByte}
 use Rattle.read_number.specs.declared.Number.{Number}
@@ -84,7 +84,7 @@ tagState pl none = calling pl (begun stack)
 tagState pl (some n) = calling pl (tagged n)
 
 pub eats-tagged : (pl : CallSite) → Eats true (tagState pl)
-unfolding partByte skips pick turned callByte otherwise digit within isSign lower andDigit
+unfolding partByte skips pick turned callByte otherwise digit within isSign asciiLower andDigit
 eats-tagged pl = record { skipping = skipped; digits = took; spaces = spaced; within = inner }
   where
     skipped : (o : Option ℕ) → skips (tagState pl o) ≡ true
@@ -141,13 +141,13 @@ digits-none s a p sp =
 
 -- the digits up to v, and the next byte from there on
 module _ {s : List ℕ} {a p : ℕ} {sp : Bool} {v n : ℕ} {m : Bool} (g : Sofar s a p sp v n m) (l : p ≤ v) {r : Next} (z : Passes s a v r) where
-  number-none : {f : Fault} {q : ℕ} → NoByte f q ≡ nextByte s a v → NoNumber f q ≡ numberFrom s a p sp
+  number-none : {f : FileFault} {q : ℕ} → NoByte f q ≡ nextByte s a v → NoNumber f q ≡ numberFrom s a p sp
   unfolding numberFrom numbered behind
   number-none {f} {q} e =
       let h = seen-none s a v f q e in
       rw (g .rest, h .0, counting-none sp) (ap numberFault (h .1))
 
-  pub counts-fault : {f : Fault} {q : ℕ} {o : Number} → r ≡ NoByte f q → o ≡ numberFault r → Counts s a p sp o
+  pub counts-fault : {f : FileFault} {q : ℕ} {o : Number} → r ≡ NoByte f q → o ≡ numberFault r → Counts s a p sp o
   counts-fault {f} {q} e i =
       let h : Passes s a v (NoByte f q) = rw e at z in
       rw (i ∙ ap numberFault e)

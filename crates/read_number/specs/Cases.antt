@@ -7,7 +7,7 @@ use Rattle.macros.specs.Cases.{bytes}
 use Rattle.macros.specs.Macro.{pick, within, digit}
 use Rattle.read_scan.specs.Bytes.{with?, outside, upTo, seen, unended, spaceless}
 use Rattle.read_number.specs.Number.{most, counting, leading, behind, valueFrom, any?, numbered, numberFrom}
-use Rattle.read_scan.specs.declared.Fault.the-variants.{Incomplete, MacroTooLong}
+use Rattle.read_scan.specs.declared.FileFault.the-variants.{Incomplete, MacroTooLong}
 use Rattle.read_number.specs.declared.Number.the-variants.{Got, Refused as NoNumber}
 
 pub number-cases :

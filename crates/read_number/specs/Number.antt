@@ -14,7 +14,7 @@ use Rattle.read_scan.specs.Bytes.{Placed, seen, spaceless, unended}
 use Rattle.read_scan.specs.Bytes.Placed.{byteAt}
 use Rattle.read_scan.specs.Scan.{MacroRead, faultOf, noted, run, Here}
 use Rattle.read_scan.specs.Scan.MacroRead.{refusedAt}
-use Rattle.read_scan.specs.declared.Fault.the-variants.{Incomplete}
+use Rattle.read_scan.specs.declared.FileFault.the-variants.{Incomplete}
 use Rattle.read_scan.specs.declared.Next.{Next}
 use Rattle.read_scan.specs.declared.Next.the-variants.{Byte, Refused as NoByte}
 use Rattle.read_number.specs.declared.Number.{Number}

@@ -1,6 +1,6 @@
 // Numbers of a macro file: digits of any number, taken by their value.
 use read_bytes::is_digit;
-use read_scan::Fault;
+use read_scan::FileFault;
 use read_scan::Next;
 use read_scan::scan::next_byte;
 ghost use mathlib.Core.Path.{_≡_};
@@ -14,7 +14,7 @@ ghost use Rattle.read_number.specs.Number.{Counts, most, numberFault};
 // A number, at most 1,000,000,000, whether it has a digit, and the byte behind it with its place.
 pub enum Number {
     Got(u64, bool, u8, usize),
-    Refused(Fault, usize),
+    Refused(FileFault, usize),
 }
 
 // A byte's refusal, as a number's. Callers hand on nothing else.
@@ -22,7 +22,7 @@ fn number_fault(n: Next) -> Number
     ensures { λ r. ⌜ r ≡ numberFault n ⌝ }
 {
     match n {
-        Next::Byte(_, q) => Number::Refused(Fault::Incomplete, q),
+        Next::Byte(_, q) => Number::Refused(FileFault::Incomplete, q),
         Next::Refused(f, q) => Number::Refused(f, q),
     }
 }

@@ -23,8 +23,8 @@ use Rattle.form_table.specs.Form.{memberItems, membersItems}
 use Rattle.read_scan.specs.Scan.{run, At, Reached, Stays}
 use Rattle.form_items.specs.Items.{Wrote, memberBytes}
 use Rattle.read_pattern.specs.Class.{classTurn, Plain, Meets, Meeting, lastOf, lastItems, pending, Takes, Membered, Classing, byteFault, putFault}
-use Rattle.read_scan.specs.declared.Fault.{Fault}
-use Rattle.read_scan.specs.declared.Fault.the-variants.{Incomplete, BadClass}
+use Rattle.read_scan.specs.declared.FileFault.{FileFault}
+use Rattle.read_scan.specs.declared.FileFault.the-variants.{Incomplete, BadClass}
 use Rattle.read_scan.specs.declared.Next.{Next}
 use Rattle.read_scan.specs.declared.Next.the-variants.{Byte, Refused as NoByte}
 use Rattle.read_pattern.specs.declared.ClassByte.{ClassByte}
@@ -70,7 +70,7 @@ module _ {s : List ℕ} {a p b : ℕ} (x : At s a p b) (ps : List Piece) (neg : 
   member-breaks f = member-stop incomplete (simp (ne-eqb _ _ (no-bracket f), f))
 
 module _ {s : List ℕ} {a p : ℕ} {r : Next} (x : Stays s a p r) where
-  pub meets-fault : {f : Fault} {q : ℕ} {o : ClassByte} → r ≡ NoByte f q → o ≡ byteFault r → Meeting s a p o
+  pub meets-fault : {f : FileFault} {q : ℕ} {o : ClassByte} → r ≡ NoByte f q → o ≡ byteFault r → Meeting s a p o
   meets-fault {f} {q} e g =
       let w : Stays s a p (NoByte f q) = rw e at x in
       rw (g ∙ ap byteFault e) (w .found, λ ps neg l xs ms. w .answer (members ps neg l xs) ms)
@@ -102,7 +102,7 @@ module _ {s : List ℕ} {a p : ℕ} {r : Next} (x : Stays s a p r) where
       pub behind-escape : Stays s a (p + 1) t
       behind-escape = rw (class-stays .found .0) at z
 
-      pub meets-escape-fault : {g : Fault} {v : ℕ} {o : ClassByte} → t ≡ NoByte g v → o ≡ byteFault t → Meeting s a p o
+      pub meets-escape-fault : {g : FileFault} {v : ℕ} {o : ClassByte} → t ≡ NoByte g v → o ≡ byteFault t → Meeting s a p o
       meets-escape-fault {g} {v} i j =
           let w : Stays s a (p + 1) (NoByte g v) = rw i at behind-escape in
           rw (j ∙ ap byteFault i) (w .found, λ ps neg l xs ms. member-escape byte-at ps neg l xs ms f ∙ w .answer (membersEscape ps neg l xs) ms)
@@ -242,7 +242,7 @@ unfolding memberBytes
 membered-none s a p o i = record { xs = []; answer = λ ps neg ms. refl; wrote = wrote-none o i; used = omega arith; room = omega arith }
 
 module _ {s : List ℕ} {a p v : ℕ} {old y : List ℕ} {i j : ℕ} {l : CodeLast} (g : Membered s a p v old y i j l) (h : p ≤ v) {r : ClassByte} (x : Meeting s a v r) where
-  pub classing-fault : (out : List ℕ) {f : Fault} {q : ℕ} {o : Put} → r ≡ NoClassByte f q → o ≡ putFault r → Classing s a p old out i o
+  pub classing-fault : (out : List ℕ) {f : FileFault} {q : ℕ} {o : Put} → r ≡ NoClassByte f q → o ≡ putFault r → Classing s a p old out i o
   classing-fault out {f} {q} e k =
       let w : Meeting s a v (NoClassByte f q) = rw e at x in
       rw (k ∙ ap putFault e) (record { is = (w .0, λ ps neg ms. g .answer ps neg ms ∙ w .1 ps neg (lastOf l) (g .xs) ms) })

@@ -9,7 +9,7 @@ use native.Mathlib.Nat.{add-zero}
 use lib.ListN.{length}
 use lib.Dec.{eqb}
 use borrow.Author.Tests.{ne-eqb, leb-true}
-use Rattle.macros.specs.Macro.{Closure, Member, Mark, PatternUnit, Piece, Macro, pick, among, within, lower, markByte}
+use Rattle.macros.specs.Macro.{Closure, Member, Mark, PatternUnit, Piece, Macro, pick, among, within, asciiLower, markByte}
 use Rattle.macros.specs.Macro.Closure.{once, oneOrMore, zeroOrMore}
 use Rattle.macros.specs.Macro.PatternUnit.{literal, kind, class, callOf}
 use Rattle.macros.specs.Macro.Piece.{element, start, end}
@@ -23,8 +23,8 @@ use Rattle.read_scan.specs.Scan.{faultOf, run, Here, Passes, Stays, Calls, wron
 use Rattle.form_items.specs.Items.{Wrote}
 use Rattle.read_pattern.specs.Class.{Classed, Classing}
 use Rattle.read_pattern.specs.Pattern.{markAt, Joins, Made, Makes, MakesOne, atQuery, atMark, atCall, atClass, atFresh, negOf, IsClass, Inner, Pieces, itemFault, classFault, elementFault}
-use Rattle.read_scan.specs.declared.Fault.{Fault}
-use Rattle.read_scan.specs.declared.Fault.the-variants.{Incomplete, NoUnit}
+use Rattle.read_scan.specs.declared.FileFault.{FileFault}
+use Rattle.read_scan.specs.declared.FileFault.the-variants.{Incomplete, NoUnit}
 use Rattle.read_scan.specs.declared.Next.{Next}
 use Rattle.read_scan.specs.declared.Next.the-variants.{Byte, Refused as NoByte}
 use Rattle.form_element.specs.declared.Unit.{Unit as CodeUnit}
@@ -42,7 +42,7 @@ use Rattle.read_pattern.proofs.Signs.{at-start, at-end, at-star, at-bre
 -- THE CLOSURE BEHIND A UNIT
 
 module _ (u : CodeUnit) (n : ℕ) {s : List ℕ} {a p : ℕ} {r : Next} (x : Passes s a p r) where
-  pub joins-fault : {f : Fault} {q : ℕ} {o : Item} → r ≡ NoByte f q → o ≡ itemFault r → Joins s a p u n o
+  pub joins-fault : {f : FileFault} {q : ℕ} {o : Item} → r ≡ NoByte f q → o ≡ itemFault r → Joins s a p u n o
   unfolding skips
   joins-fault {f} {q} e g =
       let y : Passes s a p (NoByte f q) = rw e at x in
@@ -76,7 +76,7 @@ module _ (u : CodeUnit) (n : ℕ) {s : List ℕ} {a p : ℕ} {r : Next} (x : Pas
       unfolding skips
       star w ps ms = behind-unit .answer _ ms refl ∙ unit-star here ms ps w f
 
-      pub joins-star-fault : {g : Fault} {v : ℕ} {o : Item} → t ≡ NoByte g v → o ≡ itemFault t → Joins s a p u n o
+      pub joins-star-fault : {g : FileFault} {v : ℕ} {o : Item} → t ≡ NoByte g v → o ≡ itemFault t → Joins s a p u n o
       unfolding skips
       joins-star-fault {g} {v} h i =
           let w : Passes s a (q + 1) (NoByte g v) = rw h at z in
@@ -184,7 +184,7 @@ class-rest neg xs = refl
 -- BEHIND `\`
 
 module _ (n : ℕ) {s : List ℕ} {a p : ℕ} {r : Next} (x : Stays s a p r) where
-  pub escape-fault : {f : Fault} {q : ℕ} {o : Item} → r ≡ NoByte f q → o ≡ itemFault r → MakesOne s a p patternEscape n o
+  pub escape-fault : {f : FileFault} {q : ℕ} {o : Item} → r ≡ NoByte f q → o ≡ itemFault r → MakesOne s a p patternEscape n o
   escape-fault {f} {q} e g out =
       let y : Stays s a p (NoByte f q) = rw e at x in
       rw (g ∙ ap itemFault e) (record { is = (y .found, λ ps ms. y .answer _ ms) })
@@ -202,14 +202,14 @@ module _ (n : ℕ) {s : List ℕ} {a p : ℕ} {r : Next} (x : Stays s a p r) whe
 -- BEHIND `?`
 
 module _ (n : ℕ) {s : List ℕ} {a p : ℕ} {r : Next} (x : Passes s a p r) where
-  pub query-fault : {f : Fault} {q : ℕ} {o : Item} → r ≡ NoByte f q → o ≡ itemFault r → MakesOne s a p atQuery n o
+  pub query-fault : {f : FileFault} {q : ℕ} {o : Item} → r ≡ NoByte f q → o ≡ itemFault r → MakesOne s a p atQuery n o
   unfolding skips
   query-fault {f} {q} e g out =
       let y : Passes s a p (NoByte f q) = rw e at x in
       rw (g ∙ ap itemFault e) (record { is = (y .found, λ ps ms. y .answer _ ms refl) })
 
   -- BEHIND `&` OR `#`
-  pub mark-fault : (m : ℕ) {f : Fault} {q : ℕ} {o : Item} → r ≡ NoByte f q → o ≡ itemFault r → MakesOne s a p (atMark m) n o
+  pub mark-fault : (m : ℕ) {f : FileFault} {q : ℕ} {o : Item} → r ≡ NoByte f q → o ≡ itemFault r → MakesOne s a p (atMark m) n o
   unfolding skips
   mark-fault m {f} {q} e g out =
       let y : Passes s a p (NoByte f q) = rw e at x in
@@ -254,7 +254,7 @@ kind-least e = leb-true _ _ (and-left _ _ e)
 -- BEHIND `&(` OR `#(`
 
 module _ (m n : ℕ) {s : List ℕ} {a p : ℕ} {r : Next} (x : Calls s a p r) where
-  pub letter-fault : {f : Fault} {q : ℕ} {o : Item} → r ≡ NoByte f q → o ≡ itemFault r → MakesOne s a p (atCall m) n o
+  pub letter-fault : {f : FileFault} {q : ℕ} {o : Item} → r ≡ NoByte f q → o ≡ itemFault r → MakesOne s a p (atCall m) n o
   unfolding skips
   letter-fault {f} {q} e g out =
       let y : Calls s a p (NoByte f q) = rw e at x in
@@ -268,16 +268,16 @@ module _ (m n : ℕ) {s : List ℕ} {a p : ℕ} {r : Next} (x : Calls s a p r) w
     unfolding skips
     to-letter ps ms = the-letter .answer _ ms refl (space-letter (markAt m) ps)
 
-    pub letter-wrong : {k : Fault} → lower i ≡ false → faultOf k ≡ wrongCall i → MakesOne s a p (atCall m) n (NoItem k q)
+    pub letter-wrong : {k : FileFault} → asciiLower i ≡ false → faultOf k ≡ wrongCall i → MakesOne s a p (atCall m) n (NoItem k q)
     letter-wrong f g out =
         let y = the-letter .found in
         record { is = (omega (arith, y .1 .stands .there), λ ps ms. to-letter ps ms ∙ rw g (call-wrong (y .1) ms ps (markAt m) f (y .2))) }
 
-    module _ (f : lower i ≡ true) {t : Next} (z : Calls s a (q + 1) t) where
+    module _ (f : asciiLower i ≡ true) {t : Next} (z : Calls s a (q + 1) t) where
       behind-letter : (ps : List Piece) (ms : List Macro) → run s a ms false p (atCall m ps) ≡ run s a ms false (q + 1) (patternCalled (markAt m) ps i)
       behind-letter ps ms = to-letter ps ms ∙ call-letter (the-letter .found .1) ms ps (markAt m) f
 
-      pub called-fault : {g : Fault} {v : ℕ} {o : Item} → t ≡ NoByte g v → o ≡ itemFault t → MakesOne s a p (atCall m) n o
+      pub called-fault : {g : FileFault} {v : ℕ} {o : Item} → t ≡ NoByte g v → o ≡ itemFault t → MakesOne s a p (atCall m) n o
       unfolding skips
       called-fault {g} {v} h k out =
           let w : Calls s a (q + 1) (NoByte g v) = rw h at z in
@@ -291,7 +291,7 @@ module _ (m n : ℕ) {s : List ℕ} {a p : ℕ} {r : Next} (x : Calls s a p r) w
         unfolding skips
         to-end ps ms = behind-letter ps ms ∙ the-end .answer _ ms refl (space-called (markAt m) ps i)
 
-        pub end-wrong : {k : Fault} → (b ≡ 41 → ⊥) → faultOf k ≡ wrongCall b → MakesOne s a p (atCall m) n (NoItem k v)
+        pub end-wrong : {k : FileFault} → (b ≡ 41 → ⊥) → faultOf k ≡ wrongCall b → MakesOne s a p (atCall m) n (NoItem k v)
         end-wrong g k out =
             let y = the-end .found in
             record { is = (omega (arith, y .1 .stands .there), λ ps ms. to-end ps ms ∙ rw k (called-wrong (y .1) ms ps (markAt m) i g (y .2))) }
@@ -306,7 +306,7 @@ module _ (m n : ℕ) {s : List ℕ} {a p : ℕ} {r : Next} (x : Calls s a p r) w
 -- BEHIND `[`
 
 module _ (u : CodeUnit) {s : List ℕ} {a p : ℕ} {old out : List ℕ} {n : ℕ} {r : Put} (x : Classing s a p old out n r) where
-  pub class-fault : {f : Fault} {q : ℕ} {o : Item} → r ≡ NoPut f q → o ≡ classFault r → Makes s a p p (atClass (negOf u)) old out n o
+  pub class-fault : {f : FileFault} {q : ℕ} {o : Item} → r ≡ NoPut f q → o ≡ classFault r → Makes s a p p (atClass (negOf u)) old out n o
   class-fault {f} {q} e g =
       let y : Classing s a p old out n (NoPut f q) = rw e at x in
       rw (g ∙ ap classFault e) (record { is = (y .is .0, λ ps ms. y .is .1 ps (negOf u) ms) })
@@ -323,7 +323,7 @@ module _ (u : CodeUnit) {s : List ℕ} {a p : ℕ} {old out : List ℕ} {n : ℕ
         (λ ps ms. y .answer ps (negOf u) ms)
 
 module _ {s : List ℕ} {a p : ℕ} {r : Next} (x : Stays s a p r) where
-  pub opened-fault : (n : ℕ) (old out : List ℕ) {f : Fault} {q : ℕ} {o : Item} → r ≡ NoByte f q → o ≡ itemFault r → Makes s a p p opened old out n o
+  pub opened-fault : (n : ℕ) (old out : List ℕ) {f : FileFault} {q : ℕ} {o : Item} → r ≡ NoByte f q → o ≡ itemFault r → Makes s a p p opened old out n o
   opened-fault n old out {f} {q} e g =
       let y : Stays s a p (NoByte f q) = rw e at x in
       rw (g ∙ ap itemFault e) (record { is = (y .found, λ ps ms. y .answer _ ms) })
@@ -439,7 +439,7 @@ module _ {s : List ℕ} {a p b : ℕ} (x : Here s a p b) (n : ℕ) {old : List �
       }
 
   module _ {mid : List ℕ} {r : Item} (y : Makes s a p (p + 1) atFresh old mid (n + 2) r) where
-    pub piece-fault : (out : List ℕ) {f : Fault} {q : ℕ} {o : Put} → r ≡ NoItem f q → o ≡ elementFault r → Pieces s a p old out n o
+    pub piece-fault : (out : List ℕ) {f : FileFault} {q : ℕ} {o : Put} → r ≡ NoItem f q → o ≡ elementFault r → Pieces s a p old out n o
     piece-fault out {f} {q} e g =
         let w : Makes s a p (p + 1) atFresh old mid (n + 2) (NoItem f q) = rw e at y in
         rw (g ∙ ap elementFault e) (record { is = (w .is .0, λ ps ms. w .is .1 ps ms) })

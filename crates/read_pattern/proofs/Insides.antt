@@ -19,13 +19,13 @@ use Rattle.form_table.specs.Form.{pieceItems, patternItems}
 use Rattle.read_scan.specs.Scan.{after, run, Here, Passes}
 use Rattle.form_items.specs.Items.{Wrote, itemsOf}
 use Rattle.read_pattern.specs.Pattern.{IsElement, Pieced, Pieces, Fits, Grown, Ends, Reads, Begins, Starts, behindLeft, behindRight, behindElement, insideFault, pieceFault, innerFault, wholeFault}
-use Rattle.read_scan.specs.declared.Fault.{Fault}
-use Rattle.read_scan.specs.declared.Fault.the-variants.{BadBrace, NoElement, MacroTooLong}
+use Rattle.read_scan.specs.declared.FileFault.{FileFault}
+use Rattle.read_scan.specs.declared.FileFault.the-variants.{BadBrace, NoElement, MacroTooLong}
 use Rattle.read_scan.specs.declared.Next.{Next}
 use Rattle.read_scan.specs.declared.Next.the-variants.{Byte, Refused as NoByte}
 use Rattle.read_pattern.specs.declared.Put.{Put}
 use Rattle.read_pattern.specs.declared.Put.the-variants.{At as PutAt, Refused as NoPut}
-use Rattle.read_pattern.specs.declared.Far.{Far}
+use Rattle.read_pattern.specs.declared.PatternSoFar.{PatternSoFar}
 use Rattle.read_pattern.specs.declared.Inside.{Inside}
 use Rattle.read_pattern.specs.declared.Inside.the-variants.{Closed, Quote, Refused as NoInside}
 use Rattle.read_pattern.specs.declared.Whole.{Whole}
@@ -54,7 +54,7 @@ form-items (p ∷ ps) = rw (reverse-cons p ps) (form-append (reverse ps) (p ∷ 
 
 -- PIECES GROWN
 
-element-fits : (x : Piece) → IsElement x → (ps : List Piece) (f : Far) (n : ℕ) → Fits ps f → Fits (x ∷ ps) (behindElement f n)
+element-fits : (x : Piece) → IsElement x → (ps : List Piece) (f : PatternSoFar) (n : ℕ) → Fits ps f → Fits (x ∷ ps) (behindElement f n)
 unfolding tags elements
 element-fits (element u c) i ps f n h = (h .0, lt-ltb 0 (suc (elements ps)) (omega arith))
 element-fits start i ps f n h = (h .0, lt-ltb 0 (suc (elements ps)) (omega arith))
@@ -70,18 +70,18 @@ element-level end i ps = refl
 element-level left i ps = absurd i
 element-level right i ps = absurd i
 
-left-fits : (ps : List Piece) (f : Far) → Fits ps f → Fits (left ∷ ps) (behindLeft f)
+left-fits : (ps : List Piece) (f : PatternSoFar) → Fits ps f → Fits (left ∷ ps) (behindLeft f)
 unfolding tags elements
 left-fits ps f h = (omega (arith, h .0), h .1)
 
 module _ {s : List ℕ} {a : ℕ} where
-  pub grown-none : (p : ℕ) (f : Far) (o : List ℕ) → Grown s a p f p f o o
+  pub grown-none : (p : ℕ) (f : PatternSoFar) (o : List ℕ) → Grown s a p f p f o o
   unfolding itemsOf
   grown-none p f o =
       record { pieces = []; fits = λ ps h. h; level = λ ps. refl; answer = λ ps h ms. refl; wrote = wrote-none o (f .used); used = omega arith }
 
   -- the machine is further on, with no piece more
-  grown-to : {p q : ℕ} {f g : Far} {x y : List ℕ} → Grown s a p f q g x y → (r : ℕ)
+  grown-to : {p q : ℕ} {f g : PatternSoFar} {x y : List ℕ} → Grown s a p f q g x y → (r : ℕ)
       → ((st : Part) (ms : List Macro) → skips st ≡ true → run s a ms false q st ≡ run s a ms false r st) → Grown s a p f r g x y
   unfolding skips
   grown-to k r e =
@@ -94,7 +94,7 @@ module _ {s : List ℕ} {a : ℕ} where
         used = k .used;
       }
 
-  grown-then : {p q r : ℕ} {f g h : Far} {x y z : List ℕ} → Grown s a p f q g x y → Grown s a q g r h y z → Grown s a p f r h x z
+  grown-then : {p q r : ℕ} {f g h : PatternSoFar} {x y z : List ℕ} → Grown s a p f q g x y → Grown s a q g r h y z → Grown s a p f r h x z
   grown-then k l =
       record {
         pieces = l .pieces ++ k .pieces;
@@ -106,7 +106,7 @@ module _ {s : List ℕ} {a : ℕ} where
       }
 
   -- an element
-  grown-piece : {p q n : ℕ} {f : Far} {x y : List ℕ} → Pieced s a p x y (f .used) q n → Grown s a p f q (behindElement f n) x y
+  grown-piece : {p q n : ℕ} {f : PatternSoFar} {x y : List ℕ} → Pieced s a p x y (f .used) q n → Grown s a p f q (behindElement f n) x y
   unfolding itemsOf
   grown-piece {n = n} {f = f} k =
       record {
@@ -119,7 +119,7 @@ module _ {s : List ℕ} {a : ℕ} where
       }
 
   -- a brace with what is inside
-  grown-brace : {p q : ℕ} {f g : Far} {x y z o : List ℕ} → Here s a p 123 → f .tags < 99 → Wrote x y (f .used) (pieceItems left) → Here s a q 125
+  grown-brace : {p q : ℕ} {f g : PatternSoFar} {x y z o : List ℕ} → Here s a p 123 → f .tags < 99 → Wrote x y (f .used) (pieceItems left) → Here s a q 125
       → Grown s a (p + 1) (behindLeft f) q g y z → Wrote z o (g .used) (pieceItems right) → Grown s a p f (q + 1) (behindRight g) x o
   unfolding itemsOf pieceItems tags elements depth
   grown-brace {f = f} {g = g} b h w d k v =
@@ -152,8 +152,8 @@ Unquoted (Quote q g) = ⊥
 Unquoted (NoInside f q) = Unit {0}
 
 -- pieces read up to v, and the next byte from there on
-module _ {s : List ℕ} {a p v : ℕ} {f g : Far} {x y : List ℕ} (k : Grown s a p f v g x y) (l : p ≤ v) {r : Next} (z : Passes s a v r) where
-  pub reads-fault : (out : List ℕ) {h : Fault} {q : ℕ} {o : Inside} → r ≡ NoByte h q → o ≡ insideFault r → Reads s a p f x out o
+module _ {s : List ℕ} {a p v : ℕ} {f g : PatternSoFar} {x y : List ℕ} (k : Grown s a p f v g x y) (l : p ≤ v) {r : Next} (z : Passes s a v r) where
+  pub reads-fault : (out : List ℕ) {h : FileFault} {q : ℕ} {o : Inside} → r ≡ NoByte h q → o ≡ insideFault r → Reads s a p f x out o
   unfolding skips
   reads-fault out {h} {q} e i =
       let w : Passes s a v (NoByte h q) = rw e at z in
@@ -191,7 +191,7 @@ module _ {s : List ℕ} {a p v : ℕ} {f g : Far} {x y : List ℕ} (k : Grown s 
 
     -- an element
     module _ {out : List ℕ} {o : Put} (w : Pieces s a q y out (g .used) o) where
-      pub reads-no-piece : (fin : List ℕ) {h : Fault} {n : ℕ} {i : Inside} → o ≡ NoPut h n → i ≡ pieceFault o → Reads s a p f x fin i
+      pub reads-no-piece : (fin : List ℕ) {h : FileFault} {n : ℕ} {i : Inside} → o ≡ NoPut h n → i ≡ pieceFault o → Reads s a p f x fin i
       reads-no-piece fin {h} {n} j c =
           let u : Pieces s a q y out (g .used) (NoPut h n) = rw j at w in
           rw (c ∙ ap pieceFault j) (record { is = (u .is .0, λ ps d ms. there .answer ps d ms ∙ u .is .1 (there .pieces ++ ps) ms) })
@@ -214,14 +214,14 @@ module _ {s : List ℕ} {a p v : ℕ} {f g : Far} {x y : List ℕ} (k : Grown s 
       fit : (ps : List Piece) → Fits ps f → Fits (left ∷ (there .pieces ++ ps)) (behindLeft g)
       fit ps c = left-fits (there .pieces ++ ps) g (there .fits ps c)
 
-      module _ {i : Far} (u : i ≡ behindLeft g) {out : List ℕ} {o : Inside} (d : Reads s a (q + 1) i mid out o) where
+      module _ {i : PatternSoFar} (u : i ≡ behindLeft g) {out : List ℕ} {o : Inside} (d : Reads s a (q + 1) i mid out o) where
         inner : Reads s a (q + 1) (behindLeft g) mid out o
         inner = rw u at d
 
-        pub inner-ends : {m : ℕ} {j : Far} → o ≡ Closed m j → Ends s a (q + 1) (behindLeft g) m j mid out 125
+        pub inner-ends : {m : ℕ} {j : PatternSoFar} → o ≡ Closed m j → Ends s a (q + 1) (behindLeft g) m j mid out 125
         inner-ends {m} {j} n = let c : Reads s a (q + 1) (behindLeft g) mid out (Closed m j) = rw n at inner in c .is
 
-        pub grown-closed : {fin : List ℕ} {m : ℕ} {j : Far} → o ≡ Closed m j → Wrote out fin (j .used) (pieceItems right) → Grown s a p f (m + 1) (behindRight j) x fin
+        pub grown-closed : {fin : List ℕ} {m : ℕ} {j : PatternSoFar} → o ≡ Closed m j → Wrote out fin (j .used) (pieceItems right) → Grown s a p f (m + 1) (behindRight j) x fin
         grown-closed n v = let c = inner-ends n in grown-then there (grown-brace brace t w (c .here) (c .grown) v)
 
         pub reads-inner : (fin : List ℕ) → Unclosed o → Reads s a p f x fin (innerFault o)
@@ -252,7 +252,7 @@ macro-begins s a ms h e l =
     ∙ (read-after s ms (suc a) false 1 (pattern nothing []) (drop (suc a) s) refl
     ∙ ap (after s ms) (sym (run-now s a ms false (a + 1) (pattern nothing []) (omega arith) ∙ rw (n, add-one) refl))))
 
-abbrev pub noneYet : Far
+abbrev pub noneYet : PatternSoFar
 noneYet = record { tags = 0; some = false; used = 0 }
 
 blank : Fits [] noneYet
@@ -270,7 +270,7 @@ module _ {s : List ℕ} {a : ℕ} {x y : List ℕ} {r : Inside} (z : Reads s a (
       by (Quote q g) d u = absurd u
       by (NoInside f q) d u = (d .is .0, λ ms. d .is .1 [] blank ms)
 
-  module _ {q : ℕ} {g : Far} (e : r ≡ Quote q g) where
+  module _ {q : ℕ} {g : PatternSoFar} (e : r ≡ Quote q g) where
     pub at-its-quote : Ends s a (a + 1) noneYet q g x y 39
     at-its-quote = let d : Reads s a (a + 1) noneYet x y (Quote q g) = rw e at z in d .is
 
@@ -312,5 +312,5 @@ module _ {s : List ℕ} {a : ℕ} {old out : List ℕ} {r : Whole} (x : Begins s
   pub starts-pattern : {q t j : ℕ} → r ≡ Pattern q t j → Starts s a old out (Pattern q t j)
   starts-pattern e = record { begins = rw e at x; zeros = tt }
 
-  pub starts-fault : {f : Fault} {q : ℕ} → r ≡ NoWhole f q → {fin : List ℕ} {k : ℕ} → Wrote out fin 0 (replicate k 0) → k ≡ length fin → length fin ≡ length old → Starts s a old fin (NoWhole f q)
+  pub starts-fault : {f : FileFault} {q : ℕ} → r ≡ NoWhole f q → {fin : List ℕ} {k : ℕ} → Wrote out fin 0 (replicate k 0) → k ≡ length fin → length fin ≡ length old → Starts s a old fin (NoWhole f q)
   starts-fault e {fin} {k} w g h = record { begins = rw e at x; zeros = wrote-all w (length-replicate {A = ℕ} k 0 ∙ g) ∙ ap (λ (n : ℕ). replicate {A = ℕ} n 0) (g ∙ h) }

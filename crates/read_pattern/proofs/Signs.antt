@@ -8,7 +8,7 @@ use native.Mathlib.Omega.{arith}
 use lib.Dec.{eqb, ltb}
 use borrow.Author.Tests.{ne-eqb, le-ltb, lt-ltb}
 use Rattle.macros.specs.Refusals.FileRefusal.{incomplete, noUnit, badBrace, noElement, macroTooLong}
-use Rattle.macros.specs.Macro.{Mark, PatternUnit, Piece, Macro, pick, among, within, lower, markByte, tags, depth, elements}
+use Rattle.macros.specs.Macro.{Mark, PatternUnit, Piece, Macro, pick, among, within, asciiLower, markByte, tags, depth, elements}
 use Rattle.macros.specs.Macro.Closure.{once, oneOrMore, zeroOrMore}
 use Rattle.macros.specs.Macro.PatternUnit.{literal, kind, callOf}
 use Rattle.macros.specs.Macro.Piece.{element, start, end, left, right}
@@ -128,11 +128,11 @@ module _ {s : List ℕ} {a p b : ℕ} (x : Here s a p b) (ms : List Macro) (ps :
     unfolding partByte patternByte pick
     mark-literal e = here-same x ms _ _ (λ x q o. refl) (simp (ne-eqb _ _ e))
 
-    pub call-letter : lower b ≡ true → run s a ms false p (patternCall m ps) ≡ run s a ms false (p + 1) (patternCalled m ps b)
+    pub call-letter : asciiLower b ≡ true → run s a ms false p (patternCall m ps) ≡ run s a ms false (p + 1) (patternCalled m ps b)
     unfolding partByte pick
     call-letter e = here-on x ms _ _ (λ q o. refl) (simp e)
 
-    pub call-wrong : lower b ≡ false → (b ≡ 32 → ⊥) → run s a ms false p (patternCall m ps) ≡ refusedAt (wrongCall b) p
+    pub call-wrong : asciiLower b ≡ false → (b ≡ 32 → ⊥) → run s a ms false p (patternCall m ps) ≡ refusedAt (wrongCall b) p
     unfolding partByte pick
     call-wrong e f = here-stop x ms _ (wrongCall b) (simp e (otherwise-wrong (patternCall m ps) b f))
 
@@ -177,7 +177,7 @@ module _ {s : List ℕ} {a p b : ℕ} (x : At s a p b) (ms : List Macro) (ps : L
 
 -- a call in a pattern passes over spaces
 pub space-letter : (m : Mark) (ps : List Piece) → partByte (patternCall m ps) 32 ≡ on (patternCall m ps)
-unfolding partByte otherwise lower within pick
+unfolding partByte otherwise asciiLower within pick
 space-letter m ps = refl
 
 pub space-called : (m : Mark) (ps : List Piece) (i : ℕ) → partByte (patternCalled m ps i) 32 ≡ on (patternCalled m ps i)

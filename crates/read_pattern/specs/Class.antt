@@ -18,7 +18,7 @@ use Rattle.read_scan.specs.Scan.MacroRead.{refusedAt}
 use Rattle.form_table.specs.Form.{membersItems}
 use Rattle.read_scan.specs.Scan.{faultOf, run, Reached}
 use Rattle.form_items.specs.Items.{Wrote, memberBytes}
-use Rattle.read_scan.specs.declared.Fault.the-variants.{Incomplete}
+use Rattle.read_scan.specs.declared.FileFault.the-variants.{Incomplete}
 use Rattle.read_scan.specs.declared.Next.{Next}
 use Rattle.read_scan.specs.declared.Next.the-variants.{Byte, Refused as NoByte}
 use Rattle.read_pattern.specs.declared.ClassByte.{ClassByte}

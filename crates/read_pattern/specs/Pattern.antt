@@ -19,7 +19,7 @@ use Rattle.form_table.specs.Form.{unitRest, pieceItems, patternItems}
 use Rattle.form_element.specs.Element.{unitOf, codeClosure, elementOf}
 use Rattle.read_scan.specs.Scan.{faultOf, run, Here, Reached}
 use Rattle.form_items.specs.Items.{Wrote, itemsOf}
-use Rattle.read_scan.specs.declared.Fault.the-variants.{Incomplete, BadBrace}
+use Rattle.read_scan.specs.declared.FileFault.the-variants.{Incomplete, BadBrace}
 use Rattle.read_scan.specs.declared.Next.{Next}
 use Rattle.read_scan.specs.declared.Next.the-variants.{Byte, Refused as NoByte}
 use Rattle.form_element.specs.declared.Unit.{Unit as CodeUnit}
@@ -30,7 +30,7 @@ use Rattle.read_pattern.specs.declared.Item.{Item}
 use Rattle.read_pattern.specs.declared.Item.the-variants.{Got, Refused as NoItem}
 use Rattle.read_pattern.specs.declared.Put.{Put}
 use Rattle.read_pattern.specs.declared.Put.the-variants.{At as PutAt, Refused as NoPut}
-use Rattle.read_pattern.specs.declared.Far.{Far}
+use Rattle.read_pattern.specs.declared.PatternSoFar.{PatternSoFar}
 use Rattle.read_pattern.specs.declared.Inside.{Inside}
 use Rattle.read_pattern.specs.declared.Inside.the-variants.{Closed, Quote, Refused as NoInside}
 use Rattle.read_pattern.specs.declared.Whole.{Whole}
@@ -162,11 +162,11 @@ pub record Pieces (s : List ℕ) (a p : ℕ) (old out : List ℕ) (n : ℕ) (r :
   pub is : PiecesBy s a p old out n r
 
 -- that the pieces have these tags, and whether they have an element
-abbrev pub Fits : List Piece → Far → Type 0
+abbrev pub Fits : List Piece → PatternSoFar → Type 0
 Fits ps f = (tags ps ≡ f .tags) × (ltb 0 (elements ps) ≡ f .some)
 
 -- behind any pieces that fit f, the machine goes from p to q and reads these pieces, balanced; then they fit g, and their items are written
-pub record Grown (s : List ℕ) (a p : ℕ) (f : Far) (q : ℕ) (g : Far) (old out : List ℕ) : Type 0 where
+pub record Grown (s : List ℕ) (a p : ℕ) (f : PatternSoFar) (q : ℕ) (g : PatternSoFar) (old out : List ℕ) : Type 0 where
   pub pieces : List Piece
   pub fits : (ps : List Piece) → Fits ps f → Fits (pieces ++ ps) g
   pub level : (ps : List Piece) → depth (pieces ++ ps) ≡ depth ps
@@ -175,7 +175,7 @@ pub record Grown (s : List ℕ) (a p : ℕ) (f : Far) (q : ℕ) (g : Far) (old o
   pub used : g .used ≡ f .used + length (itemsOf pieces)
 
 -- that the run of pieces from p ends at q before the byte b
-pub record Ends (s : List ℕ) (a p : ℕ) (f : Far) (q : ℕ) (g : Far) (old out : List ℕ) (b : ℕ) : Type 0 where
+pub record Ends (s : List ℕ) (a p : ℕ) (f : PatternSoFar) (q : ℕ) (g : PatternSoFar) (old out : List ℕ) (b : ℕ) : Type 0 where
   pub further : p ≤ q
   pub here : Here s a q b
   pub tagged : g .tags ≤ mostTags
@@ -183,14 +183,14 @@ pub record Ends (s : List ℕ) (a p : ℕ) (f : Far) (q : ℕ) (g : Far) (old ou
   pub grown : Grown s a p f q g old out
 
 -- the pieces up to a right brace or the quote, or the refusal
-abbrev pub ReadsBy : List ℕ → ℕ → ℕ → Far → List ℕ → List ℕ → Inside → Type 0
+abbrev pub ReadsBy : List ℕ → ℕ → ℕ → PatternSoFar → List ℕ → List ℕ → Inside → Type 0
 ReadsBy s a p f old out (Closed q g) = Ends s a p f q g old out 125
 ReadsBy s a p f old out (Quote q g) = Ends s a p f q g old out 39
 ReadsBy s a p f old out (NoInside k q) =
     (q ≤ length s) × ((ps : List Piece) → Fits ps f → (ms : List Macro) → run s a ms false p (pattern nothing ps) ≡ refusedAt (faultOf k) q)
 
 -- what reading from p up to a right brace or the quote says, behind any pieces that fit f, by the answer
-pub record Reads (s : List ℕ) (a p : ℕ) (f : Far) (old out : List ℕ) (r : Inside) : Type 0 where
+pub record Reads (s : List ℕ) (a p : ℕ) (f : PatternSoFar) (old out : List ℕ) (r : Inside) : Type 0 where
   pub is : ReadsBy s a p f old out r
 
 -- the pieces of the pattern of the macro that began at a, newest first, as the machine has them behind the closing quote, at q; their items are written from 0 up to j
@@ -220,15 +220,15 @@ pub record Starts (s : List ℕ) (a : ℕ) (old out : List ℕ) (r : Whole) : Ty
   pub zeros : Zeroed old out r
 
 -- how far a pattern is behind a left brace
-abbrev pub behindLeft : Far → Far
+abbrev pub behindLeft : PatternSoFar → PatternSoFar
 behindLeft f = record { tags = f .tags + 1; some = f .some; used = f .used + 2 }
 
 -- how far it is behind a right brace
-abbrev pub behindRight : Far → Far
+abbrev pub behindRight : PatternSoFar → PatternSoFar
 behindRight f = record { tags = f .tags; some = f .some; used = f .used + 2 }
 
 -- how far it is behind an element that is written up to n
-abbrev pub behindElement : Far → ℕ → Far
+abbrev pub behindElement : PatternSoFar → ℕ → PatternSoFar
 behindElement f n = record { tags = f .tags; some = true; used = n }
 
 -- a refusal of a byte, of a class's members, of an element and of a piece handed on

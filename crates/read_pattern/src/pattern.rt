@@ -1,10 +1,10 @@
 // Reads a pattern and writes its items. Everywhere s is the file, a the place of the macro's first quote, and out the lent bytes.
 use crate::ClassByte;
-use crate::Far;
 use crate::Inside;
 use crate::Item;
 use crate::Last;
 use crate::MOST_TAGS;
+use crate::PatternSoFar;
 use crate::Put;
 use crate::Taken;
 use crate::Whole;
@@ -22,7 +22,7 @@ use read_bytes::escaped_byte;
 use read_bytes::is_break;
 use read_bytes::is_digit;
 use read_bytes::is_lower;
-use read_scan::Fault;
+use read_scan::FileFault;
 use read_scan::MOST_MACRO_BYTES;
 use read_scan::Next;
 use read_scan::scan::any_byte;
@@ -34,7 +34,7 @@ ghost use mathlib.Core.Bool.{true};
 ghost use Prim.Native.Nat.{_≤_, _<_, _+_};
 ghost use lib.ListN.{length};
 ghost use Rattle.macros.specs.Bounds.{mostTags};
-ghost use Rattle.macros.specs.Macro.{upper, isRange, markByte};
+ghost use Rattle.macros.specs.Macro.{asciiUpper, isRange, markByte};
 ghost use Rattle.macros.specs.Macro.PatternUnit.{callOf};
 ghost use Rattle.macros.specs.Macro.Piece.{left, right};
 ghost use Rattle.macros.specs.Read.{kindDigit};
@@ -160,7 +160,7 @@ fn marked(s: &[u8], a: usize, at: usize, end: usize, sign: u8) -> Item
 
 // An upper case letter.
 fn is_upper(b: u8) -> bool
-    ensures { λ r. ⌜ r ≡ upper b ⌝ }
+    ensures { λ r. ⌜ r ≡ asciiUpper b ⌝ }
 {
     65 <= b && b <= 90
 }
@@ -185,7 +185,7 @@ fn class_byte(s: &[u8], a: usize, at: usize) -> ClassByte
         return byte_fault(raw);
     };
     if is_break(b) {
-        return ClassByte::Refused(Fault::Incomplete, q);
+        return ClassByte::Refused(FileFault::Incomplete, q);
     }
     if b != b'\\' {
         return ClassByte::Got(b, true, q);
@@ -258,14 +258,14 @@ fn members(s: &[u8], out: &mut [u8], a: usize, first: usize, from: usize) -> Put
         if raw && c == b']' {
             let end = put_last(out, n, last);
             if end == from {
-                return Put::Refused(Fault::BadClass, q);
+                return Put::Refused(FileFault::BadClass, q);
             }
             put_item(out, end, CLASS_END, 0);
             return Put::At(q + 1, end + 2);
         }
         let taken = take_member(out, n, last, c, raw);
         let Taken::Got(l, m) = taken else {
-            return Put::Refused(Fault::BadClass, q);
+            return Put::Refused(FileFault::BadClass, q);
         };
         last = l;
         n = m;
@@ -306,10 +306,10 @@ fn element(s: &[u8], out: &mut [u8], a: usize, at: usize, b: u8, n: usize) -> It
     ensures { λ r. ⌜ Makes (now (s .entry)) a at (at + 1) atFresh (now (out .entry)) (now (out .exit)) n r ⌝ }
 {
     if b == b'*' {
-        return Item::Refused(Fault::NoUnit, at);
+        return Item::Refused(FileFault::NoUnit, at);
     }
     if is_break(b) {
-        return Item::Refused(Fault::Incomplete, at);
+        return Item::Refused(FileFault::Incomplete, at);
     }
     if b == b'\\' {
         return escape(s, a, at + 1, n);
@@ -358,13 +358,13 @@ fn piece(s: &[u8], out: &mut [u8], a: usize, at: usize, b: u8, n: usize) -> Put
 }
 
 // A left brace: one tag more.
-fn open_tag(out: &mut [u8], far: Far) -> Far
+fn open_tag(out: &mut [u8], far: PatternSoFar) -> PatternSoFar
     requires { ⌜ (far .tags < mostTags) × (far .used + 1 < length (now out)) ⌝ }
     ensures { λ r. ⌜ (r ≡ behindLeft far) × Wrote (now (out .entry)) (now (out .exit)) (far .used) (pieceItems left) ⌝ }
 {
     let n = far.used;
     put_element(out, n, once(Unit::Left));
-    Far {
+    PatternSoFar {
         tags: far.tags + 1,
         some: far.some,
         used: n + 2,
@@ -372,13 +372,13 @@ fn open_tag(out: &mut [u8], far: Far) -> Far
 }
 
 // A right brace: the tag is complete.
-fn close_tag(out: &mut [u8], far: Far) -> Far
+fn close_tag(out: &mut [u8], far: PatternSoFar) -> PatternSoFar
     requires { ⌜ far .used + 1 < length (now out) ⌝ }
     ensures { λ r. ⌜ (r ≡ behindRight far) × Wrote (now (out .entry)) (now (out .exit)) (far .used) (pieceItems right) ⌝ }
 {
     let n = far.used;
     put_element(out, n, once(Unit::Right));
-    Far {
+    PatternSoFar {
         tags: far.tags,
         some: far.some,
         used: n + 2,
@@ -386,10 +386,10 @@ fn close_tag(out: &mut [u8], far: Far) -> Far
 }
 
 // An element more, written up to n.
-fn with_element(far: Far, n: usize) -> Far
+fn with_element(far: PatternSoFar, n: usize) -> PatternSoFar
     ensures { λ r. ⌜ r ≡ behindElement far n ⌝ }
 {
-    Far {
+    PatternSoFar {
         tags: far.tags,
         some: true,
         used: n,
@@ -397,7 +397,7 @@ fn with_element(far: Far, n: usize) -> Far
 }
 
 // Reads up to a right brace or the closing quote, and calls itself for the inside of each brace.
-fn inside(s: &[u8], out: &mut [u8], a: usize, first: usize, from: Far) -> Inside
+fn inside(s: &[u8], out: &mut [u8], a: usize, first: usize, from: PatternSoFar) -> Inside
     requires { ⌜ Reached (now s) a first × (from .tags ≤ mostTags) × Room (now out) a first (from .used) ⌝ }
     ensures { λ r. ⌜ Reads (now (s .entry)) a first from (now (out .entry)) (now (out .exit)) r ⌝ }
 {
@@ -416,7 +416,7 @@ fn inside(s: &[u8], out: &mut [u8], a: usize, first: usize, from: Far) -> Inside
         }
         if b == b'{' {
             if MOST_TAGS <= far.tags {
-                return Inside::Refused(Fault::BadBrace, q);
+                return Inside::Refused(FileFault::BadBrace, q);
             }
             let deeper = open_tag(out, far);
             let inner = inside(s, out, a, q + 1, deeper);
@@ -441,7 +441,7 @@ fn pieces(s: &[u8], out: &mut [u8], a: usize) -> Whole
     requires { ⌜ (a < length (now s)) × (slotBytes ≤ length (now out)) ⌝ }
     ensures { λ r. ⌜ Begins (now (s .entry)) a (now (out .entry)) (now (out .exit)) r ⌝ }
 {
-    let none = Far {
+    let none = PatternSoFar {
         tags: 0,
         some: false,
         used: 0,
@@ -452,11 +452,11 @@ fn pieces(s: &[u8], out: &mut [u8], a: usize) -> Whole
     };
     if far.some {
         if MOST_MACRO_BYTES <= q - a {
-            return Whole::Refused(Fault::MacroTooLong, q);
+            return Whole::Refused(FileFault::MacroTooLong, q);
         }
         return Whole::Pattern(q + 1, far.tags, far.used);
     }
-    Whole::Refused(Fault::NoElement, q)
+    Whole::Refused(FileFault::NoElement, q)
 }
 
 // The pattern of the macro whose first quote stands at a; a refusal leaves zeros in the lent bytes.
@@ -480,7 +480,7 @@ fn item_fault(n: Next) -> Item
     ensures { λ r. ⌜ r ≡ itemFault n ⌝ }
 {
     match n {
-        Next::Byte(_, q) => Item::Refused(Fault::Incomplete, q),
+        Next::Byte(_, q) => Item::Refused(FileFault::Incomplete, q),
         Next::Refused(f, q) => Item::Refused(f, q),
     }
 }
@@ -490,7 +490,7 @@ fn byte_fault(n: Next) -> ClassByte
     ensures { λ r. ⌜ r ≡ byteFault n ⌝ }
 {
     match n {
-        Next::Byte(_, q) => ClassByte::Refused(Fault::Incomplete, q),
+        Next::Byte(_, q) => ClassByte::Refused(FileFault::Incomplete, q),
         Next::Refused(f, q) => ClassByte::Refused(f, q),
     }
 }
@@ -500,7 +500,7 @@ fn put_fault(b: ClassByte) -> Put
     ensures { λ r. ⌜ r ≡ putFault b ⌝ }
 {
     match b {
-        ClassByte::Got(_, _, q) => Put::Refused(Fault::Incomplete, q),
+        ClassByte::Got(_, _, q) => Put::Refused(FileFault::Incomplete, q),
         ClassByte::Refused(f, q) => Put::Refused(f, q),
     }
 }
@@ -510,7 +510,7 @@ fn class_fault(p: Put) -> Item
     ensures { λ r. ⌜ r ≡ classFault p ⌝ }
 {
     match p {
-        Put::At(q, _) => Item::Refused(Fault::Incomplete, q),
+        Put::At(q, _) => Item::Refused(FileFault::Incomplete, q),
         Put::Refused(f, q) => Item::Refused(f, q),
     }
 }
@@ -520,7 +520,7 @@ fn element_fault(i: Item) -> Put
     ensures { λ r. ⌜ r ≡ elementFault i ⌝ }
 {
     match i {
-        Item::Got(_, q, _) => Put::Refused(Fault::Incomplete, q),
+        Item::Got(_, q, _) => Put::Refused(FileFault::Incomplete, q),
         Item::Refused(f, q) => Put::Refused(f, q),
     }
 }
@@ -530,7 +530,7 @@ fn inside_fault(n: Next) -> Inside
     ensures { λ r. ⌜ r ≡ insideFault n ⌝ }
 {
     match n {
-        Next::Byte(_, q) => Inside::Refused(Fault::Incomplete, q),
+        Next::Byte(_, q) => Inside::Refused(FileFault::Incomplete, q),
         Next::Refused(f, q) => Inside::Refused(f, q),
     }
 }
@@ -540,7 +540,7 @@ fn piece_fault(p: Put) -> Inside
     ensures { λ r. ⌜ r ≡ pieceFault p ⌝ }
 {
     match p {
-        Put::At(q, _) => Inside::Refused(Fault::Incomplete, q),
+        Put::At(q, _) => Inside::Refused(FileFault::Incomplete, q),
         Put::Refused(f, q) => Inside::Refused(f, q),
     }
 }
@@ -550,8 +550,8 @@ fn inner_fault(i: Inside) -> Inside
     ensures { λ r. ⌜ r ≡ innerFault i ⌝ }
 {
     match i {
-        Inside::Closed(q, _) => Inside::Refused(Fault::Incomplete, q),
-        Inside::Quote(q, _) => Inside::Refused(Fault::BadBrace, q),
+        Inside::Closed(q, _) => Inside::Refused(FileFault::Incomplete, q),
+        Inside::Quote(q, _) => Inside::Refused(FileFault::BadBrace, q),
         Inside::Refused(f, q) => Inside::Refused(f, q),
     }
 }
@@ -561,8 +561,8 @@ fn whole_fault(i: Inside) -> Whole
     ensures { λ r. ⌜ r ≡ wholeFault i ⌝ }
 {
     match i {
-        Inside::Closed(q, _) => Whole::Refused(Fault::BadBrace, q),
-        Inside::Quote(q, _) => Whole::Refused(Fault::Incomplete, q),
+        Inside::Closed(q, _) => Whole::Refused(FileFault::BadBrace, q),
+        Inside::Quote(q, _) => Whole::Refused(FileFault::Incomplete, q),
         Inside::Refused(f, q) => Whole::Refused(f, q),
     }
 }

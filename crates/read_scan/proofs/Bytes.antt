@@ -14,8 +14,8 @@ use Rattle.macros.specs.Macro.{pick}
 use Rattle.read_scan.specs.Bytes.{Placed, with?, outside, upTo, seen, unended, byteHere, first, nextByte, spaceless, nextInCall}
 use Rattle.read_scan.specs.Bytes.Placed.{byteAt}
 use Rattle.read_scan.specs.Scan.{At, Here, Reached}
-use Rattle.read_scan.specs.declared.Fault.{Fault}
-use Rattle.read_scan.specs.declared.Fault.the-variants.{Incomplete, MacroTooLong}
+use Rattle.read_scan.specs.declared.FileFault.{FileFault}
+use Rattle.read_scan.specs.declared.FileFault.the-variants.{Incomplete, MacroTooLong}
 use Rattle.read_scan.specs.declared.Next.{Next}
 use Rattle.read_scan.specs.declared.Next.the-variants.{Byte, Refused as NoByte}
 
@@ -127,7 +127,7 @@ seen-byte s a p b q e = by (seen s a p) refl e
         let h : seen s a p ≡ byteAt b q ∷ w = rw (← i, ← j) f in
         rw (← outside-rest _ false p (upTo s a) refl h) h
 
-pub seen-none : (s : List ℕ) (a p : ℕ) (f : Fault) (q : ℕ) → NoByte f q ≡ nextByte s a p → (seen s a p ≡ []) × (NoByte f q ≡ unended s a)
+pub seen-none : (s : List ℕ) (a p : ℕ) (f : FileFault) (q : ℕ) → NoByte f q ≡ nextByte s a p → (seen s a p ≡ []) × (NoByte f q ≡ unended s a)
 unfolding nextByte first
 seen-none s a p f q e = by (seen s a p) refl e
   where
@@ -155,7 +155,7 @@ next-here p g x e = rw (g ∙ seen-here x e) refl
 
 -- in a call: from p only skips and spaces up to v
 module _ (s : List ℕ) (a p v : ℕ) (g : spaceless (seen s a p) ≡ spaceless (seen s a v)) where
-  pub in-call-none : {f : Fault} {q : ℕ} → NoByte f q ≡ nextByte s a v → NoByte f q ≡ nextInCall s a p
+  pub in-call-none : {f : FileFault} {q : ℕ} → NoByte f q ≡ nextByte s a v → NoByte f q ≡ nextInCall s a p
   unfolding nextInCall first spaceless
   in-call-none {f} {q} e =
       let h = seen-none s a v f q e in

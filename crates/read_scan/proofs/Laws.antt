@@ -23,7 +23,7 @@ use Rattle.read_scan.specs.Bytes.{seen, spaceless}
 use Rattle.read_scan.proofs.Bytes.{in-call-none, in-call-here, in-call-space}
 use Rattle.read_scan.specs.Scan.{MacroRead, atSymbol, noted, goOn, readMacro, after, run, At, Here, Reached, Passes, Calls, wrongCall}
 use Rattle.read_scan.specs.Scan.MacroRead.{refusedAt, patternTo, macroTo}
-use Rattle.read_scan.specs.declared.Fault.{Fault}
+use Rattle.read_scan.specs.declared.FileFault.{FileFault}
 use Rattle.read_scan.specs.declared.Next.{Next as CodeNext}
 use Rattle.read_scan.specs.declared.Next.the-variants.{Byte, Refused as NoByte}
 
@@ -308,7 +308,7 @@ pub no-spaces : (s : List ℕ) (a p : ℕ) → Spaces s a p p
 no-spaces s a p = record { same = refl; comes = λ st ms i j. refl }
 
 module _ {s : List ℕ} {a p v : ℕ} (g : Spaces s a p v) (l : p ≤ v) {r : CodeNext} (z : Passes s a v r) where
-  pub calls-fault : {f : Fault} {q : ℕ} → r ≡ NoByte f q → Calls s a p r
+  pub calls-fault : {f : FileFault} {q : ℕ} → r ≡ NoByte f q → Calls s a p r
   calls-fault {f} {q} e =
       let h : Passes s a v (NoByte f q) = rw e at z in
       rw e

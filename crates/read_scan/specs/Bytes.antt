@@ -6,7 +6,7 @@ use lib.Dec.{eqb, ltb}
 use lib.ListN.{length, getD, take, drop}
 use Rattle.macros.specs.Bounds.{mostMacroBytes}
 use Rattle.macros.specs.Macro.{pick}
-use Rattle.read_scan.specs.declared.Fault.the-variants.{Incomplete, MacroTooLong}
+use Rattle.read_scan.specs.declared.FileFault.the-variants.{Incomplete, MacroTooLong}
 use Rattle.read_scan.specs.declared.Next.{Next}
 use Rattle.read_scan.specs.declared.Next.the-variants.{Byte, Refused}
 

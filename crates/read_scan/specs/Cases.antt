@@ -5,7 +5,7 @@ use lib.ListN.{replicate}
 use Rattle.macros.specs.Cases.{bytes}
 use Rattle.macros.specs.Macro.{pick}
 use Rattle.read_scan.specs.Bytes.{with?, outside, upTo, seen, unended, byteHere, first, nextByte, spaceless, nextInCall}
-use Rattle.read_scan.specs.declared.Fault.the-variants.{Incomplete, MacroTooLong}
+use Rattle.read_scan.specs.declared.FileFault.the-variants.{Incomplete, MacroTooLong}
 use Rattle.read_scan.specs.declared.Next.the-variants.{Byte, Refused as NoByte}
 
 pub next-cases :

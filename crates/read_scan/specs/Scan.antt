@@ -16,13 +16,13 @@ use Rattle.macros.specs.ReadFile.Next.{go, refuse}
 use Rattle.macros.specs.ReadSoFar.Step.{on}
 use Rattle.macros.specs.ReadFile.Read.{refusedAt as fileRefusedAt}
 use Rattle.read_scan.specs.Bytes.{byteHere, nextByte, nextInCall}
-use Rattle.read_scan.specs.declared.Fault.{Fault}
-use Rattle.read_scan.specs.declared.Fault.the-variants.{FileTooLong, ZeroByte, Incomplete, BadClass, NoUnit, BadBrace, BadCall, NoElement, MacroTooLong, TooManyMacros}
+use Rattle.read_scan.specs.declared.FileFault.{FileFault}
+use Rattle.read_scan.specs.declared.FileFault.the-variants.{FileTooLong, ZeroByte, Incomplete, BadClass, NoUnit, BadBrace, BadCall, NoElement, MacroTooLong, TooManyMacros}
 use Rattle.read_scan.specs.declared.Next.{Next}
 use Rattle.read_scan.specs.declared.Next.the-variants.{Byte, Refused}
 
 -- the refusal that each fault of the code is
-abbrev pub faultOf : Fault → FileRefusal
+abbrev pub faultOf : FileFault → FileRefusal
 faultOf FileTooLong = fileTooLong
 faultOf ZeroByte = zeroByte
 faultOf Incomplete = incomplete

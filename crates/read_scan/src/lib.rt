@@ -6,7 +6,7 @@ pub mod scan;
 pub const MOST_MACRO_BYTES: usize = 512;
 
 // A refusal of the table writer, in the order of their numbers: 10 to 19.
-pub enum Fault {
+pub enum FileFault {
     FileTooLong,
     ZeroByte,
     Incomplete,
@@ -22,5 +22,5 @@ pub enum Fault {
 // A byte with its place; or a refusal with its place.
 pub enum Next {
     Byte(u8, usize),
-    Refused(Fault, usize),
+    Refused(FileFault, usize),
 }

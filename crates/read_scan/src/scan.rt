@@ -1,5 +1,5 @@
 // The leaves of the reader: bytes behind skips and spaces. In a macro only these know of skips and of the 513th byte.
-use crate::Fault;
+use crate::FileFault;
 use crate::MOST_MACRO_BYTES;
 use crate::Next;
 use read_bytes::is_break;
@@ -15,7 +15,7 @@ pub fn next_byte(s: &[u8], a: usize, first: usize) -> Next
     let mut skip = false;
     while at < s.len() {
         if MOST_MACRO_BYTES < at - a {
-            return Next::Refused(Fault::MacroTooLong, at - 1);
+            return Next::Refused(FileFault::MacroTooLong, at - 1);
         }
         let b = s[at];
         if b == b'/' {
@@ -29,9 +29,9 @@ pub fn next_byte(s: &[u8], a: usize, first: usize) -> Next
         }
     }
     if MOST_MACRO_BYTES < at - a {
-        return Next::Refused(Fault::MacroTooLong, at - 1);
+        return Next::Refused(FileFault::MacroTooLong, at - 1);
     }
-    Next::Refused(Fault::Incomplete, at)
+    Next::Refused(FileFault::Incomplete, at)
 }
 
 // The byte at a place where no skip can begin.
@@ -40,10 +40,10 @@ pub fn any_byte(s: &[u8], a: usize, at: usize) -> Next
     ensures { λ r. ⌜ Stays (now (s .entry)) a at r ⌝ }
 {
     if MOST_MACRO_BYTES < at - a {
-        return Next::Refused(Fault::MacroTooLong, at - 1);
+        return Next::Refused(FileFault::MacroTooLong, at - 1);
     }
     if s.len() <= at {
-        return Next::Refused(Fault::Incomplete, at);
+        return Next::Refused(FileFault::Incomplete, at);
     }
     Next::Byte(s[at], at)
 }
@@ -67,11 +67,11 @@ pub fn call_byte(s: &[u8], a: usize, first: usize) -> Next
 }
 
 // What a byte that a call cannot have shows.
-pub fn wrong_byte(b: u8) -> Fault
+pub fn wrong_byte(b: u8) -> FileFault
     ensures { λ r. ⌜ faultOf r ≡ wrongCall b ⌝ }
 {
     if is_break(b) {
-        return Fault::Incomplete;
+        return FileFault::Incomplete;
     }
-    Fault::BadCall
+    FileFault::BadCall
 }

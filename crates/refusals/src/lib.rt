@@ -1,7 +1,7 @@
 // What can be refused at work, and what an action comes to.
 
 // 32 to 35.
-pub enum Fault {
+pub enum WorkFault {
     NewLineTooLong,
     TagTooLong,
     PointerTooHigh,
@@ -11,5 +11,5 @@ pub enum Fault {
 // The bytes that the new line has then; or a refusal, with the bytes that it has by then.
 pub enum Outcome {
     Made(usize),
-    Refused(Fault, usize),
+    Refused(WorkFault, usize),
 }

@@ -17,8 +17,8 @@ use Rattle.macros.specs.Write.{Written, written, writeFrom}
 use Rattle.macros.specs.Write.Written.{refused, file}
 use Rattle.write_file.specs.Puts.{Puts}
 use Rattle.write_file.specs.Slots.{limitOf, faultOf, answerOf, refusalOf, Adds}
-use Rattle.write_file.specs.declared.Fault.{Fault}
-use Rattle.write_file.specs.declared.Fault.the-variants.{MacroTooLong, FileTooLong}
+use Rattle.write_file.specs.declared.WritingFault.{WritingFault}
+use Rattle.write_file.specs.declared.WritingFault.the-variants.{MacroTooLong, FileTooLong}
 use Rattle.write_file.specs.declared.Answer.{Answer}
 use Rattle.write_file.specs.declared.Answer.the-variants.{Written as WrittenOut, Refused}
 
@@ -124,7 +124,7 @@ module _ (old : List ℕ) {text part last : List ℕ} {start limit n end : ℕ} 
           let x : length (take start old) + mostMacroBytes ≡ limit = omega arith in
           long-macro (take start old) m ms (omega arith) (omega arith)
           ∙ ap (refused macroTooLong) x
-          ∙ ap (λ (z : Fault). refused (refusalOf z) limit) (sym (fault-low start l))
+          ∙ ap (λ (z : WritingFault). refused (refusalOf z) limit) (sym (fault-low start l))
       by m ms e (no g) =
           let r = room in
           let f = p .ends .full (omega arith) in
@@ -133,7 +133,7 @@ module _ (old : List ℕ) {text part last : List ℕ} {start limit n end : ℕ} 
           let x : mostFileBytes ≡ limit = omega arith in
           long-file (take start old) m ms (omega arith) (omega arith)
           ∙ ap (refused fileTooLong) x
-          ∙ ap (λ (z : Fault). refused (refusalOf z) limit) (sym (fault-high start (omega arith)))
+          ∙ ap (λ (z : WritingFault). refused (refusalOf z) limit) (sym (fault-high start (omega arith)))
 
   module _ (h : n ≤ limit) where
     counted : n ≡ start + length text

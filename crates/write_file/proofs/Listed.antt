@@ -15,7 +15,7 @@ use Rattle.form_table.specs.Form.{slotBytes}
 use Rattle.write_file.specs.Slots.{slotText, refusalOf, onward, Within, Adds, Holds, Lists, padded}
 use Rattle.write_file.specs.Contract.{meaning, reply, laidOut, WritesOut}
 use Rattle.write_file.specs.Contract.Reply.{size}
-use Rattle.write_file.specs.declared.Fault.{Fault}
+use Rattle.write_file.specs.declared.WritingFault.{WritingFault}
 use Rattle.write_file.specs.declared.Answer.{Answer}
 use Rattle.write_file.specs.declared.Answer.the-variants.{Written as WrittenOut, Refused}
 use Rattle.write_file.proofs.Tabled.{Slot, unused, used}
@@ -64,7 +64,7 @@ module _ (t f : List ℕ) (n k : ℕ) (reached : Reaches t f n k) where
       next-within e = subst Within e (a .within)
 
       -- a refusal
-      pub reach-stop : {fault : Fault} {p : ℕ} → r ≡ Refused fault p → Lists t new r
+      pub reach-stop : {fault : WritingFault} {p : ℕ} → r ≡ Refused fault p → Lists t new r
       reach-stop e =
           record {
             comes = λ ms h. through ms h ∙ ap (onward new (here ms h .others)) e ∙ ap (onward new []) (sym e);
@@ -128,7 +128,7 @@ write-file {t} {old} {f} {new} {r} {n} a e l c =
     come : (ms : Table) → Holds t ms → writeOut ms ≡ file (take n f)
     come ms h = a .comes ms h ∙ ap (onward f []) e
 
-pub write-none : {t old f : List ℕ} {r : Answer} {fault : Fault} {p : ℕ} → Lists t f r → r ≡ Refused fault p → WritesOut t old old r
+pub write-none : {t old f : List ℕ} {r : Answer} {fault : WritingFault} {p : ℕ} → Lists t f r → r ≡ Refused fault p → WritesOut t old old r
 unfolding meaning reply laidOut
 write-none {t} {old} {f} {r} {fault} {p} a e =
     record {

@@ -14,8 +14,8 @@ use Rattle.macros.specs.Accepted.{Accepted}
 use Rattle.form_table.specs.Check.{twoAt}
 use Rattle.form_table.specs.Form.{form, slotBytes}
 use Rattle.write_file.specs.Items.{patternText, actionsText, Whole}
-use Rattle.write_file.specs.declared.Fault.{Fault}
-use Rattle.write_file.specs.declared.Fault.the-variants.{MacroTooLong, FileTooLong}
+use Rattle.write_file.specs.declared.WritingFault.{WritingFault}
+use Rattle.write_file.specs.declared.WritingFault.the-variants.{MacroTooLong, FileTooLong}
 use Rattle.write_file.specs.declared.Answer.{Answer}
 use Rattle.write_file.specs.declared.Answer.the-variants.{Written as WrittenOut, Refused}
 
@@ -59,7 +59,7 @@ pub record Parts (s : List ℕ) : Type 0 where
   pub commands : Whole (part (replacementEnd s) (commandsEnd s) s)
 
 -- 01's refusal for each fault
-abbrev pub refusalOf : Fault → FileRefusal
+abbrev pub refusalOf : WritingFault → FileRefusal
 refusalOf MacroTooLong = macroTooLong
 refusalOf FileTooLong = fileTooLong
 
@@ -67,7 +67,7 @@ refusalOf FileTooLong = fileTooLong
 unfoldable pub limitOf : ℕ → ℕ
 limitOf n = pick (leb n 32256) (n + mostMacroBytes) mostFileBytes
 
-unfoldable pub faultOf : ℕ → Fault
+unfoldable pub faultOf : ℕ → WritingFault
 faultOf n = pick (leb n 32256) MacroTooLong FileTooLong
 
 -- the answer for a macro that begins at start, with its limit, and ends at n, or behind its line feed at end

@@ -13,7 +13,7 @@ ghost use Rattle.write_file.specs.Contract.{SomeTable, WritesOut};
 ghost use Rattle.write_file.specs.Slots.{padded};
 
 // 18 and 10.
-pub enum Fault {
+pub enum WritingFault {
     MacroTooLong,
     FileTooLong,
 }
@@ -21,7 +21,7 @@ pub enum Fault {
 // The file's length, or a refusal with its place.
 pub enum Answer {
     Written(usize),
-    Refused(Fault, usize),
+    Refused(WritingFault, usize),
 }
 
 // Writes out an accepted table; a refusal leaves `out` as it was.

@@ -1,6 +1,6 @@
 // The macros of a table, from their slots.
 use crate::Answer;
-use crate::Fault;
+use crate::WritingFault;
 use crate::actions::put_actions;
 use crate::pattern::put_pattern;
 use crate::put::Short;
@@ -67,13 +67,13 @@ fn limit_of(start: usize) -> usize
 }
 
 // Which of the two it is: 18 if both.
-fn fault_of(start: usize) -> Fault
+fn fault_of(start: usize) -> WritingFault
     ensures { λ r. ⌜ r ≡ faultOf start ⌝ }
 {
     if start <= 32256 {
-        return Fault::MacroTooLong;
+        return WritingFault::MacroTooLong;
     }
-    Fault::FileTooLong
+    WritingFault::FileTooLong
 }
 
 // The answer for a macro that ends at n, with its line feed at `end`.
@@ -84,7 +84,7 @@ fn answer_of(start: usize, limit: usize, n: usize, end: usize) -> Answer
         return Answer::Refused(fault_of(start), limit);
     }
     if 32768 < end {
-        return Answer::Refused(Fault::FileTooLong, 32768);
+        return Answer::Refused(WritingFault::FileTooLong, 32768);
     }
     Answer::Written(end)
 }

@@ -7,8 +7,8 @@ use Rattle.form_state.proofs.entry_at.Tie as tie
 pointer-requires : tie.Need-pointer-requires
 pointer-requires c κs = search needs
 
-place-requires : tie.Need-place-requires
-place-requires c κs = search
+letter-number-requires : tie.Need-letter-number-requires
+letter-number-requires c κs = search
 
 mul-result : tie.Need-mul-result
 mul-result c = omega arith
@@ -17,7 +17,7 @@ sub-result : tie.Need-sub-result
 sub-result c =
     let a = c .before .before .before in
     let s = a .pre .0 in
-    omega (arith, c .before .pointer .ensures (s .0) (s .1), pointer-range (a .args .state .now) (s .0) (s .1) (a .args .i) (c .place .result) (a .pre .1) (c .place .ensures .0))
+    omega (arith, c .before .pointer .ensures (s .0) (s .1), pointer-range (a .args .state .now) (s .0) (s .1) (a .args .i) (c .letter-number .result) (a .pre .1) (c .letter-number .ensures .0))
 
 cast-result : tie.Need-cast-result
 cast-result c = search needs
@@ -36,14 +36,14 @@ returns c =
     let a = c .before .before .before in
     let s = a .pre .0 in
     let p = c .before .pointer in
-    (omega (arith, p .ensures (s .0) (s .1), pointer-range (a .args .state .now) (s .0) (s .1) (a .args .i) (c .place .result) (a .pre .1) (c .place .ensures .0)), λ st h. omega (arith, p .ensures st h, c .place .ensures .0))
+    (omega (arith, p .ensures (s .0) (s .1), pointer-range (a .args .state .now) (s .0) (s .1) (a .args .i) (c .letter-number .result) (a .pre .1) (c .letter-number .ensures .0)), λ st h. omega (arith, p .ensures st h, c .letter-number .ensures .0))
 
 pub entry-at-spec : {M : Type 1} → statement M
 entry-at-spec =
     tie.close
     (tie.spec
     pointer-requires
-    place-requires
+    letter-number-requires
     mul-result
     sub-result
     cast-result

@@ -1,6 +1,6 @@
 use mathlib.Core.Path.{ap, sym}
 use Rattle.refusals.specs.Faults.{refusalOf as workOf}
-use Rattle.refusals.specs.declared.Fault.{Fault as WorkFault}
+use Rattle.refusals.specs.declared.WorkFault.{WorkFault}
 use Rattle.macros.specs.Refusals.{workNumber}
 use Rattle.line_answer.proofs.work_number.Statement.{statement}
 use Rattle.line_answer.proofs.work_number.Tie as tie

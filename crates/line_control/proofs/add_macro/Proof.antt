@@ -16,14 +16,14 @@ enum-known-reading c = search needs
 enum-told : tie.Need-enum-told
 enum-told c = search needs
 
-wrong-of-requires : tie.Need-wrong-of-requires
-wrong-of-requires c κs = search needs
+refused-of-requires : tie.Need-refused-of-requires
+refused-of-requires c κs = search needs
 
 same-length : tie.Need-same-length
 same-length c = search needs
 
 returns : tie.Need-returns
-returns c = add-wrong (now (c .before .before .before .before .before .before .before .before .before .args .table)) (c .before .before .before .before .before .read-onto .last .1 .0) (c .before .before .before .before .before .before .before .before .before .args .count) (now (c .before .before .before .before .before .before .before .before .before .args .rest)) (c .before .before .before .before .before .read-onto .result) (c .before .before .before .before .before .read-onto .ensures) (c .before .before .before .before .before .before .before .before .before .pre .1) (c .before .enum-told .given .1) (c .wrong-of .ensures)
+returns c = add-wrong (now (c .before .before .before .before .before .before .before .before .before .args .table)) (c .before .before .before .before .before .read-onto .last .1 .0) (c .before .before .before .before .before .before .before .before .before .args .count) (now (c .before .before .before .before .before .before .before .before .before .args .rest)) (c .before .before .before .before .before .read-onto .result) (c .before .before .before .before .before .read-onto .ensures) (c .before .before .before .before .before .before .before .before .before .pre .1) (c .before .enum-told .given .1) (c .refused-of .ensures)
 
 one-more-requires : tie.Need-one-more-requires
 one-more-requires c κs = (omega (arith, c .before .before .before .before .before .before .before .before .before .before .pre .0 .counted, c .before .before .before .before .before .before .before .before .before .before .pre .0 .isTable .accepted .count), c .before .before .before .before .before .before .read-onto .kept .1 .0 ∙ table-size (now (c .before .before .before .before .before .before .before .before .before .before .args .table)) (c .before .before .before .before .before .before .before .before .before .before .pre .0 .macros) (c .before .before .before .before .before .before .before .before .before .before .pre .0 .isTable))
@@ -41,7 +41,7 @@ add-macro-spec =
     read-onto-requires
     enum-known-reading
     enum-told
-    wrong-of-requires
+    refused-of-requires
     same-length
     returns
     one-more-requires

@@ -1,14 +1,14 @@
 use borrow.Author.Tests.{le-leb, lt-leb}
-use Rattle.macros.specs.Macro.{within, lower}
+use Rattle.macros.specs.Macro.{within, asciiLower}
 use Rattle.read_bytes.proofs.is_lower.Statement.{statement}
 use Rattle.read_bytes.proofs.is_lower.Tie as tie
 
 returns : tie.Need-returns
-unfolding lower within
+unfolding asciiLower within
 returns c = simp (le-leb _ _ (c .if1 .taken))
 
 returns-2 : tie.Need-returns-2
-unfolding lower within
+unfolding asciiLower within
 returns-2 c = simp (lt-leb _ _ (c .if1 .left))
 
 pub is-lower-spec : {M : Type 1} → statement M

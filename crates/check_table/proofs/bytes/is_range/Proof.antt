@@ -1,5 +1,5 @@
 -- `check_table::bytes::is_range` meets its contract. Assumes nothing.
-use Rattle.macros.specs.Macro.{isRange, digit, upper, lower}
+use Rattle.macros.specs.Macro.{isRange, digit, asciiUpper, asciiLower}
 use borrow.Author.Needs.{needs}
 use Rattle.check_table.proofs.bytes.is_range.Statement.{statement}
 use Rattle.check_table.proofs.bytes.is_range.Tie as tie
@@ -23,7 +23,7 @@ is-within-requires-6 : tie.Need-is-within-requires-6
 is-within-requires-6 c κs = search needs
 
 returns : tie.Need-returns
-unfolding isRange digit upper lower
+unfolding isRange digit asciiUpper asciiLower
 returns c = rw (c .before .before .before .before .before .is-within .ensures, c .before .before .before .before .is-within2 .ensures, c .before .before .before .is-within3 .ensures, c .before .before .is-within4 .ensures, c .before .is-within5 .ensures, c .is-within6 .ensures)
 
 pub is-range-spec : {M : Type 1} → statement M

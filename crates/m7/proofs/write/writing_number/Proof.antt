@@ -1,6 +1,6 @@
 use mathlib.Core.Path.{ap, sym}
 use Rattle.write_file.specs.Slots.{refusalOf}
-use Rattle.write_file.specs.declared.Fault.{Fault as WritingFault}
+use Rattle.write_file.specs.declared.WritingFault.{WritingFault}
 use Rattle.macros.specs.Refusals.{fileNumber}
 use Rattle.m7.proofs.write.writing_number.Statement.{statement}
 use Rattle.m7.proofs.write.writing_number.Tie as tie

@@ -1,6 +1,6 @@
 -- Assumes nothing.
 use Rattle.write_file.specs.declared.Answer.the-variants.{Refused}
-use Rattle.write_file.specs.declared.Fault.{Fault}
+use Rattle.write_file.specs.declared.WritingFault.{WritingFault}
 use Rattle.write_file.specs.Slots.{answerOf}
 use mathlib.Core.Path.{ap}
 use Rattle.macros.specs.Macro.{pick}
@@ -13,7 +13,7 @@ fault-of-requires c κs = tt
 
 returns : tie.Need-returns
 unfolding answerOf pick
-returns c = simp (lt-ltb _ _ (c .before .if1 .taken)) (ap (λ (f : Fault). Refused f (c .before .before .args .limit)) (c .fault-of .ensures))
+returns c = simp (lt-ltb _ _ (c .before .if1 .taken)) (ap (λ (f : WritingFault). Refused f (c .before .before .args .limit)) (c .fault-of .ensures))
 
 returns-2 : tie.Need-returns-2
 unfolding answerOf pick
