@@ -13,7 +13,8 @@ use Rattle.macros.specs.Macro.Piece.{element, start, end, left, right}
 use Rattle.form_table.specs.Form.{pieceItems}
 use Rattle.form_element.specs.declared.Element.{Element}
 use Rattle.form_element.specs.declared.Unit.{Unit as CodeUnit}
-use Rattle.form_element.specs.declared.Unit.the-variants.{Literal, Kind, Class, ClassNot, StackCall, CounterCall, Start, End, Left, Right}
+use Rattle.form_element.specs.declared.Unit.the-variants.{Literal, Kind, Class, ClassNot, StackCall}
+use Rattle.form_element.specs.declared.Unit.the-variants.{CounterCall, Start, End, Left, Right}
 use Rattle.form_element.specs.declared.Closure.{Closure as CodeClosure}
 use Rattle.form_element.specs.declared.Closure.the-variants.{Once, OneOrMore, ZeroOrMore}
 

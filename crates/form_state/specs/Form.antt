@@ -1,4 +1,5 @@
--- The form of a state as bytes, 26,236 of them: the flags TRACE and NFLAG; the 26 pointers; the 26 values and the 26 increments of the counters, four bytes each, low byte first;
+-- The form of a state as bytes, 26,236 of them: the flags TRACE and NFLAG; the 26 pointers;
+-- the 26 values and the 26 increments of the counters, four bytes each, low byte first;
 -- then the 20 entries of each stack, 50 bytes each, zeros behind an entry's text. Entries hold no byte 0, so they need no length.
 use Prim.Native.Nat.{ℕ, _-_}
 use mathlib.Core.List.{List, [], _∷_, _++_}
@@ -7,31 +8,41 @@ use Rattle.macros.specs.Bounds.{mostEntryBytes}
 use Rattle.form_bytes.specs.Fours.{four}
 use Rattle.lines.specs.State.{Stack, Counter, State}
 
+-- the size of a state's memory
 abbrev pub stateBytes : ℕ
 stateBytes = 26236
 
+-- the pointers, a byte each
 unfoldable pub pointersForm : List Stack → List ℕ
 pointersForm [] = []
 pointersForm (k ∷ ks) = k .pointer ∷ pointersForm ks
 
+-- the values of the counters
 unfoldable pub valuesForm : List Counter → List ℕ
 valuesForm [] = []
 valuesForm (k ∷ ks) = four (k .value) ++ valuesForm ks
 
+-- the increments of the counters
 unfoldable pub incrementsForm : List Counter → List ℕ
 incrementsForm [] = []
 incrementsForm (k ∷ ks) = four (k .increment) ++ incrementsForm ks
 
+-- an entry and the zeros behind it
 unfoldable pub entryForm : List ℕ → List ℕ
 entryForm e = e ++ replicate (mostEntryBytes - length e) 0
 
+-- the entries of a stack
 unfoldable pub entriesForm : List (List ℕ) → List ℕ
 entriesForm [] = []
 entriesForm (e ∷ es) = entryForm e ++ entriesForm es
 
+-- the entries of all stacks
 unfoldable pub stacksForm : List Stack → List ℕ
 stacksForm [] = []
 stacksForm (k ∷ ks) = entriesForm (k .entries) ++ stacksForm ks
 
+-- a whole state
 unfoldable pub stateForm : State → List ℕ
-stateForm st = st .trace ∷ st .nflag ∷ (pointersForm (st .stacks) ++ (valuesForm (st .counters) ++ (incrementsForm (st .counters) ++ stacksForm (st .stacks))))
+stateForm st =
+    st .trace ∷ st .nflag
+    ∷ (pointersForm (st .stacks) ++ (valuesForm (st .counters) ++ (incrementsForm (st .counters) ++ stacksForm (st .stacks))))

@@ -58,7 +58,8 @@ textLength b = 1 + bit (among callTextSigns b)
 unfoldable pub moveOf : ℕ → Option Move
 moveOf k =
     pick (eqb k 0) (some still)
-    (pick (eqb k 1) (some (before plus)) (pick (eqb k 2) (some (before minus)) (pick (eqb k 3) (some (after plus)) (pick (eqb k 4) (some (after minus)) none))))
+    (pick (eqb k 1) (some (before plus)) (pick (eqb k 2) (some (before minus))
+    (pick (eqb k 3) (some (after plus)) (pick (eqb k 4) (some (after minus)) none))))
 
 -- the call of a code, a letter and a move, its number or text still to come
 unfoldable pub callAs : ℕ → ℕ → Move → Option Call

@@ -52,7 +52,8 @@ twoAt s p = getD s p 0 + 256 * getD s (suc p) 0
 unfoldable pub partsFit : (s : List ℕ) → (p r c : ℕ) → Bool
 partsFit s p r c =
     leb (p + r + c) bodyBytes
-    && (allZero (drop (8 + p + r + c) s) && itemsFit (getD s 1 0) (take p (drop 8 s)) (take r (drop (8 + p) s)) (take c (drop (8 + p + r) s)))
+    && (allZero (drop (8 + p + r + c) s) && itemsFit (getD s 1 0) (take p (drop 8 s)) (take r (drop (8 + p) s))
+    (take c (drop (8 + p + r) s)))
 
 -- a slot in use: its symbol is 1 or 2, and its parts fit
 unfoldable pub slotFits : List ℕ → Bool

@@ -126,7 +126,8 @@ symbolCode equal = 2
 unfoldable pub header : Macro → List ℕ
 header m =
     symbolCode (m .symbol) ∷ tags (m .pattern)
-    ∷ (two (length (patternItems (m .pattern))) ++ (two (length (replacementItems (m .replacement))) ++ two (length (callsItems (m .commands)))))
+    ∷ (two (length (patternItems (m .pattern)))
+    ++ (two (length (replacementItems (m .replacement))) ++ two (length (callsItems (m .commands)))))
 
 unfoldable pub body : Macro → List ℕ
 body m = patternItems (m .pattern) ++ (replacementItems (m .replacement) ++ callsItems (m .commands))

@@ -83,10 +83,12 @@ opening false = atBracket
 
 -- behind the first item of an element
 unfoldable pub elementAt : (n t d e : ℕ) → Joint → PatternUnit → Closure → PatternState
-elementAt n t d e j (literal b) k = patternAt (n + literalLength j b + closureLength k) t d (suc e) (behindPiece (closureJoint (literalJoint b) k))
+elementAt n t d e j (literal b) k =
+    patternAt (n + literalLength j b + closureLength k) t d (suc e) (behindPiece (closureJoint (literalJoint b) k))
 elementAt n t d e j (kind m) k = patternAt (n + 2 + closureLength k) t d (suc e) (behindPiece (closureJoint loose k))
 elementAt n t d e j (callOf m i) k = patternAt (n + 4 + closureLength k) t d (suc e) (behindPiece (closureJoint loose k))
-elementAt n t d e j (class neg ms) k = patternAt (n + 2 + bit neg + closureLength k) t d (suc e) (inClass (closureJoint loose k) (opening neg))
+elementAt n t d e j (class neg ms) k =
+    patternAt (n + 2 + bit neg + closureLength k) t d (suc e) (inClass (closureJoint loose k) (opening neg))
 
 -- an element, if its code and its operand are some
 unfoldable pub elementStep : (n t d e : ℕ) → Joint → Option PatternUnit → Option Closure → Option PatternState
@@ -106,7 +108,8 @@ signStep n t d e c =
 
 -- the first item of a piece: a code below 8 has the operand 0
 unfoldable pub pieceStep : (n t d e : ℕ) → Joint → (c o : ℕ) → Option PatternState
-pieceStep n t d e j c o = pick (ltb c 8) (pick (eqb o 0) (signStep n t d e c) none) (elementStep n t d e j (unitOf (c / 4) o) (closureOf (c % 4)))
+pieceStep n t d e j c o =
+    pick (ltb c 8) (pick (eqb o 0) (signStep n t d e c) none) (elementStep n t d e j (unitOf (c / 4) o) (closureOf (c % 4)))
 
 -- CLASSES
 

@@ -133,7 +133,8 @@ abbrev pub ofKind : ℕ → ℕ → ℕ → List ℕ
 ofKind n zero b = []
 ofKind n (suc k) b = elim (kindOf n b) [ true ↦ b ∷ ofKind n k (suc b) | false ↦ ofKind n k (suc b) ]
 
--- of bytes 128 to 255 those named letters are of kinds 2 and 3, the 30 capital ones of kind 4, the 32 small ones of kind 5, and none of kind 6
+-- of bytes 128 to 255 those named letters are of kinds 2 and 3, the 30 capital ones of kind 4, the 32 small ones of kind 5,
+-- and none of kind 6
 pub by-name :
     (ofKind 2 128 128 ≡ named (λ s. capital s || small s) 160 names) ×
     (ofKind 3 128 128 ≡ named (λ s. capital s || small s) 160 names) ×

@@ -16,10 +16,12 @@ pub record Held : Type 0 where
 abbrev pub appends : (old : List ℕ) → (used : ℕ) → (text : List ℕ) → Held
 appends old used text = record { memory = take used old ++ text ++ drop (used + length text) old; used = used + length text }
 
--- the text behind the first bytes where it fits; else they are written, and it goes to the front, or is written too where it is longer than the memory
+-- the text behind the first bytes where it fits; else they are written, and it goes to the front,
+-- or is written too where it is longer than the memory
 unfoldable pub puts : (old : List ℕ) → (used : ℕ) → (text : List ℕ) → Held
 puts old used text =
-    cond (leb (used + length text) (length old)) (appends old used text) (cond (leb (length text) (length old)) (appends old 0 text) (record { memory = old; used = 0 }))
+    cond (leb (used + length text) (length old)) (appends old used text)
+    (cond (leb (length text) (length old)) (appends old 0 text) (record { memory = old; used = 0 }))
 
 -- the memory at exit, and the number that the function returns
 pub record Gives (h : Held) (new : List ℕ) (r : ℕ) : Type 0 where

@@ -30,18 +30,27 @@ symbolOf b = pick (eqb b 61) equal less
 
 -- what looking for the symbol says: it is the byte b at q
 abbrev pub SymbolAt : List ℕ → ℕ → ℕ → Next → Type 0
-SymbolAt s a p (Byte b q) = (p ≤ q) × Here s a q b × ((ps : List Piece) (ms : List Macro) → run s a ms false p (awaitSymbol ps) ≡ run s a ms false (q + 1) (awaitQuote (record { pieces = ps; symbol = symbolOf b })))
-SymbolAt s a p (NoByte f q) = (q ≤ length s) × ((ps : List Piece) (ms : List Macro) → run s a ms false p (awaitSymbol ps) ≡ refusedAt (faultOf f) q)
+SymbolAt s a p (Byte b q) =
+    (p ≤ q) × Here s a q b × ((ps : List Piece) (ms : List Macro)
+    → run s a ms false p (awaitSymbol ps) ≡ run s a ms false (q + 1) (awaitQuote (record { pieces = ps; symbol = symbolOf b })))
+SymbolAt s a p (NoByte f q) =
+    (q ≤ length s) × ((ps : List Piece) (ms : List Macro) → run s a ms false p (awaitSymbol ps) ≡ refusedAt (faultOf f) q)
 
 -- what looking for the replacement's first quote says: it stands at q
 abbrev pub QuoteAt : List ℕ → ℕ → ℕ → Next → Type 0
-QuoteAt s a p (Byte b q) = (p ≤ q) × Here s a q b × ((f : Front) (ms : List Macro) → run s a ms false p (awaitQuote f) ≡ run s a ms false (q + 1) (replacement none f []))
+QuoteAt s a p (Byte b q) =
+    (p ≤ q) × Here s a q b × ((f : Front) (ms : List Macro)
+    → run s a ms false p (awaitQuote f) ≡ run s a ms false (q + 1) (replacement none f []))
 QuoteAt s a p (NoByte f q) = (q ≤ length s) × ((g : Front) (ms : List Macro) → run s a ms false p (awaitQuote g) ≡ refusedAt (faultOf f) q)
 
 -- what looking for both says: the symbol is the byte b, and the quote stands at q
 abbrev pub FrontAt : List ℕ → ℕ → ℕ → Next → Type 0
-FrontAt s a p (Byte b q) = (p < q) × Reached s a (q + 1) × ((ps : List Piece) (ms : List Macro) → run s a ms false p (awaitSymbol ps) ≡ run s a ms false (q + 1) (replacement none (record { pieces = ps; symbol = symbolOf b }) []))
-FrontAt s a p (NoByte f q) = (q ≤ length s) × ((ps : List Piece) (ms : List Macro) → run s a ms false p (awaitSymbol ps) ≡ refusedAt (faultOf f) q)
+FrontAt s a p (Byte b q) =
+    (p < q) × Reached s a (q + 1) × ((ps : List Piece) (ms : List Macro)
+    → run s a ms false p (awaitSymbol ps)
+    ≡ run s a ms false (q + 1) (replacement none (record { pieces = ps; symbol = symbolOf b }) []))
+FrontAt s a p (NoByte f q) =
+    (q ≤ length s) × ((ps : List Piece) (ms : List Macro) → run s a ms false p (awaitSymbol ps) ≡ refusedAt (faultOf f) q)
 
 -- REPLACEMENT
 
@@ -61,12 +70,15 @@ pub record Acts (s : List ℕ) (a p : ℕ) (old out : List ℕ) (n k q e : ℕ) 
   pub used : e ≡ n + length (replacementItems (reverse actions))
   pub room : e ≤ n + 2 * (q - p)
   pub reached : Reached s a q
-  pub answer : (f : Front) (l : List Action) → tags (f .pieces) ≡ k → (ms : List Macro) → run s a ms false p (replacement none f l) ≡ run s a ms false q (replacement none f (actions ++ l))
+  pub answer : (f : Front) (l : List Action) → tags (f .pieces) ≡ k → (ms : List Macro)
+      → run s a ms false p (replacement none f l) ≡ run s a ms false q (replacement none f (actions ++ l))
 
 -- what reading one part of a replacement says
 abbrev pub ActionFrom : List ℕ → ℕ → ℕ → List ℕ → List ℕ → ℕ → ℕ → Ended → Type 0
 ActionFrom s a p old out n k (Upto q e) = (p < q) × Acts s a p old out n k q e
-ActionFrom s a p old out n k (NoEnd f q) = (q ≤ length s) × ((g : Front) (l : List Action) → tags (g .pieces) ≡ k → (ms : List Macro) → run s a ms false p (replacement none g l) ≡ refusedAt (faultOf f) q)
+ActionFrom s a p old out n k (NoEnd f q) =
+    (q ≤ length s) × ((g : Front) (l : List Action) → tags (g .pieces) ≡ k → (ms : List Macro)
+    → run s a ms false p (replacement none g l) ≡ refusedAt (faultOf f) q)
 
 -- an escape knows no tags
 abbrev pub EscapeFrom : List ℕ → ℕ → ℕ → List ℕ → List ℕ → ℕ → Ended → Type 0
@@ -81,12 +93,15 @@ pub record Replaced (s : List ℕ) (a p : ℕ) (old out : List ℕ) (n k q e : �
   pub room : e ≤ n + 2 * (q - p)
   pub further : p < q
   pub reached : Reached s a q
-  pub answer : (f : Front) → tags (f .pieces) ≡ k → (ms : List Macro) → run s a ms false p (replacement none f []) ≡ run s a ms false q (commands none f actions [])
+  pub answer : (f : Front) → tags (f .pieces) ≡ k → (ms : List Macro)
+      → run s a ms false p (replacement none f []) ≡ run s a ms false q (commands none f actions [])
 
 -- what reading a replacement says
 abbrev pub ReplacedFrom : List ℕ → ℕ → ℕ → List ℕ → List ℕ → ℕ → ℕ → Ended → Type 0
 ReplacedFrom s a p old out n k (Upto q e) = Replaced s a p old out n k q e
-ReplacedFrom s a p old out n k (NoEnd f q) = (q ≤ length s) × ((g : Front) → tags (g .pieces) ≡ k → (ms : List Macro) → run s a ms false p (replacement none g []) ≡ refusedAt (faultOf f) q)
+ReplacedFrom s a p old out n k (NoEnd f q) =
+    (q ≤ length s) × ((g : Front) → tags (g .pieces) ≡ k → (ms : List Macro)
+    → run s a ms false p (replacement none g []) ≡ refusedAt (faultOf f) q)
 
 -- COMMANDS
 
@@ -103,9 +118,13 @@ pub record Does (s : List ℕ) (a p : ℕ) (old out : List ℕ) (n k q e : ℕ) 
 -- what reading one command, or a byte of other text, says
 abbrev pub CommandFrom : List ℕ → ℕ → ℕ → List ℕ → List ℕ → ℕ → ℕ → Ended → Type 0
 CommandFrom s a p old out n k (Upto q e) = (p < q) × Does s a p old out n k q e
-CommandFrom s a p old out n k (NoEnd f q) = (q ≤ length s) × ((g : Front) (l : List Action) (cs : List Call) → tags (g .pieces) ≡ k → (ms : List Macro) → run s a ms false p (commands none g l cs) ≡ refusedAt (faultOf f) q)
+CommandFrom s a p old out n k (NoEnd f q) =
+    (q ≤ length s) × ((g : Front) (l : List Action) (cs : List Call) → tags (g .pieces) ≡ k → (ms : List Macro)
+    → run s a ms false p (commands none g l cs) ≡ refusedAt (faultOf f) q)
 
 -- what reading the commands says: they end at the `;` at q
 abbrev pub CommandsFrom : List ℕ → ℕ → ℕ → List ℕ → List ℕ → ℕ → ℕ → Ended → Type 0
 CommandsFrom s a p old out n k (Upto q e) = (p ≤ q) × Here s a q 59 × Does s a p old out n k q e
-CommandsFrom s a p old out n k (NoEnd f q) = (q ≤ length s) × ((g : Front) (l : List Action) (cs : List Call) → tags (g .pieces) ≡ k → (ms : List Macro) → run s a ms false p (commands none g l cs) ≡ refusedAt (faultOf f) q)
+CommandsFrom s a p old out n k (NoEnd f q) =
+    (q ≤ length s) × ((g : Front) (l : List Action) (cs : List Call) → tags (g .pieces) ≡ k → (ms : List Macro)
+    → run s a ms false p (commands none g l cs) ≡ refusedAt (faultOf f) q)

@@ -12,7 +12,8 @@ use Rattle.macros.specs.Macro.Mark.{stack, counter}
 use Rattle.macros.specs.Macro.Move.{still, before, after}
 use Rattle.macros.specs.Macro.Call.{insert}
 use Rattle.macros.specs.Formed.{numberFits}
-use Rattle.macros.specs.Read.{Part, CallSite, Phase, Turn, callByte, isCommand, frontOf, behindCall, isSign, signOf, isStill, numberEnd as closing}
+use Rattle.macros.specs.Read.{Part, CallSite, Phase, Turn, callByte, isCommand}
+use Rattle.macros.specs.Read.{frontOf, behindCall, isSign, signOf, isStill, numberEnd as closing}
 use Rattle.macros.specs.ReadSoFar.Part.{calling, callText}
 use Rattle.macros.specs.ReadSoFar.Phase.{begun, named, tagged, tagNamed, texted}
 use Rattle.macros.specs.ReadCalls.Turn.{into, textOf, closed, wrong}
@@ -61,13 +62,16 @@ pub record Letter (s : List ℕ) (a p b : ℕ) (sg : Bool) (i m c q : ℕ) : Typ
   pub further : p < q
   -- no sign that could still join
   pub last : isStill move ≡ true → (isSign c && sg) ≡ false
-  pub answer : (pl : CallSite) (start : Phase) (sgn : Sign → Phase) (nam : ℕ → Move → Phase) → Names (isCommand pl) sg b start sgn nam → (ms : List Macro)
+  pub answer : (pl : CallSite) (start : Phase) (sgn : Sign → Phase) (nam : ℕ → Move → Phase) → Names (isCommand pl) sg b start sgn nam
+      → (ms : List Macro)
       → run s a ms false p (calling pl start) ≡ run s a ms false q (calling pl (nam i move))
 
 -- what reading a letter says
 abbrev pub Naming : List ℕ → ℕ → ℕ → ℕ → Bool → Name → Type 0
 Naming s a p b sg (GotName i m c q) = Letter s a p b sg i m c q
-Naming s a p b sg (NoName f q) = (q ≤ length s) × ((pl : CallSite) (start : Phase) (sgn : Sign → Phase) (nam : ℕ → Move → Phase) → Names (isCommand pl) sg b start sgn nam → (ms : List Macro) → run s a ms false p (calling pl start) ≡ refusedAt (faultOf f) q)
+Naming s a p b sg (NoName f q) =
+    (q ≤ length s) × ((pl : CallSite) (start : Phase) (sgn : Sign → Phase) (nam : ℕ → Move → Phase)
+    → Names (isCommand pl) sg b start sgn nam → (ms : List Macro) → run s a ms false p (calling pl start) ≡ refusedAt (faultOf f) q)
 
 -- whether a letter may have a sign: not as a command of a counter
 abbrev pub signsIn : Bool → Bool → Bool
@@ -82,18 +86,23 @@ pub record TagLetter (s : List ℕ) (a p i m d q : ℕ) : Type 0 where
   pub solid : d ≡ 32 → ⊥
   pub further : p + 1 < q
   pub last : isStill move ≡ true → (isSign d && true) ≡ false
-  pub answer : (w : ℕ) (pl : CallSite) (ms : List Macro) → run s a ms false p (calling pl (tagged w)) ≡ run s a ms false q (calling pl (tagNamed w i move))
+  pub answer : (w : ℕ) (pl : CallSite) (ms : List Macro)
+      → run s a ms false p (calling pl (tagged w)) ≡ run s a ms false q (calling pl (tagNamed w i move))
 
 -- what reading them says
 abbrev pub TagNaming : List ℕ → ℕ → ℕ → Name → Type 0
 TagNaming s a p (GotName i m d q) = TagLetter s a p i m d q
-TagNaming s a p (NoName f q) = (q ≤ length s) × ((w : ℕ) (pl : CallSite) (ms : List Macro) → run s a ms false p (calling pl (tagged w)) ≡ refusedAt (faultOf f) q)
+TagNaming s a p (NoName f q) =
+    (q ≤ length s) × ((w : ℕ) (pl : CallSite) (ms : List Macro) → run s a ms false p (calling pl (tagged w)) ≡ refusedAt (faultOf f) q)
 
 -- THE ENDS OF CALLS
 
--- the machine comes from p in the state F to q in the state G, at every place of a replacement or, if cmd, of a command, behind a pattern of k tags
+-- the machine comes from p in the state F to q in the state G, at every place of a replacement or, if cmd, of a command,
+-- behind a pattern of k tags
 abbrev pub Comes : List ℕ → ℕ → Bool → ℕ → (CallSite → Part) → ℕ → (CallSite → Part) → ℕ → Type 0
-Comes s a cmd k F p G q = (pl : CallSite) → isCommand pl ≡ cmd → tags (frontOf pl .pieces) ≡ k → (ms : List Macro) → run s a ms false p (F pl) ≡ run s a ms false q (G pl)
+Comes s a cmd k F p G q =
+    (pl : CallSite) → isCommand pl ≡ cmd → tags (frontOf pl .pieces) ≡ k → (ms : List Macro)
+    → run s a ms false p (F pl) ≡ run s a ms false q (G pl)
 
 -- the call read from p up to q, from the state F on, and its items written from n up to e; x bytes of room come from what was read before p
 pub record Called (s : List ℕ) (a p : ℕ) (old out : List ℕ) (n x : ℕ) (cmd : Bool) (k : ℕ) (F : CallSite → Part) (q e : ℕ) : Type 0 where
@@ -108,7 +117,9 @@ pub record Called (s : List ℕ) (a p : ℕ) (old out : List ℕ) (n x : ℕ) (c
 -- what reading to the end of a call says
 abbrev pub Ends : List ℕ → ℕ → ℕ → List ℕ → List ℕ → ℕ → ℕ → Bool → ℕ → (CallSite → Part) → Ended → Type 0
 Ends s a p old out n x cmd k F (Upto q e) = Called s a p old out n x cmd k F q e
-Ends s a p old out n x cmd k F (NoEnd f q) = (q ≤ length s) × ((pl : CallSite) → isCommand pl ≡ cmd → tags (frontOf pl .pieces) ≡ k → (ms : List Macro) → run s a ms false p (F pl) ≡ refusedAt (faultOf f) q)
+Ends s a p old out n x cmd k F (NoEnd f q) =
+    (q ≤ length s) × ((pl : CallSite) → isCommand pl ≡ cmd → tags (frontOf pl .pieces) ≡ k → (ms : List Macro)
+    → run s a ms false p (F pl) ≡ refusedAt (faultOf f) q)
 
 -- a whole call, in a pattern of k tags
 abbrev pub CalledFrom : List ℕ → ℕ → ℕ → List ℕ → List ℕ → ℕ → Mark → Bool → ℕ → Ended → Type 0
@@ -131,14 +142,21 @@ pub record Sets (code i top : ℕ) (ph : Option ℕ → Phase) (c : ℕ → Call
   pub items : (v : ℕ) → callItems (c v) ≡ code ∷ i ∷ four v
 
 abbrev pub SetFrom : List ℕ → ℕ → ℕ → List ℕ → List ℕ → ℕ → ℕ → ℕ → ℕ → Ended → Type 0
-SetFrom s a p old out n code i top r = (ph : Option ℕ → Phase) (c : ℕ → Call) → Sets code i top ph c → (cmd : Bool) (k : ℕ) → Ends s a p old out n 4 cmd k (λ pl. calling pl (ph none)) r
+SetFrom s a p old out n code i top r =
+    (ph : Option ℕ → Phase) (c : ℕ → Call) → Sets code i top ph c → (cmd : Bool) (k : ℕ)
+    → Ends s a p old out n 4 cmd k (λ pl. calling pl (ph none)) r
 
 -- what the byte c behind a letter with a move of the code m asks for, where sg says whether a sign may stand
 abbrev pub Asks : Mark → Bool → Bool → ℕ → ℕ → Tail → Type 0
 Asks mk cmd sg c m Text = (i : ℕ) (v : Move) → m ≡ moveCode v → callByte cmd (named mk i v) c ≡ textOf i v
-Asks mk cmd sg c m (Set code top) = (top ≤ 999999999) × ((i : ℕ) (v : Move) → m ≡ moveCode v → (ph : Option ℕ → Phase) × (d : ℕ → Call) × Sets code i top ph d × (callByte cmd (named mk i v) c ≡ into (ph none)))
-Asks mk cmd sg c m (Insert code) = (i : ℕ) (v : Move) → m ≡ moveCode v → (callByte cmd (named mk i v) c ≡ closed (insert mk i v)) × (callItems (insert mk i v) ≡ code ∷ i ∷ [])
-Asks mk cmd sg c m Wrong = (i : ℕ) (v : Move) → m ≡ moveCode v → (isStill v ≡ true → (isSign c && sg) ≡ false) → callByte cmd (named mk i v) c ≡ wrong
+Asks mk cmd sg c m (Set code top) =
+    (top ≤ 999999999) × ((i : ℕ) (v : Move) → m ≡ moveCode v → (ph : Option ℕ → Phase) × (d : ℕ → Call) × Sets code i top ph d
+    × (callByte cmd (named mk i v) c ≡ into (ph none)))
+Asks mk cmd sg c m (Insert code) =
+    (i : ℕ) (v : Move) → m ≡ moveCode v → (callByte cmd (named mk i v) c ≡ closed (insert mk i v))
+    × (callItems (insert mk i v) ≡ code ∷ i ∷ [])
+Asks mk cmd sg c m Wrong =
+    (i : ℕ) (v : Move) → m ≡ moveCode v → (isStill v ≡ true → (isSign c && sg) ≡ false) → callByte cmd (named mk i v) c ≡ wrong
 
 -- that a number, which has a digit if m, is not closed by z, or is none from 1 to top
 abbrev pub Unclosed : ℕ → ℕ → Bool → ℕ → ℕ → Bool → Type 0
@@ -153,8 +171,13 @@ TagFrom s a p old out n v k r = (w : ℕ) → v ≡ most w → (cmd : Bool) → 
 
 -- what a byte of a text of k bytes says, spelled from p up to q
 abbrev pub Texting : List ℕ → ℕ → ℕ → ℕ → Next → Type 0
-Texting s a p k (Byte b q) = (p ≤ q) × (q < length s) × (q ≤ a + 512) × (k < 50) × ((pl : CallSite) (i : ℕ) (v : Move) (t : List ℕ) → length t ≡ k → (ms : List Macro) → run s a ms false p (callText pl i v t) ≡ run s a ms false (q + 1) (callText pl i v (b ∷ t)))
-Texting s a p k (NoByte f q) = (q ≤ length s) × ((pl : CallSite) (i : ℕ) (v : Move) (t : List ℕ) → length t ≡ k → (ms : List Macro) → run s a ms false p (callText pl i v t) ≡ refusedAt (faultOf f) q)
+Texting s a p k (Byte b q) =
+    (p ≤ q) × (q < length s) × (q ≤ a + 512) × (k < 50)
+    × ((pl : CallSite) (i : ℕ) (v : Move) (t : List ℕ) → length t ≡ k → (ms : List Macro)
+    → run s a ms false p (callText pl i v t) ≡ run s a ms false (q + 1) (callText pl i v (b ∷ t)))
+Texting s a p k (NoByte f q) =
+    (q ≤ length s) × ((pl : CallSite) (i : ℕ) (v : Move) (t : List ℕ) → length t ≡ k → (ms : List Macro)
+    → run s a ms false p (callText pl i v t) ≡ refusedAt (faultOf f) q)
 
 -- the text t, newest byte first, read from p up to q and written from n up to e
 pub record TextRead (s : List ℕ) (a p : ℕ) (old out : List ℕ) (n q e : ℕ) : Type 0 where
@@ -164,11 +187,14 @@ pub record TextRead (s : List ℕ) (a p : ℕ) (old out : List ℕ) (n q e : ℕ
   pub short : length text ≤ 50
   pub room : length text < q - p
   pub reached : Reached s a q
-  pub answer : (pl : CallSite) (i : ℕ) (v : Move) (ms : List Macro) → run s a ms false p (callText pl i v []) ≡ run s a ms false q (calling pl (texted i v text))
+  pub answer : (pl : CallSite) (i : ℕ) (v : Move) (ms : List Macro)
+      → run s a ms false p (callText pl i v []) ≡ run s a ms false q (calling pl (texted i v text))
 
 abbrev pub TextFrom : List ℕ → ℕ → ℕ → List ℕ → List ℕ → ℕ → Ended → Type 0
 TextFrom s a p old out n (Upto q e) = TextRead s a p old out n q e
-TextFrom s a p old out n (NoEnd f q) = (q ≤ length s) × ((pl : CallSite) (i : ℕ) (v : Move) (ms : List Macro) → run s a ms false p (callText pl i v []) ≡ refusedAt (faultOf f) q)
+TextFrom s a p old out n (NoEnd f q) =
+    (q ≤ length s) × ((pl : CallSite) (i : ℕ) (v : Move) (ms : List Macro)
+    → run s a ms false p (callText pl i v []) ≡ refusedAt (faultOf f) q)
 
 -- behind a text of k bytes
 unfoldable pub padding : ℕ → List ℕ
@@ -177,12 +203,15 @@ padding k = pick (eqb (k % 2) 0) [] (0 ∷ [])
 -- around a text from n + 4 up to e: first its padding, then its length, then the item of the letter i with a move of the code m
 abbrev pub PutStore : List ℕ → List ℕ → ℕ → ℕ → ℕ → ℕ → ℕ → Type 0
 PutStore old out n e i m r =
-    (r ≡ e + length (padding (e - (n + 4)))) × (padded : List ℕ) × (sized : List ℕ) × (length padded ≡ length old) × (length sized ≡ length old)
-    × Wrote old padded e (padding (e - (n + 4))) × Wrote padded sized (n + 2) (43 ∷ (e - (n + 4)) ∷ []) × Wrote sized out n ((72 + m) ∷ i ∷ [])
+    (r ≡ e + length (padding (e - (n + 4)))) × (padded : List ℕ) × (sized : List ℕ) × (length padded ≡ length old)
+    × (length sized ≡ length old)
+    × Wrote old padded e (padding (e - (n + 4))) × Wrote padded sized (n + 2) (43 ∷ (e - (n + 4)) ∷ [])
+    × Wrote sized out n ((72 + m) ∷ i ∷ [])
 
 -- behind the `:` of the letter i, whose move has the code m
 abbrev pub StoreFrom : List ℕ → ℕ → ℕ → List ℕ → List ℕ → ℕ → ℕ → ℕ → Ended → Type 0
-StoreFrom s a p old out n i m r = (v : Move) → m ≡ moveCode v → (cmd : Bool) (k : ℕ) → Ends s a p old out n 4 cmd k (λ pl. callText pl i v []) r
+StoreFrom s a p old out n i m r =
+    (v : Move) → m ≡ moveCode v → (cmd : Bool) (k : ℕ) → Ends s a p old out n 4 cmd k (λ pl. callText pl i v []) r
 
 -- REFUSALS HANDED ON
 

@@ -68,7 +68,8 @@ pub record Macroed (s : List ℕ) (a q : ℕ) (old out : List ℕ) (h : Head) : 
   pub wrote : Wrote old out 0 (body itself)
   pub further : a < q
   pub reached : q ≤ length s
-  pub answer : (ms : List Macro) → length ms < mostMacros → readFrom a (between false ms) (drop a s) ≡ readFrom q (between false (itself ∷ ms)) (drop q s)
+  pub answer : (ms : List Macro) → length ms < mostMacros
+      → readFrom a (between false ms) (drop a s) ≡ readFrom q (between false (itself ∷ ms)) (drop q s)
 
 -- what reading a macro says
 abbrev pub MacroFrom : List ℕ → ℕ → List ℕ → List ℕ → Built → Type 0
@@ -91,7 +92,8 @@ pub record ReadsMacro (s : List ℕ) (a : ℕ) (old out : List ℕ) (r : Built) 
 abbrev pub wholeOf : Front → List Action → List Call → Macro
 wholeOf f l cs = record { pattern = reverse (f .pieces); symbol = f .symbol; replacement = reverse l; commands = reverse cs }
 
--- behind a pattern of k tags, whose items end at i, and the symbol b: the replacement and the commands read from p up to q, behind the `;`; their items are written from i on
+-- behind a pattern of k tags, whose items end at i, and the symbol b: the replacement and the commands read from p up to q, behind the `;`;
+-- their items are written from i on
 pub record Parted (s : List ℕ) (a p : ℕ) (old out : List ℕ) (b i k q : ℕ) (h : Head) : Type 0 where
   -- newest first
   pub actions : List Action
@@ -106,12 +108,15 @@ pub record Parted (s : List ℕ) (a p : ℕ) (old out : List ℕ) (b i k q : ℕ
   pub further : p < q
   pub reached : q ≤ length s
   pub counted : q ≤ a + 512
-  pub answer : (f : Front) → tags (f .pieces) ≡ k → (ms : List Macro) → run s a ms false p (parting none f []) ≡ macroTo q (wholeOf f actions calls)
+  pub answer : (f : Front) → tags (f .pieces) ≡ k → (ms : List Macro)
+      → run s a ms false p (parting none f []) ≡ macroTo q (wholeOf f actions calls)
 
 -- what reading them says
 abbrev pub PartsFrom : List ℕ → ℕ → ℕ → List ℕ → List ℕ → ℕ → ℕ → ℕ → Built → Type 0
 PartsFrom s a p old out b i k (Made q h) = Parted s a p old out b i k q h
-PartsFrom s a p old out b i k (NoMacro f q) = (q ≤ length s) × ((g : Front) → tags (g .pieces) ≡ k → (ms : List Macro) → run s a ms false p (parting none g []) ≡ noneAt (faultOf f) q)
+PartsFrom s a p old out b i k (NoMacro f q) =
+    (q ≤ length s) × ((g : Front) → tags (g .pieces) ≡ k → (ms : List Macro)
+    → run s a ms false p (parting none g []) ≡ noneAt (faultOf f) q)
 
 -- the slot of a head and the bytes that the items are in
 abbrev pub slotOf : Head → List ℕ → List ℕ
@@ -129,7 +134,9 @@ turned b k = pick (eqb b 47) (not k) k
 
 -- what looking for the next macro from p on says
 abbrev pub Seeks : List ℕ → ℕ → Seek → Type 0
-Seeks s p (Quote q) = (p ≤ q) × (q < length s) × (getD s q 0 ≡ 39) × ((ms : List Macro) → readFrom p (between false ms) (drop p s) ≡ readFrom q (between false ms) (drop q s))
+Seeks s p (Quote q) =
+    (p ≤ q) × (q < length s) × (getD s q 0 ≡ 39)
+    × ((ms : List Macro) → readFrom p (between false ms) (drop p s) ≡ readFrom q (between false ms) (drop q s))
 Seeks s p Done = (ms : List Macro) → readFrom p (between false ms) (drop p s) ≡ table (reverse ms)
 Seeks s p Skipping = (ms : List Macro) → readFrom p (between false ms) (drop p s) ≡ refusedAt incomplete (length s)
 
@@ -164,8 +171,11 @@ pub record Lent (old : List ℕ) (c : ℕ) : Type 0 where
 
 -- what reading a file onto a table says of every accepted table that has these bytes and so many macros
 abbrev pub Onto : List ℕ → ℕ → List ℕ → List ℕ → Reading → Type 0
-Onto s c old out (TableOf n) = (ms : Table) → Accepted ms → form ms ≡ old → length ms ≡ c → (ks : Table) × (readOnto ms s ≡ table ks) × (n ≡ length ks) × (form ks ≡ out)
-Onto s c old out (NoTable f q) = (ms : Table) → Accepted ms → form ms ≡ old → length ms ≡ c → (readOnto ms s ≡ refusedAt (faultOf f) q) × (out ≡ old)
+Onto s c old out (TableOf n) =
+    (ms : Table) → Accepted ms → form ms ≡ old → length ms ≡ c → (ks : Table) × (readOnto ms s ≡ table ks) × (n ≡ length ks)
+    × (form ks ≡ out)
+Onto s c old out (NoTable f q) =
+    (ms : Table) → Accepted ms → form ms ≡ old → length ms ≡ c → (readOnto ms s ≡ refusedAt (faultOf f) q) × (out ≡ old)
 
 -- REFUSALS HANDED ON
 

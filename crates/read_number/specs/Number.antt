@@ -86,5 +86,8 @@ Behind sp b = (digit b ≡ false) × (sp ≡ true → b ≡ 32 → ⊥)
 
 -- what reading a number from p on says, by the answer
 abbrev pub Counts : List ℕ → ℕ → ℕ → Bool → Number → Type 0
-Counts s a p sp (Got n m b q) = (p ≤ q) × Here s a q b × Behind sp b × (n ≤ mostCounter + 1) × Digits s a p sp q n m × (Got n m b q ≡ numberFrom s a p sp)
-Counts s a p sp (NoNumber f q) = (q ≤ length s) × ((F : Option ℕ → Part) → Eats sp F → (ms : List Macro) → run s a ms false p (F none) ≡ refusedAt (faultOf f) q) × (NoNumber f q ≡ numberFrom s a p sp)
+Counts s a p sp (Got n m b q) =
+    (p ≤ q) × Here s a q b × Behind sp b × (n ≤ mostCounter + 1) × Digits s a p sp q n m × (Got n m b q ≡ numberFrom s a p sp)
+Counts s a p sp (NoNumber f q) =
+    (q ≤ length s) × ((F : Option ℕ → Part) → Eats sp F → (ms : List Macro) → run s a ms false p (F none) ≡ refusedAt (faultOf f) q)
+    × (NoNumber f q ≡ numberFrom s a p sp)

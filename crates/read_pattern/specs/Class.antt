@@ -79,7 +79,8 @@ pending (Dash c) = 4
 -- the byte c makes of what is last l the last k, with these members complete and written from n up to m
 pub record Takes (l : CodeLast) (c : ℕ) (raw : Bool) (k : CodeLast) (old out : List ℕ) (n m : ℕ) : Type 0 where
   pub complete : List Member
-  pub turn : (ps : List Piece) (neg : Bool) (xs : List Member) → classTurn raw ps neg (lastOf l) xs c ≡ on (members ps neg (lastOf k) (complete ++ xs))
+  pub turn : (ps : List Piece) (neg : Bool) (xs : List Member)
+      → classTurn raw ps neg (lastOf l) xs c ≡ on (members ps neg (lastOf k) (complete ++ xs))
   pub wrote : Wrote old out n (memberBytes complete)
   pub used : m ≡ n + length (memberBytes complete)
   pub room : m + pending k ≤ n + pending l + 2
@@ -87,7 +88,8 @@ pub record Takes (l : CodeLast) (c : ℕ) (raw : Bool) (k : CodeLast) (old out :
 -- what taking a byte says, by the answer
 abbrev pub Taking : CodeLast → ℕ → Bool → List ℕ → List ℕ → ℕ → Taken → Type 0
 Taking l c raw old out n (Took k m) = Takes l c raw k old out n m
-Taking l c raw old out n BadRange = ((ps : List Piece) (neg : Bool) (xs : List Member) → classTurn raw ps neg (lastOf l) xs c ≡ stop badClass)
+Taking l c raw old out n BadRange =
+    ((ps : List Piece) (neg : Bool) (xs : List Member) → classTurn raw ps neg (lastOf l) xs c ≡ stop badClass)
 
 -- from the first member's place p up to q, members read and written from i up to j, and what is last not written
 pub record Membered (s : List ℕ) (a p q : ℕ) (old out : List ℕ) (i j : ℕ) (l : CodeLast) : Type 0 where
@@ -113,7 +115,8 @@ pub record Classed (s : List ℕ) (a p q : ℕ) (old out : List ℕ) (i j : ℕ)
 abbrev pub ClassingBy : List ℕ → ℕ → ℕ → List ℕ → List ℕ → ℕ → Put → Type 0
 ClassingBy s a p old out i (PutAt q j) = Classed s a p q old out i j
 ClassingBy s a p old out i (NoPut f q) =
-    (q ≤ length s) × ((ps : List Piece) (neg : Bool) (ms : List Macro) → run s a ms false p (members ps neg free []) ≡ refusedAt (faultOf f) q)
+    (q ≤ length s) × ((ps : List Piece) (neg : Bool) (ms : List Macro)
+    → run s a ms false p (members ps neg free []) ≡ refusedAt (faultOf f) q)
 
 -- what reading a class's members from p on says, by the answer
 pub record Classing (s : List ℕ) (a p : ℕ) (old out : List ℕ) (i : ℕ) (r : Put) : Type 0 where

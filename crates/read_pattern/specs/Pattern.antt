@@ -57,7 +57,8 @@ pub record Joined (s : List ℕ) (a p : ℕ) (u : CodeUnit) (e : Element) (q : �
 abbrev pub JoinsBy : List ℕ → ℕ → ℕ → CodeUnit → ℕ → Item → Type 0
 JoinsBy s a p u n (Got e q m) = (m ≡ n) × Joined s a p u e q
 JoinsBy s a p u n (NoItem f q) =
-    (q ≤ length s) × ((v : PatternUnit) (ps : List Piece) (ms : List Macro) → run s a ms false p (pattern (unit v) ps) ≡ refusedAt (faultOf f) q)
+    (q ≤ length s) × ((v : PatternUnit) (ps : List Piece) (ms : List Macro)
+    → run s a ms false p (pattern (unit v) ps) ≡ refusedAt (faultOf f) q)
 
 -- what reading a closure from p on says, by the answer
 pub record Joins (s : List ℕ) (a p : ℕ) (u : CodeUnit) (n : ℕ) (r : Item) : Type 0 where
@@ -71,14 +72,16 @@ pub record Made (s : List ℕ) (a p v : ℕ) (F : List Piece → Part) (old out 
   pub further : v ≤ q
   pub reached : Reached s a q
   pub room : m ≤ n + 2 * (q - v)
-  pub answer : (ps : List Piece) (ms : List Macro) → run s a ms false p (F ps) ≡ run s a ms false q (pattern nothing (element itsUnit itsClosure ∷ ps))
+  pub answer : (ps : List Piece) (ms : List Macro)
+      → run s a ms false p (F ps) ≡ run s a ms false q (pattern nothing (element itsUnit itsClosure ∷ ps))
   pub wrote : Wrote old out n (unitRest itsUnit)
   pub used : m ≡ n + length (unitRest itsUnit)
 
 -- the element and what is written behind its item, or the refusal
 abbrev pub MakesBy : List ℕ → ℕ → ℕ → ℕ → (List Piece → Part) → List ℕ → List ℕ → ℕ → Item → Type 0
 MakesBy s a p v F old out n (Got e q m) = Made s a p v F old out n e q m
-MakesBy s a p v F old out n (NoItem f q) = (q ≤ length s) × ((ps : List Piece) (ms : List Macro) → run s a ms false p (F ps) ≡ refusedAt (faultOf f) q)
+MakesBy s a p v F old out n (NoItem f q) =
+    (q ≤ length s) × ((ps : List Piece) (ms : List Macro) → run s a ms false p (F ps) ≡ refusedAt (faultOf f) q)
 
 -- what reading an element from the state F at p on says, by the answer
 pub record Makes (s : List ℕ) (a p v : ℕ) (F : List Piece → Part) (old out : List ℕ) (n : ℕ) (r : Item) : Type 0 where
@@ -148,14 +151,16 @@ pub record Pieced (s : List ℕ) (a p : ℕ) (old out : List ℕ) (n q m : ℕ) 
   pub further : p < q
   pub reached : Reached s a q
   pub room : m ≤ n + 2 * (q - p)
-  pub answer : (ps : List Piece) (ms : List Macro) → run s a ms false p (pattern nothing ps) ≡ run s a ms false q (pattern nothing (piece ∷ ps))
+  pub answer : (ps : List Piece) (ms : List Macro)
+      → run s a ms false p (pattern nothing ps) ≡ run s a ms false q (pattern nothing (piece ∷ ps))
   pub wrote : Wrote old out n (pieceItems piece)
   pub used : m ≡ n + length (pieceItems piece)
 
 -- the piece with its items, or the refusal
 abbrev pub PiecesBy : List ℕ → ℕ → ℕ → List ℕ → List ℕ → ℕ → Put → Type 0
 PiecesBy s a p old out n (PutAt q m) = Pieced s a p old out n q m
-PiecesBy s a p old out n (NoPut f q) = (q ≤ length s) × ((ps : List Piece) (ms : List Macro) → run s a ms false p (pattern nothing ps) ≡ refusedAt (faultOf f) q)
+PiecesBy s a p old out n (NoPut f q) =
+    (q ≤ length s) × ((ps : List Piece) (ms : List Macro) → run s a ms false p (pattern nothing ps) ≡ refusedAt (faultOf f) q)
 
 -- what reading one piece from p on says, by the answer
 pub record Pieces (s : List ℕ) (a p : ℕ) (old out : List ℕ) (n : ℕ) (r : Put) : Type 0 where
@@ -170,7 +175,8 @@ pub record Grown (s : List ℕ) (a p : ℕ) (f : PatternSoFar) (q : ℕ) (g : Pa
   pub pieces : List Piece
   pub fits : (ps : List Piece) → Fits ps f → Fits (pieces ++ ps) g
   pub level : (ps : List Piece) → depth (pieces ++ ps) ≡ depth ps
-  pub answer : (ps : List Piece) → Fits ps f → (ms : List Macro) → run s a ms false p (pattern nothing ps) ≡ run s a ms false q (pattern nothing (pieces ++ ps))
+  pub answer : (ps : List Piece) → Fits ps f → (ms : List Macro)
+      → run s a ms false p (pattern nothing ps) ≡ run s a ms false q (pattern nothing (pieces ++ ps))
   pub wrote : Wrote old out (f .used) (itemsOf pieces)
   pub used : g .used ≡ f .used + length (itemsOf pieces)
 
@@ -193,13 +199,15 @@ ReadsBy s a p f old out (NoInside k q) =
 pub record Reads (s : List ℕ) (a p : ℕ) (f : PatternSoFar) (old out : List ℕ) (r : Inside) : Type 0 where
   pub is : ReadsBy s a p f old out r
 
--- the pieces of the pattern of the macro that began at a, newest first, as the machine has them behind the closing quote, at q; their items are written from 0 up to j
+-- the pieces of the pattern of the macro that began at a, newest first, as the machine has them behind the closing quote, at q;
+-- their items are written from 0 up to j
 pub record Patterned (s : List ℕ) (a q t : ℕ) (old out : List ℕ) (j : ℕ) : Type 0 where
   pub pieces : List Piece
   pub reached : Reached s a q
   pub tagged : tags pieces ≡ t
   pub few : t ≤ mostTags
-  pub answer : (ms : List Macro) → run s a ms false (a + 1) (pattern nothing []) ≡ patternTo q pieces (run s a ms false q (awaitSymbol pieces))
+  pub answer : (ms : List Macro) → run s a ms false (a + 1) (pattern nothing [])
+      ≡ patternTo q pieces (run s a ms false q (awaitSymbol pieces))
   pub wrote : Wrote old out 0 (patternItems (reverse pieces))
   pub used : j ≡ length (patternItems (reverse pieces))
   pub room : j + 4 ≤ 2 * (q - a)
@@ -207,7 +215,8 @@ pub record Patterned (s : List ℕ) (a q t : ℕ) (old out : List ℕ) (j : ℕ)
 -- what reading a whole pattern says, by the answer
 abbrev pub Begins : List ℕ → ℕ → List ℕ → List ℕ → Whole → Type 0
 Begins s a old out (Pattern q t j) = Patterned s a q t old out j
-Begins s a old out (NoWhole f q) = (q ≤ length s) × ((ms : List Macro) → run s a ms false (a + 1) (pattern nothing []) ≡ refusedAt (faultOf f) q)
+Begins s a old out (NoWhole f q) =
+    (q ≤ length s) × ((ms : List Macro) → run s a ms false (a + 1) (pattern nothing []) ≡ refusedAt (faultOf f) q)
 
 -- that a refusal leaves zeros
 abbrev pub Zeroed : List ℕ → List ℕ → Whole → Type 0

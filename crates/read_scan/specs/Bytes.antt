@@ -19,7 +19,8 @@ unfoldable pub with? : Bool → Placed → List Placed → List Placed
 with? true x xs = x ∷ xs
 with? false x xs = xs
 
--- the bytes from place p on that stand in no skip, "`/` skips to the next `/`", as far as no `\` and no class comes; k says whether p is in a skip
+-- the bytes from place p on that stand in no skip, "`/` skips to the next `/`", as far as no `\` and no class comes;
+-- k says whether p is in a skip
 unfoldable pub outside : Bool → ℕ → List ℕ → List Placed
 outside k p [] = []
 outside k p (b ∷ bs) = with? (not (eqb b 47 || k)) (byteAt b p) (outside (pick (eqb b 47) (not k) k) (suc p) bs)

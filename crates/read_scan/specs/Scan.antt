@@ -7,17 +7,20 @@ use lib.Dec.{ltb}
 use lib.ListN.{length, getD, drop}
 use Rattle.macros.specs.Bounds.{mostMacroBytes}
 use Rattle.macros.specs.Refusals.{FileRefusal}
-use Rattle.macros.specs.Refusals.FileRefusal.{fileTooLong, zeroByte, incomplete, badClass, noUnit, badBrace, badCall, noElement, macroTooLong, tooManyMacros}
+use Rattle.macros.specs.Refusals.FileRefusal.{fileTooLong, zeroByte, incomplete, badClass, noUnit}
+use Rattle.macros.specs.Refusals.FileRefusal.{badBrace, badCall, noElement, macroTooLong, tooManyMacros}
 use Rattle.macros.specs.Macro.{Piece, Macro, pick}
 use Rattle.macros.specs.Read.{Part, Read, Next as Stepped, readFrom, step, skips, breaks, partByte}
-use Rattle.macros.specs.ReadSoFar.Part.{pattern, patternEscape, opened, members, membersEscape, patternCall, patternCalled, awaitSymbol, awaitQuote, replacement, replacementEscape, tagNumber, calling, callText, callTextEscape, commands}
+use Rattle.macros.specs.ReadSoFar.Part.{pattern, patternEscape, opened, members, membersEscape, patternCall, patternCalled, awaitSymbol}
+use Rattle.macros.specs.ReadSoFar.Part.{awaitQuote, replacement, replacementEscape, tagNumber, calling, callText, callTextEscape, commands}
 use Rattle.macros.specs.ReadFile.Reader.{between, inside}
 use Rattle.macros.specs.ReadFile.Next.{go, refuse}
 use Rattle.macros.specs.ReadSoFar.Step.{on}
 use Rattle.macros.specs.ReadFile.Read.{refusedAt as fileRefusedAt}
 use Rattle.read_scan.specs.Bytes.{byteHere, nextByte, nextInCall}
 use Rattle.read_scan.specs.declared.FileFault.{FileFault}
-use Rattle.read_scan.specs.declared.FileFault.the-variants.{FileTooLong, ZeroByte, Incomplete, BadClass, NoUnit, BadBrace, BadCall, NoElement, MacroTooLong, TooManyMacros}
+use Rattle.read_scan.specs.declared.FileFault.the-variants.{FileTooLong, ZeroByte, Incomplete, BadClass, NoUnit}
+use Rattle.read_scan.specs.declared.FileFault.the-variants.{BadBrace, BadCall, NoElement, MacroTooLong, TooManyMacros}
 use Rattle.read_scan.specs.declared.Next.{Next}
 use Rattle.read_scan.specs.declared.Next.the-variants.{Byte, Refused}
 
@@ -36,7 +39,8 @@ faultOf TooManyMacros = tooManyMacros
 
 -- READING ONE MACRO
 
--- what it comes to: a refusal with its place; the pieces of a pattern, newest first, that ends before a place, and what follows; the macro, that ends before a place
+-- what it comes to: a refusal with its place; the pieces of a pattern, newest first, that ends before a place, and what follows;
+-- the macro, that ends before a place
 pub data MacroRead : Type 0 where
   refusedAt : FileRefusal → ℕ → MacroRead
   patternTo : ℕ → List Piece → MacroRead → MacroRead
@@ -98,7 +102,8 @@ after s ms (refusedAt c q) = fileRefusedAt c q
 after s ms (patternTo q ps o) = after s ms o
 after s ms (macroTo q m) = readFrom q (between false (m ∷ ms)) (drop q s)
 
--- the machine's answer on the macro that began at a, from place p of the file s on, in a skip or not; 18 shows one byte later than in readMacro, behind the 513th byte
+-- the machine's answer on the macro that began at a, from place p of the file s on, in a skip or not;
+-- 18 shows one byte later than in readMacro, behind the 513th byte
 unfoldable pub run : List ℕ → ℕ → List Macro → Bool → ℕ → Part → MacroRead
 run s a ms k p st = pick (ltb mostMacroBytes (p - a)) (refusedAt macroTooLong (p - 1)) (readMacro ms p k (p - a) st (drop p s))
 

@@ -72,7 +72,8 @@ faultOf n = pick (leb n 32256) MacroTooLong FileTooLong
 
 -- the answer for a macro that begins at start, with its limit, and ends at n, or behind its line feed at end
 unfoldable pub answerOf : ℕ → ℕ → ℕ → ℕ → Answer
-answerOf start limit n end = pick (ltb limit n) (Refused (faultOf start) limit) (pick (ltb mostFileBytes end) (Refused FileTooLong mostFileBytes) (WrittenOut end))
+answerOf start limit n end =
+    pick (ltb limit n) (Refused (faultOf start) limit) (pick (ltb mostFileBytes end) (Refused FileTooLong mostFileBytes) (WrittenOut end))
 
 -- what comes of the macros behind a macro with this answer
 abbrev pub onward : List ℕ → Table → Answer → Written
