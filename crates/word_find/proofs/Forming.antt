@@ -2,7 +2,7 @@
 -- Assumes nothing.
 use Prim.Native.Nat.{ℕ, suc, _+_, _-_, _≤_, _<_}
 use mathlib.Core.Path.{_≡_, refl, ap, _∙_}
-use mathlib.Core.Bool.{Bool, true, false, not, _&&_, _||_}
+use mathlib.Core.Bool.{Bool, true, false, not, _&&_, _||_, and-true, and-false}
 use mathlib.Core.List.{List, [], _∷_}
 use native.Mathlib.Numerals.{add-one}
 use native.Mathlib.Omega.{arith}
@@ -11,7 +11,7 @@ use lib.ListN.{length, getD, drop, length-drop, drop-of-length-le}
 use lib.Seq.{drop-cons}
 use Rattle.macros.specs.Macro.{pick}
 use Rattle.words.specs.Pattern.{dash, allowed, isEmpty, allAllowed, beginsWithDash, twoDashes, isPattern}
-use Rattle.words.specs.Cover.{behind, somewhere, covers}
+use Rattle.words.specs.Cover.{somewhere, byteThen, covers}
 use Rattle.words.proofs.CoverLaws.{covers-dash, covers-byte}
 use Rattle.word_find.specs.Letters.{letter, letters}
 
@@ -97,22 +97,22 @@ form-empty [] h = refl
 form-empty (c ∷ p) h = absurd (omega arith)
 
 module _ (p : List ℕ) (h : 1 ≤ length p) where
-  some : isEmpty p ≡ false
+  not-empty : isEmpty p ≡ false
   unfolding isEmpty
-  some = by p h where
+  not-empty = by p h where
     by : (s : List ℕ) → 1 ≤ length s → isEmpty s ≡ false
     by [] g = absurd (omega arith)
     by (c ∷ s) g = refl
 
-  form-is : (x : Bool) → twoDashes p ≡ x → isPattern p ≡ (not x && allAllowed p)
+  form-is : (x : Bool) → twoDashes p ≡ x → isPattern p ≡ (allAllowed p && not x)
   unfolding isPattern
-  form-is x e = ap (λ (y : Bool). not y && (not (twoDashes p) && allAllowed p)) some ∙ ap (λ (y : Bool). not y && allAllowed p) e
+  form-is x e = ap (λ (y : Bool). not y && (allAllowed p && not (twoDashes p))) not-empty ∙ ap (λ (y : Bool). allAllowed p && not y) e
 
   pub form-dashes : twoDashes p ≡ true → isPattern p ≡ false
-  form-dashes e = form-is true e
+  form-dashes e = form-is true e ∙ and-false (allAllowed p)
 
   pub form-rest : twoDashes p ≡ false → isPattern p ≡ allAllowed p
-  form-rest e = form-is false e
+  form-rest e = form-is false e ∙ and-true (allAllowed p)
 
 -- A WORD WITH FEWER BYTES THAN THE PATTERN HAS LETTERS AND DIGITS IS NOT COVERED
 
@@ -132,10 +132,10 @@ unfolding somewhere Long
 nowhere p ih [] h = ih [] h
 nowhere p ih (b ∷ w) h = ap (λ (x : Bool). x || somewhere (covers p) w) (ih (b ∷ w) h) ∙ nowhere p ih w (omega arith)
 
-not-behind : (c : ℕ) (p : List ℕ) → Long p → (w : List ℕ) → length w < 1 + letters p → behind c (covers p) w ≡ false
-unfolding behind Long
-not-behind c p ih [] h = refl
-not-behind c p ih (b ∷ w) h = by (eqb c b) where
+not-first : (c : ℕ) (p : List ℕ) → Long p → (w : List ℕ) → length w < 1 + letters p → byteThen c (covers p) w ≡ false
+unfolding byteThen Long
+not-first c p ih [] h = refl
+not-first c p ih (b ∷ w) h = by (eqb c b) where
   by : (x : Bool) → (elim x [ true ↦ covers p w | false ↦ false ]) ≡ false
   by true = ih w (omega arith)
   by false = refl
@@ -143,7 +143,7 @@ not-behind c p ih (b ∷ w) h = by (eqb c b) where
 long-by : (c : ℕ) (p : List ℕ) (x : Bool) → eqb c dash ≡ x → Long p → Long (c ∷ p)
 unfolding letters Long
 long-by c p true e ih w h = covers-dash c p e w ∙ nowhere p ih w (omega (arith, letter-dash c e))
-long-by c p false e ih w h = covers-byte c p e w ∙ not-behind c p ih w (omega (arith, letter-byte c e))
+long-by c p false e ih w h = covers-byte c p e w ∙ not-first c p ih w (omega (arith, letter-byte c e))
 
 long-end : Long []
 unfolding letters Long

@@ -13,7 +13,7 @@ use lib.Seq.{drop-cons, drop-length, getD-set-same, getD-set-other}
 use borrow.Author.Tests.{eqb-true, eqb-false, eq-eqb}
 use Rattle.macros.specs.Macro.{pick}
 use Rattle.words.specs.Pattern.{dash, isEmpty}
-use Rattle.words.specs.Cover.{behind, somewhere, covers}
+use Rattle.words.specs.Cover.{somewhere, byteThen, covers}
 use Rattle.words.proofs.CoverLaws.{covers-dash, covers-byte}
 use Rattle.word_find.specs.Marks.{mark, Marked, StepsDash, StepsByte, Steps}
 
@@ -131,41 +131,41 @@ dash-done t t′ w later i l s =
 
 -- below place i the marks are those behind the byte c, from it on as they were
 pub record ByteSo (t t′ w : List ℕ) (c i : ℕ) : Type 0 where
-  pub low : (p : List ℕ) → Marked t p w → (j : ℕ) → j < i → getD t′ j 0 ≡ mark (behind c (covers p) (drop j w))
+  pub low : (p : List ℕ) → Marked t p w → (j : ℕ) → j < i → getD t′ j 0 ≡ mark (byteThen c (covers p) (drop j w))
   pub high : (j : ℕ) → i ≤ j → getD t′ j 0 ≡ getD t j 0
 
 pub byte-none : (t w : List ℕ) (c : ℕ) → ByteSo t t w c 0
 byte-none t w c = record { low = λ p m j h. absurd (omega arith); high = λ j h. refl }
 
-marked-behind : (c b : ℕ) (x : Bool) (v : List ℕ) (f : List ℕ → Bool) → f v ≡ x → pick (eqb c b) (mark x) 0 ≡ mark (behind c f (b ∷ v))
-unfolding behind mark pick
-marked-behind c b x v f e = by (eqb c b) where
+marked-byte : (c b : ℕ) (x : Bool) (v : List ℕ) (f : List ℕ → Bool) → f v ≡ x → pick (eqb c b) (mark x) 0 ≡ mark (byteThen c f (b ∷ v))
+unfolding byteThen mark pick
+marked-byte c b x v f e = by (eqb c b) where
   by : (y : Bool) → pick y (mark x) 0 ≡ mark (elim y [ true ↦ f v | false ↦ false ])
   by true = ap mark (sym e)
   by false = refl
 
 module _ (t t′ w : List ℕ) (c i : ℕ) (l : i < length w) (k : length w < length t′) (s : ByteSo t t′ w c i) where
-  byte-here : (p : List ℕ) → Marked t p w → pick (eqb c (getD w i 0)) (getD t′ (i + 1) 0) 0 ≡ mark (behind c (covers p) (drop i w))
+  byte-here : (p : List ℕ) → Marked t p w → pick (eqb c (getD w i 0)) (getD t′ (i + 1) 0) 0 ≡ mark (byteThen c (covers p) (drop i w))
   byte-here p m =
       let e : drop i w ≡ getD w i 0 ∷ drop (i + 1) w = rw (add-one i) (drop-cons w i 0 l) in
       ap (λ (x : ℕ). pick (eqb c (getD w i 0)) x 0) (s .high (i + 1) (omega arith) ∙ m .each (i + 1) (omega arith))
-      ∙ (marked-behind c (getD w i 0) (covers p (drop (i + 1) w)) (drop (i + 1) w) (covers p) refl
-      ∙ ap (λ (x : List ℕ). mark (behind c (covers p) x)) (sym e))
+      ∙ (marked-byte c (getD w i 0) (covers p (drop (i + 1) w)) (drop (i + 1) w) (covers p) refl
+      ∙ ap (λ (x : List ℕ). mark (byteThen c (covers p) x)) (sym e))
 
   pub byte-more : {v : ℕ} → v ≡ pick (eqb c (getD w i 0)) (getD t′ (i + 1) 0) 0 → ByteSo t (set t′ i v) w c (i + 1)
   byte-more {v} e =
       record {
         low = λ p m j h.
-            stored t′ i v (omega arith) (λ (x : ℕ). x ≡ mark (behind c (covers p) (drop j w))) j
-            (λ f. e ∙ (byte-here p m ∙ ap (λ (q : ℕ). mark (behind c (covers p) (drop q w))) (sym f)))
+            stored t′ i v (omega arith) (λ (x : ℕ). x ≡ mark (byteThen c (covers p) (drop j w))) j
+            (λ f. e ∙ (byte-here p m ∙ ap (λ (q : ℕ). mark (byteThen c (covers p) (drop q w))) (sym f)))
             (λ f. s .low p m j (omega arith));
         high = λ j h. stored t′ i v (omega arith) (λ (x : ℕ). x ≡ getD t j 0) j (λ f. absurd (omega arith)) (λ f. s .high j (omega arith));
       }
 
 -- no byte stands behind the word
-behind-end : (c : ℕ) (f : List ℕ → Bool) (w : List ℕ) (i : ℕ) → length w ≤ i → behind c f (drop i w) ≡ false
-unfolding behind
-behind-end c f w i h = ap (behind c f) (drop-of-length-le w h)
+byte-end : (c : ℕ) (f : List ℕ → Bool) (w : List ℕ) (i : ℕ) → length w ≤ i → byteThen c f (drop i w) ≡ false
+unfolding byteThen
+byte-end c f w i h = ap (byteThen c f) (drop-of-length-le w h)
 
 pub byte-done : (t t′ w : List ℕ) (c i : ℕ) → i ≡ length w → i < length t′ → ByteSo t t′ w c i → StepsByte t (set t′ i 0) w c
 unfolding mark
@@ -174,7 +174,7 @@ byte-done t t′ w c i e l s =
       step = λ d p m.
           record {
             each = λ j h.
-                stored t′ i 0 l (λ (x : ℕ). x ≡ mark (behind c (covers p) (drop j w))) j (λ f. ap mark (sym (behind-end c (covers p) w j (omega arith))))
+                stored t′ i 0 l (λ (x : ℕ). x ≡ mark (byteThen c (covers p) (drop j w))) j (λ f. ap mark (sym (byte-end c (covers p) w j (omega arith))))
                 (λ f. s .low p m j (omega arith))
                 ∙ ap mark (sym (covers-byte c p d (drop j w)));
           };

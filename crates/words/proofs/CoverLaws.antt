@@ -3,14 +3,14 @@
 use mathlib.Core.Path.{_≡_, refl, sym, ap, _∙_, subst}
 use Prim.Native.Nat.{ℕ, suc}
 use native.Mathlib.Omega.{arith}
-use mathlib.Core.Bool.{Bool, true, false, _||_, false≢true}
+use mathlib.Core.Bool.{Bool, true, false, _||_, false≢true, or-true}
 use mathlib.Core.List.{List, [], _∷_, _++_}
 use borrow.Author.Tests.{eqb-true, eq-eqb}
 use lib.Dec.{eqb}
 use lib.ListN.{length}
 use Rattle.words.specs.Word.{Run}
 use Rattle.words.specs.Pattern.{dash, isEmpty}
-use Rattle.words.specs.Cover.{firstRun, laterRuns, filled, dashes, Runs, Covers, behind, somewhere, covers}
+use Rattle.words.specs.Cover.{firstRun, laterRuns, filled, dashes, Runs, Covers, somewhere, byteThen, covers}
 use Rattle.words.specs.CoverLaw.{CoversExactly}
 
 -- A BYTE OF THE PATTERN, by whether it is a dash
@@ -19,7 +19,7 @@ module _ (c : ℕ) (p : List ℕ) where
   module _ (d : eqb c dash ≡ true) where
     pub covers-dash : (w : List ℕ) → covers (c ∷ p) w ≡ somewhere (covers p) w
     unfolding covers
-    covers-dash w = ap (λ (x : Bool). elim x [ true ↦ somewhere (covers p) w | false ↦ behind c (covers p) w ]) d
+    covers-dash w = ap (λ (x : Bool). elim x [ true ↦ somewhere (covers p) w | false ↦ byteThen c (covers p) w ]) d
 
     filled-dash : (rs : List (List ℕ)) → filled (c ∷ p) rs ≡ firstRun rs ++ filled p (laterRuns rs)
     unfolding filled
@@ -30,9 +30,9 @@ module _ (c : ℕ) (p : List ℕ) where
     dashes-dash = ap (λ (x : Bool). elim x [ true ↦ suc (dashes p) | false ↦ dashes p ]) d
 
   module _ (d : eqb c dash ≡ false) where
-    pub covers-byte : (w : List ℕ) → covers (c ∷ p) w ≡ behind c (covers p) w
+    pub covers-byte : (w : List ℕ) → covers (c ∷ p) w ≡ byteThen c (covers p) w
     unfolding covers
-    covers-byte w = ap (λ (x : Bool). elim x [ true ↦ somewhere (covers p) w | false ↦ behind c (covers p) w ]) d
+    covers-byte w = ap (λ (x : Bool). elim x [ true ↦ somewhere (covers p) w | false ↦ byteThen c (covers p) w ]) d
 
     filled-byte : (rs : List (List ℕ)) → filled (c ∷ p) rs ≡ c ∷ filled p rs
     unfolding filled
@@ -75,7 +75,7 @@ Shows p = (w : List ℕ) → Run w → covers p w ≡ true → Covers p w
 
 shows-end : Shows []
 unfolding covers isEmpty filled dashes Runs Shows
-shows-end [] h e = record { runs = []; each = refl; spelled = tt; whole = refl }
+shows-end [] h e = record { runs = []; oneEach = refl; areRuns = tt; whole = refl }
 shows-end (b ∷ w) h e = absurd (false≢true e)
 
 shows-dash : (c : ℕ) (p : List ℕ) → eqb c dash ≡ true → Shows p → Shows (c ∷ p)
@@ -86,8 +86,8 @@ shows-dash c p d ih w h e =
     let k = ih (s .rest) (run-back (s .taken) (s .rest) h₂) (s .holds) in
     record {
       runs = s .taken ∷ k .runs;
-      each = ap suc (k .each) ∙ sym (dashes-dash c p d);
-      spelled = (run-front (s .taken) (s .rest) h₂, k .spelled);
+      oneEach = ap suc (k .oneEach) ∙ sym (dashes-dash c p d);
+      areRuns = (run-front (s .taken) (s .rest) h₂, k .areRuns);
       whole = filled-dash c p d (s .taken ∷ k .runs) ∙ (ap (λ (l : List ℕ). s .taken ++ l) (k .whole) ∙ s .joins);
     }
 
@@ -95,16 +95,16 @@ if-true : (x y : Bool) → (elim x [ true ↦ y | false ↦ false ]) ≡ true �
 if-true true y e = (refl, e)
 if-true false y e = absurd (false≢true e)
 
-shows-byte : (c : ℕ) (p : List ℕ) → eqb c dash ≡ false → Shows p → (w : List ℕ) → Run w → behind c (covers p) w ≡ true → Covers (c ∷ p) w
-unfolding behind Run Shows
+shows-byte : (c : ℕ) (p : List ℕ) → eqb c dash ≡ false → Shows p → (w : List ℕ) → Run w → byteThen c (covers p) w ≡ true → Covers (c ∷ p) w
+unfolding byteThen Run Shows
 shows-byte c p d ih [] h e = absurd (false≢true e)
 shows-byte c p d ih (b ∷ w) h e =
     let g = if-true (eqb c b) (covers p w) e in
     let k = ih w (h .1) (g .1) in
     record {
       runs = k .runs;
-      each = k .each ∙ sym (dashes-byte c p d);
-      spelled = k .spelled;
+      oneEach = k .oneEach ∙ sym (dashes-byte c p d);
+      areRuns = k .areRuns;
       whole = filled-byte c p d (k .runs) ∙ (ap (λ (l : List ℕ). c ∷ l) (k .whole) ∙ ap (λ (x : ℕ). x ∷ w) (eqb-true c b (g .0)));
     }
 
@@ -119,16 +119,12 @@ shows (c ∷ p) = shows-by c p (eqb c dash) refl (shows p)
 
 -- A CHOICE IS FOUND
 
-or-true : (x : Bool) → (x || true) ≡ true
-or-true true = refl
-or-true false = refl
-
 -- f holds behind the bytes r
-somewhere-behind : (f : List ℕ → Bool) (r s : List ℕ) → f s ≡ true → somewhere f (r ++ s) ≡ true
+somewhere-after : (f : List ℕ → Bool) (r s : List ℕ) → f s ≡ true → somewhere f (r ++ s) ≡ true
 unfolding somewhere
-somewhere-behind f [] [] e = e
-somewhere-behind f [] (b ∷ s) e = ap (λ (x : Bool). x || somewhere f s) e
-somewhere-behind f (b ∷ r) s e = ap (λ (x : Bool). f (b ∷ (r ++ s)) || x) (somewhere-behind f r s e) ∙ or-true (f (b ∷ (r ++ s)))
+somewhere-after f [] [] e = e
+somewhere-after f [] (b ∷ s) e = ap (λ (x : Bool). x || somewhere f s) e
+somewhere-after f (b ∷ r) s e = ap (λ (x : Bool). f (b ∷ (r ++ s)) || x) (somewhere-after f r s e) ∙ or-true (f (b ∷ (r ++ s)))
 
 Found : List ℕ → Type 0
 Found p = (rs : List (List ℕ)) → length rs ≡ dashes p → covers p (filled p rs) ≡ true
@@ -138,16 +134,16 @@ unfolding firstRun laterRuns Found
 found-dash c p d ih [] l = absurd (let z = l ∙ dashes-dash c p d in omega arith)
 found-dash c p d ih (r ∷ rs) l =
     let k : length rs ≡ dashes p = let z = l ∙ dashes-dash c p d in omega arith in
-    covers-dash c p d (filled (c ∷ p) (r ∷ rs)) ∙ (ap (somewhere (covers p)) (filled-dash c p d (r ∷ rs)) ∙ somewhere-behind (covers p) r (filled p rs) (ih rs k))
+    covers-dash c p d (filled (c ∷ p) (r ∷ rs)) ∙ (ap (somewhere (covers p)) (filled-dash c p d (r ∷ rs)) ∙ somewhere-after (covers p) r (filled p rs) (ih rs k))
 
-own-byte : (c : ℕ) (f : List ℕ → Bool) (w : List ℕ) → behind c f (c ∷ w) ≡ f w
-unfolding behind
+own-byte : (c : ℕ) (f : List ℕ → Bool) (w : List ℕ) → byteThen c f (c ∷ w) ≡ f w
+unfolding byteThen
 own-byte c f w = ap (λ (x : Bool). elim x [ true ↦ f w | false ↦ false ]) (eq-eqb c c refl)
 
 found-byte : (c : ℕ) (p : List ℕ) → eqb c dash ≡ false → Found p → Found (c ∷ p)
 unfolding Found
 found-byte c p d ih rs l =
-    covers-byte c p d (filled (c ∷ p) rs) ∙ (ap (behind c (covers p)) (filled-byte c p d rs) ∙ (own-byte c (covers p) (filled p rs) ∙ ih rs (l ∙ dashes-byte c p d)))
+    covers-byte c p d (filled (c ∷ p) rs) ∙ (ap (byteThen c (covers p)) (filled-byte c p d rs) ∙ (own-byte c (covers p) (filled p rs) ∙ ih rs (l ∙ dashes-byte c p d)))
 
 found-by : (c : ℕ) (p : List ℕ) (x : Bool) → eqb c dash ≡ x → Found p → Found (c ∷ p)
 found-by c p true d ih = found-dash c p d ih
@@ -163,4 +159,4 @@ finds (c ∷ p) = found-by c p (eqb c dash) refl (finds p)
 
 pub covers-exactly : CoversExactly
 unfolding Shows Found
-covers-exactly p w h = record { sound = shows p w h; complete = λ k. ap (covers p) (sym (k .whole)) ∙ finds p (k .runs) (k .each) }
+covers-exactly p w h = record { sound = shows p w h; complete = λ k. ap (covers p) (sym (k .whole)) ∙ finds p (k .runs) (k .oneEach) }

@@ -1,3 +1,4 @@
+pub mod PatternLaws
 pub mod CoverLaws
 pub mod WordLaws
 pub mod LookLaws

@@ -9,7 +9,7 @@ use mathlib.Core.List.{List, [], _∷_, _++_, reverse, reverse-cons}
 use lib.ListN.{length}
 use lib.Seq.{append-snoc}
 use Rattle.words.specs.Word.{inWord, Run, leading, Word, word, begun, wordsFrom, wordsOf}
-use Rattle.words.specs.WordLaw.{Apart, IsWord, In, Above, Rising, WordsExactly}
+use Rattle.words.specs.WordLaw.{Apart, IsWord, OneOf, Above, Rising, WordsExactly}
 
 -- THE LONGEST RUN AT THE HEAD
 
@@ -23,15 +23,15 @@ module _ (b : ℕ) (s : List ℕ) where
   leading-out e = ap (λ (x : Bool). elim x [ true ↦ b ∷ leading s | false ↦ [] ]) e
 
 -- what is behind it
-record Behind (s : List ℕ) : Type 0 where
+record RunEnds (s : List ℕ) : Type 0 where
   after : List ℕ
   joins : s ≡ leading s ++ after
   run : Run (leading s)
   apart : Apart after
 
-behind-by : (b : ℕ) (s : List ℕ) (x : Bool) → inWord b ≡ x → Behind s → Behind (b ∷ s)
+run-ends-by : (b : ℕ) (s : List ℕ) (x : Bool) → inWord b ≡ x → RunEnds s → RunEnds (b ∷ s)
 unfolding Run Apart
-behind-by b s true e k =
+run-ends-by b s true e k =
     let l = leading-in b s e in
     record {
       after = k .after;
@@ -39,14 +39,14 @@ behind-by b s true e k =
       run = subst Run (sym l) (e, k .run);
       apart = k .apart;
     }
-behind-by b s false e k =
+run-ends-by b s false e k =
     let l = leading-out b s e in
     record { after = b ∷ s; joins = ap (λ (z : List ℕ). z ++ (b ∷ s)) (sym l); run = subst Run (sym l) tt; apart = e }
 
-behind : (s : List ℕ) → Behind s
+run-ends : (s : List ℕ) → RunEnds s
 unfolding Run Apart leading
-behind [] = record { after = []; joins = refl; run = tt; apart = tt }
-behind (b ∷ s) = behind-by b s (inWord b) refl (behind s)
+run-ends [] = record { after = []; joins = refl; run = tt; apart = tt }
+run-ends (b ∷ s) = run-ends-by b s (inWord b) refl (run-ends s)
 
 -- a run that ends there is the longest
 leading-apart : (s : List ℕ) → Apart s → leading s ≡ []
@@ -95,16 +95,16 @@ not-empty b s e f = let l : b ∷ leading s ≡ [] = sym (leading-in b s e) ∙ 
 -- a word that begins here
 here : (a : List ℕ) (b : ℕ) (s : List ℕ) → inWord b ≡ true → joinedBy a ≡ false → IsWord (reverse a ++ (b ∷ s)) (length a) (leading (b ∷ s))
 here a b s e f =
-    let k = behind (b ∷ s) in
+    let k = run-ends (b ∷ s) in
     record {
       before = a;
       after = k .after;
       line = ap (λ (z : List ℕ). reverse a ++ z) (k .joins);
       place = refl;
-      some = not-empty b s e;
+      notEmpty = not-empty b s e;
       run = k .run;
       apartBefore = not-joined a f;
-      apartBehind = k .apart;
+      apartAfter = k .apart;
     }
 
 moved : {t t′ : List ℕ} {p q : ℕ} {w v : List ℕ} → t ≡ t′ → p ≡ q → w ≡ v → IsWord t p w → IsWord t′ q v
@@ -112,11 +112,11 @@ moved {t} {t′} {p} {q} {w} {v} e f g h =
     subst (λ (x : List ℕ). IsWord x q v) e (subst (λ (x : ℕ). IsWord t x v) f (subst (λ (x : List ℕ). IsWord t p x) g h))
 
 AreWords : List ℕ → List ℕ → Type 0
-AreWords a s = (p : ℕ) (w : List ℕ) → In (word p w) (wordsFrom s (joinedBy a) (length a)) → IsWord (reverse a ++ s) p w
+AreWords a s = (p : ℕ) (w : List ℕ) → OneOf (word p w) (wordsFrom s (joinedBy a) (length a)) → IsWord (reverse a ++ s) p w
 
 are-by : (a : List ℕ) (b : ℕ) (s : List ℕ) (x : Bool) → (inWord b && not (joinedBy a)) ≡ x → AreWords (b ∷ a) s → (p : ℕ) (w : List ℕ)
-    → In (word p w) (begun x (length a) (b ∷ s) (wordsFrom s (inWord b) (suc (length a)))) → IsWord (reverse a ++ (b ∷ s)) p w
-unfolding In begun AreWords joinedBy placeOf textOf
+    → OneOf (word p w) (begun x (length a) (b ∷ s) (wordsFrom s (inWord b) (suc (length a)))) → IsWord (reverse a ++ (b ∷ s)) p w
+unfolding OneOf begun AreWords joinedBy placeOf textOf
 are-by a b s true e ih p w (inl h) =
     let g = and-true (inWord b) (joinedBy a) e in
     moved refl (sym (ap placeOf h)) (sym (ap textOf h)) (here a b s (g .0) (g .1))
@@ -124,31 +124,31 @@ are-by a b s true e ih p w (inr h) = moved (one-more a b s) refl refl (ih p w h)
 are-by a b s false e ih p w h = moved (one-more a b s) refl refl (ih p w h)
 
 are-words : (s a : List ℕ) → AreWords a s
-unfolding In wordsFrom AreWords
+unfolding OneOf wordsFrom AreWords
 are-words [] a p w h = absurd h
 are-words (b ∷ s) a p w h = are-by a b s (inWord b && not (joinedBy a)) refl (are-words s (b ∷ a)) p w h
 
 -- ALL OF THEM
 
-keeps : (x : Bool) (p : ℕ) (s : List ℕ) (ws : List Word) (y : Word) → In y ws → In y (begun x p s ws)
-unfolding In begun
+keeps : (x : Bool) (p : ℕ) (s : List ℕ) (ws : List Word) (y : Word) → OneOf y ws → OneOf y (begun x p s ws)
+unfolding OneOf begun
 keeps true p s ws y h = inr h
 keeps false p s ws y h = h
 
 -- what is found from a place on is found from the line's start on
-from-start : (a s : List ℕ) (y : Word) → In y (wordsFrom s (joinedBy a) (length a)) → In y (wordsFrom (reverse a ++ s) false 0)
+from-start : (a s : List ℕ) (y : Word) → OneOf y (wordsFrom s (joinedBy a) (length a)) → OneOf y (wordsFrom (reverse a ++ s) false 0)
 unfolding wordsFrom joinedBy
 from-start [] s y h = h
 from-start (b ∷ a) s y h =
-    subst (λ (z : List ℕ). In y (wordsFrom z false 0)) (sym (one-more a b s))
+    subst (λ (z : List ℕ). OneOf y (wordsFrom z false 0)) (sym (one-more a b s))
     (from-start a (b ∷ s) y (keeps (inWord b && not (joinedBy a)) (length a) (b ∷ s) (wordsFrom s (inWord b) (suc (length a))) y h))
 
-begun-here : (x : Bool) (p : ℕ) (s : List ℕ) (ws : List Word) (w : List ℕ) → x ≡ true → leading s ≡ w → In (word p w) (begun x p s ws)
-unfolding In begun
+begun-here : (x : Bool) (p : ℕ) (s : List ℕ) (ws : List Word) (w : List ℕ) → x ≡ true → leading s ≡ w → OneOf (word p w) (begun x p s ws)
+unfolding OneOf begun
 begun-here true p s ws w e f = inl (ap (λ (z : List ℕ). word p z) (sym f))
 begun-here false p s ws w e f = absurd (false≢true e)
 
-first-word : (a w s : List ℕ) → (w ≡ [] → ⊥) → Run w → Apart a → Apart s → In (word (length a) w) (wordsFrom (w ++ s) (joinedBy a) (length a))
+first-word : (a w s : List ℕ) → (w ≡ [] → ⊥) → Run w → Apart a → Apart s → OneOf (word (length a) w) (wordsFrom (w ++ s) (joinedBy a) (length a))
 unfolding wordsFrom Run
 first-word a [] s n r h k = absurd (n refl)
 first-word a (b ∷ w) s n r h k =
@@ -181,11 +181,11 @@ pub words-exactly : WordsExactly
 unfolding wordsOf AreWords joinedBy
 words-exactly t =
     record {
-      are = λ p w h. are-words t [] p w h;
-      all = λ p w h.
-          subst (λ (z : List ℕ). In (word p w) (wordsFrom z false 0)) (sym (h .line))
+      sound = λ p w h. are-words t [] p w h;
+      complete = λ p w h.
+          subst (λ (z : List ℕ). OneOf (word p w) (wordsFrom z false 0)) (sym (h .line))
           (from-start (h .before) (w ++ h .after) (word p w)
-          (subst (λ (q : ℕ). In (word q w) (wordsFrom (w ++ h .after) (joinedBy (h .before)) (length (h .before)))) (h .place)
-          (first-word (h .before) w (h .after) (h .some) (h .run) (h .apartBefore) (h .apartBehind))));
+          (subst (λ (q : ℕ). OneOf (word q w) (wordsFrom (w ++ h .after) (joinedBy (h .before)) (length (h .before)))) (h .place)
+          (first-word (h .before) w (h .after) (h .notEmpty) (h .run) (h .apartBefore) (h .apartAfter))));
       rising = rising t false 0;
     }

@@ -10,10 +10,22 @@ use Rattle.words.specs.Pattern.{dash, isEmpty}
 
 -- A CHOICE OF RUNS, as a relation
 
+-- the number of dashes of a pattern
+unfoldable pub dashes : List ℕ → ℕ
+dashes [] = 0
+dashes (c ∷ p) = elim (eqb c dash) [ true ↦ suc (dashes p) | false ↦ dashes p ]
+
+-- "A dash stands for any run of letters or digits, also none": each is one
+unfoldable pub Runs : List (List ℕ) → Type 0
+Runs [] = Unit {0}
+Runs (r ∷ rs) = Run r × Runs rs
+
+-- the run for the next dash
 unfoldable pub firstRun : List (List ℕ) → List ℕ
 firstRun [] = []
 firstRun (r ∷ rs) = r
 
+-- the runs for the dashes behind it
 unfoldable pub laterRuns : List (List ℕ) → List (List ℕ)
 laterRuns [] = []
 laterRuns (r ∷ rs) = rs
@@ -23,34 +35,26 @@ unfoldable pub filled : List ℕ → List (List ℕ) → List ℕ
 filled [] rs = []
 filled (c ∷ p) rs = elim (eqb c dash) [ true ↦ firstRun rs ++ filled p (laterRuns rs) | false ↦ c ∷ filled p rs ]
 
-unfoldable pub dashes : List ℕ → ℕ
-dashes [] = 0
-dashes (c ∷ p) = elim (eqb c dash) [ true ↦ suc (dashes p) | false ↦ dashes p ]
-
--- "A dash stands for any run of letters or digits, also none"
-unfoldable pub Runs : List (List ℕ) → Type 0
-Runs [] = Unit {0}
-Runs (r ∷ rs) = Run r × Runs rs
-
 -- "the pattern must cover the word": a run for each dash, and with these the pattern is the word
 pub record Covers (p w : List ℕ) : Type 0 where
   pub runs : List (List ℕ)
-  pub each : length runs ≡ dashes p
-  pub spelled : Runs runs
+  pub oneEach : length runs ≡ dashes p
+  pub areRuns : Runs runs
   pub whole : filled p runs ≡ w
 
 -- WHETHER ONE COVERS, as a test that computes; CoverLaw.antt states that it is the relation
-
--- the byte c stands at the head, and f holds behind it
-unfoldable pub behind : ℕ → (List ℕ → Bool) → List ℕ → Bool
-behind c f [] = false
-behind c f (b ∷ w) = elim (eqb c b) [ true ↦ f w | false ↦ false ]
 
 -- f holds behind some number of bytes, also none
 unfoldable pub somewhere : (List ℕ → Bool) → List ℕ → Bool
 somewhere f [] = f []
 somewhere f (b ∷ w) = f (b ∷ w) || somewhere f w
 
+-- the first byte is c, and then f holds; "Case counts"
+unfoldable pub byteThen : ℕ → (List ℕ → Bool) → List ℕ → Bool
+byteThen c f [] = false
+byteThen c f (b ∷ w) = elim (eqb c b) [ true ↦ f w | false ↦ false ]
+
+-- the pattern, byte by byte, covers the word
 unfoldable pub covers : List ℕ → List ℕ → Bool
 covers [] w = isEmpty w
-covers (c ∷ p) w = elim (eqb c dash) [ true ↦ somewhere (covers p) w | false ↦ behind c (covers p) w ]
+covers (c ∷ p) w = elim (eqb c dash) [ true ↦ somewhere (covers p) w | false ↦ byteThen c (covers p) w ]

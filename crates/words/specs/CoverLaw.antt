@@ -11,6 +11,6 @@ pub record CoverExact (p w : List ℕ) : Type 0 where
   pub sound : covers p w ≡ true → Covers p w
   pub complete : Covers p w → covers p w ≡ true
 
--- for every run of letters and digits
+-- of every pattern, in form or not, and every run of letters and digits
 abbrev pub CoversExactly : Type 0
 CoversExactly = (p w : List ℕ) → Run w → CoverExact p w

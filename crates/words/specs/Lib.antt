@@ -4,6 +4,7 @@ pub mod CoverLaw
 pub mod Look
 pub mod LookLaw
 pub mod Pattern
+pub mod PatternLaw
 pub mod Refusal
 pub mod Word
 pub mod WordLaw

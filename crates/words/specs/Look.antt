@@ -7,7 +7,6 @@ use lib.ListN.{length}
 use Rattle.macros.specs.Bounds.{mostLineBytes}
 use Rattle.macros.specs.Refusals.{LineRefusal, lineNumber}
 use Rattle.macros.specs.Refusals.LineRefusal.{lineTooLong, badByte}
-use Rattle.macros.specs.Macro.{pick}
 use Rattle.lines.specs.Feeding.{hasBadByte}
 use Rattle.words.specs.Refusal.{WordRefusal, wordNumber}
 use Rattle.words.specs.Refusal.WordRefusal.{badPattern}
@@ -25,36 +24,44 @@ unfoldable pub firstPlace : List Word → ℕ
 firstPlace [] = 0
 firstPlace (word q w ∷ ws) = q
 
--- a refusal of the line, one of the pattern, or "the number of words covered and the place of the first"
+-- "For a line the answer is the number of words covered and the place of the first", or a refusal of the line or of the pattern
 pub data Looked : Type 0 where
+  found : (number : ℕ) → (place : ℕ) → Looked
   refusedLine : LineRefusal → Looked
   refusedPattern : WordRefusal → Looked
-  found : (number : ℕ) → (place : ℕ) → Looked
 
+-- "or that there is none": number 0
 unfoldable pub foundOf : List Word → Looked
 foundOf ws = found (length ws) (firstPlace ws)
 
 -- "41 .. comes after the line's own 21 and 22"
 unfoldable pub lookUp : (line pattern : List ℕ) → Looked
 lookUp t p =
-    pick (leb (length t) mostLineBytes)
-    (pick (hasBadByte t) (refusedLine badByte)
-    (pick (isPattern p) (foundOf (coveredOf p (wordsOf t))) (refusedPattern badPattern)))
-    (refusedLine lineTooLong)
+    elim (leb (length t) mostLineBytes) [
+      | false ↦ refusedLine lineTooLong
+      | true ↦ elim (hasBadByte t) [
+        | true ↦ refusedLine badByte
+        | false ↦ elim (isPattern p) [
+          | false ↦ refusedPattern badPattern
+          | true ↦ foundOf (coveredOf p (wordsOf t))
+        ]
+      ]
+    ]
 
 -- the number of the refusal, 0 if there is none
 unfoldable pub lookedNumber : Looked → ℕ
+lookedNumber (found n p) = 0
 lookedNumber (refusedLine r) = lineNumber r
 lookedNumber (refusedPattern r) = wordNumber r
-lookedNumber (found n p) = 0
 
--- the words covered, and the place of the first; a refusal has 0 and 0
+-- the number of words covered, 0 with a refusal
 unfoldable pub lookedWords : Looked → ℕ
+lookedWords (found n p) = n
 lookedWords (refusedLine r) = 0
 lookedWords (refusedPattern r) = 0
-lookedWords (found n p) = n
 
+-- the place of the first, 0 with a refusal
 unfoldable pub lookedPlace : Looked → ℕ
+lookedPlace (found n p) = p
 lookedPlace (refusedLine r) = 0
 lookedPlace (refusedPattern r) = 0
-lookedPlace (found n p) = p

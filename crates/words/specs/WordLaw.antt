@@ -19,14 +19,15 @@ pub record IsWord (t : List ℕ) (p : ℕ) (w : List ℕ) : Type 0 where
   pub after : List ℕ
   pub line : t ≡ reverse before ++ (w ++ after)
   pub place : length before ≡ p
-  pub some : w ≡ [] → ⊥
+  pub notEmpty : w ≡ [] → ⊥
   pub run : Run w
   pub apartBefore : Apart before
-  pub apartBehind : Apart after
+  pub apartAfter : Apart after
 
-unfoldable pub In : Word → List Word → Type 0
-In x [] = ⊥
-In x (y ∷ ys) = (x ≡ y) ⊎ In x ys
+-- x is one of the words
+unfoldable pub OneOf : Word → List Word → Type 0
+OneOf x [] = ⊥
+OneOf x (y ∷ ys) = (x ≡ y) ⊎ OneOf x ys
 
 -- every place is above p
 unfoldable pub Above : ℕ → List Word → Type 0
@@ -38,10 +39,12 @@ unfoldable pub Rising : List Word → Type 0
 Rising [] = Unit {0}
 Rising (word q w ∷ ws) = Above q ws × Rising ws
 
+-- the words of the line t: each is one, each one is there, and they are in order
 pub record WordsExact (t : List ℕ) : Type 0 where
-  pub are : (p : ℕ) (w : List ℕ) → In (word p w) (wordsOf t) → IsWord t p w
-  pub all : (p : ℕ) (w : List ℕ) → IsWord t p w → In (word p w) (wordsOf t)
+  pub sound : (p : ℕ) (w : List ℕ) → OneOf (word p w) (wordsOf t) → IsWord t p w
+  pub complete : (p : ℕ) (w : List ℕ) → IsWord t p w → OneOf (word p w) (wordsOf t)
   pub rising : Rising (wordsOf t)
 
+-- of every line
 abbrev pub WordsExactly : Type 0
 WordsExactly = (t : List ℕ) → WordsExact t
