@@ -25,7 +25,7 @@ use Rattle.words.specs.Look.Looked.{found, refusedLine, refusedPattern}
 use Rattle.words.specs.LookLaw.{FirstAt, Finds, LineTaken, Reason, AnswersExactly, TakenExactly}
 use Rattle.words.proofs.PatternLaws.{patterns-exactly}
 use Rattle.words.proofs.CoverLaws.{covers-exactly}
-use Rattle.words.proofs.WordLaws.{words-exactly}
+use Rattle.words.proofs.WordLaws.{placeOf, textOf, words-exactly}
 
 -- THE WORDS COVERED, among some words
 
@@ -40,9 +40,6 @@ covered-cons p q w ws = by (covers p w) where
   by : (x : Bool) → (elim x [ true ↦ word q w ∷ coveredOf p ws | false ↦ coveredOf p ws ]) ≡ kept x (word q w) (coveredOf p ws)
   by true = refl
   by false = refl
-
-textOf : Word → List ℕ
-textOf (word p w) = w
 
 Hit : List ℕ → List Word → Word → Type 0
 Hit p ws x = OneOf x ws × (covers p (textOf x) ≡ true)
@@ -96,9 +93,6 @@ first-at [] = refl
 first-at (word q w ∷ ws) = refl
 
 -- ONE LIST: words in order are known by which they are
-
-placeOf : Word → ℕ
-placeOf (word p w) = p
 
 above-member : (p : ℕ) (x : Word) (ws : List Word) → Above p ws → OneOf x ws → p < placeOf x
 unfolding Above OneOf placeOf

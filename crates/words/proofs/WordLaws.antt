@@ -83,10 +83,10 @@ and-true true true e = absurd (false≢true e)
 and-true true false e = (refl, refl)
 and-true false y e = absurd (false≢true e)
 
-placeOf : Word → ℕ
+unfoldable pub placeOf : Word → ℕ
 placeOf (word p w) = p
 
-textOf : Word → List ℕ
+unfoldable pub textOf : Word → List ℕ
 textOf (word p w) = w
 
 not-empty : (b : ℕ) (s : List ℕ) → inWord b ≡ true → leading (b ∷ s) ≡ [] → ⊥

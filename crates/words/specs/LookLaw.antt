@@ -19,18 +19,18 @@ use Rattle.words.specs.Look.Looked.{found, refusedLine, refusedPattern}
 
 -- the place of the first, or 0 where there is none
 unfoldable pub FirstAt : List Word → ℕ → Type 0
-FirstAt [] p = p ≡ 0
-FirstAt (word q w ∷ ws) p = p ≡ q
+FirstAt [] q = q ≡ 0
+FirstAt (word i w ∷ ws) q = q ≡ i
 
--- "the number of words covered and the place of the first, or that there is none": n and p, of the line t
-pub record Finds (t pattern : List ℕ) (n p : ℕ) : Type 0 where
+-- "the number of words covered and the place of the first, or that there is none": n and q, of the line t and the word-pattern p
+pub record Finds (t p : List ℕ) (n q : ℕ) : Type 0 where
   -- the words covered: each is one of the line's, each one that some choice of runs covers is there, and they are in order
   pub covered : List Word
-  pub sound : (q : ℕ) (w : List ℕ) → OneOf (word q w) covered → IsWord t q w × Covers pattern w
-  pub complete : (q : ℕ) (w : List ℕ) → IsWord t q w → Covers pattern w → OneOf (word q w) covered
+  pub sound : (i : ℕ) (w : List ℕ) → OneOf (word i w) covered → IsWord t i w × Covers p w
+  pub complete : (i : ℕ) (w : List ℕ) → IsWord t i w → Covers p w → OneOf (word i w) covered
   pub rising : Rising covered
   pub number : length covered ≡ n
-  pub first : FirstAt covered p
+  pub first : FirstAt covered q
 
 -- WHY
 
