@@ -216,20 +216,23 @@ data Open : Reader → Type 0 where
   part : (n : ℕ) (st : Part) (ms : List Macro) → skips st ≡ true → Open (inside false n st ms)
   within : (n : ℕ) (st : Part) (ms : List Macro) → skips st ≡ false → Open (inside true n st ms)
 
+skip-length : (t : List ℕ) → length (skipOver t) ≡ length t + 2
+skip-length t = simp length-append (omega arith)
+
 -- reading goes through the skip
 through : (t v : List ℕ) (q : ℕ) (r : Reader) → NoSlash t → Open r
     → Passes (readFrom q r (skipOver t ++ v)) (readFrom (q + length (skipOver t)) (later (length (skipOver t)) r) v)
 unfolding later
 through t v q r g (outside ms) =
-    let x : suc (suc q + length t) ≡ q + length (skipOver t) = rw (length-append t (47 ∷ [])) (omega arith) in
+    let x : suc (suc q + length t) ≡ q + length (skipOver t) = omega (arith, skip-length t) in
     passes
     (read-go q (between false ms) (between true ms) 47 ((t ++ (47 ∷ [])) ++ v) (unfold step pick in refl)
     ∙ (ap (readFrom (suc q) (between true ms)) (append-assoc t (47 ∷ []) v)
     ∙ (between-skipped t (47 ∷ v) (suc q) ms g
     ∙ (read-go (suc q + length t) (between true ms) (between false ms) 47 v (unfold step pick in refl) ∙ ap (λ (p : ℕ). readFrom p (between false ms) v) x))))
 through t v q r g (part n st ms e) =
-    let x : suc (suc q + length t) ≡ q + length (skipOver t) = rw (length-append t (47 ∷ [])) (omega arith) in
-    let y : suc (suc n + length t) ≡ n + length (skipOver t) = rw (length-append t (47 ∷ [])) (omega arith) in
+    let x : suc (suc q + length t) ≡ q + length (skipOver t) = omega (arith, skip-length t) in
+    let y : suc (suc n + length t) ≡ n + length (skipOver t) = omega (arith, skip-length t) in
     pass-pass (one q n (inside false n st ms) true st ms 47 ((t ++ (47 ∷ [])) ++ v) (unfold step pick in rw e))
     (pass-on (ap (readFrom (suc q) (inside true (suc n) st ms)) (append-assoc t (47 ∷ []) v))
     (pass-pass (skipped t (47 ∷ v) (suc q) (suc n) st ms (silent st t g))

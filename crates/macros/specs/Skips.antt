@@ -1,5 +1,5 @@
 -- What is promised of skips (01, part 2: "`/` skips to the next `/` ..; the rest is read as if both and all between were not there").
--- SkipIsNothing is false with the edits skip_place_kept (a refusal behind a skip keeps its place), slash_in_skip and third_slash
+-- SkipIsNothing is false with the edits skip_place_kept (a refusal behind a skip keeps its place), slash_in_skip and skip_to_space
 -- (a skip is another than from `/` to the next `/`), and skips_in_class (a class is taken for a place where skips count).
 use Prim.Native.Nat.{ℕ, _+_}
 use mathlib.Core.Path.{_≡_}
