@@ -9,6 +9,7 @@ use Rattle.macros.specs.Bounds.{mostMacros}
 use Rattle.macros.specs.Macro.{Symbol, Macro, Table}
 use Rattle.macros.specs.Macro.Symbol.{equal, less}
 use Rattle.macros.specs.Accepted.{Spellable, Each}
+use Rattle.macros.proofs.Laws.{each-spellable}
 use Rattle.form_table.specs.Form.{slotBytes, patternItems, replacementItems, callsItems, symbolCode, slot, slots, form}
 use Rattle.form_table.specs.FormLaws.{OneForm}
 use Rattle.form_table.specs.Check.{twoAt}
@@ -71,4 +72,4 @@ one-table (suc n) (m ∷ ms) (k ∷ ks) h l f g e =
 
 pub oneForm : OneForm
 unfolding form
-oneForm ms ks f g e = one-table mostMacros ms ks (f .count) (g .count) (f .macros) (g .macros) e
+oneForm ms ks f g e = one-table mostMacros ms ks (f .count) (g .count) (each-spellable f) (each-spellable g) e

@@ -13,6 +13,7 @@ use Rattle.macros.specs.Macro.{Symbol, Macro, Table, tags}
 use Rattle.macros.specs.Macro.Symbol.{equal, less}
 use Rattle.macros.specs.Formed.{Octets}
 use Rattle.macros.specs.Accepted.{Spellable, Each, Accepted}
+use Rattle.macros.proofs.Laws.{accepted-means, each-spellable}
 use Rattle.form_table.specs.Form.{slotBytes, bodyBytes, tableBytes, patternItems, replacementItems, two, symbolCode, header, body, slot, slots, form}
 use Rattle.form_table.specs.FormLaws.{Fits, FormSize}
 use Rattle.form_table.specs.Check.{allZero, slotFits, slotsFit, checks, CheckExact}
@@ -84,12 +85,12 @@ each-fits (m ∷ ms) f = (slot-fits m (f .0), each-fits ms (f .1))
 
 form-size : (ms : Table) → Accepted ms → length (form ms) ≡ tableBytes
 unfolding form
-form-size ms f = simp (length-append, length-replicate) (omega (arith, slots-size ms (f .macros), f .count))
+form-size ms f = simp (length-append, length-replicate) (omega (arith, slots-size ms (each-spellable f), f .count))
 
 pub formSize : FormSize
 unfolding form
 formSize ms f =
-    (form-size ms f, octets-append (slots ms) _ (slots-octets ms (f .macros)) (octets-zeros (slotBytes * (mostMacros - length ms))), each-fits ms (f .macros))
+    (form-size ms f, octets-append (slots ms) _ (slots-octets ms (each-spellable f)) (octets-zeros (slotBytes * (mostMacros - length ms))), each-fits ms (each-spellable f))
 
 -- THERE
 
@@ -179,8 +180,8 @@ checkExact b o = (sound, there)
     sound : checks b ≡ true → (ms : Table) × Accepted ms × (form ms ≡ b)
     sound e =
         let t : TableOf mostMacros b = slots-sound mostMacros b (eqb-true (length b) tableBytes (and-left _ _ e)) o (and-right (eqb (length b) tableBytes) _ e) in
-        (t .table, record { count = t .count; macros = t .macros }, t .bytes)
+        (t .table, accepted-means (t .table) .1 (t .count, t .macros), t .bytes)
 
     there : (ms : Table) × Accepted ms × (form ms ≡ b) → checks b ≡ true
     there t =
-        rw (← (t .2)) (and-both (eq-eqb (length (form (t .0))) tableBytes (form-size (t .0) (t .1))) (slots-there mostMacros (t .0) (t .1 .count) (t .1 .macros)))
+        rw (← (t .2)) (and-both (eq-eqb (length (form (t .0))) tableBytes (form-size (t .0) (t .1))) (slots-there mostMacros (t .0) (t .1 .count) (each-spellable (t .1))))

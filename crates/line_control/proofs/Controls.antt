@@ -17,7 +17,7 @@ use Rattle.macros.specs.Macro.{Table, pick}
 use Rattle.macros.specs.Formed.{Bytes}
 use Rattle.macros.specs.Read.{readOnto}
 use Rattle.macros.specs.Accepted.{Accepted}
-use Rattle.macros.proofs.Laws.{read-keeps}
+use Rattle.macros.proofs.Laws.{each-spellable, read-keeps}
 use Rattle.form_table.specs.Form.{slotBytes, slot, slots, form}
 use Rattle.form_table.proofs.Tables.{slots-size}
 use Rattle.lines.specs.State.{State}
@@ -269,7 +269,7 @@ put-back : (ms new : Table) (count : ℕ) (b out fin : List ℕ) → Accepted ms
     → fin ≡ take (1024 * count) out ++ replicate (98304 - 1024 * count) 0 → fin ≡ b
 unfolding form
 put-back ms new count b out fin a c e f g =
-    let w : length (slots ms) ≡ 1024 * count = slots-size ms (a .macros) ∙ omega arith in
+    let w : length (slots ms) ≡ 1024 * count = slots-size ms (each-spellable a) ∙ omega arith in
     let n : 98304 - 1024 * count ≡ slotBytes * (mostMacros - length ms) = omega arith in
     let x : List ℕ = replicate (slotBytes * (mostMacros - length (ms ++ new))) 0 in
     let t : take (1024 * count) out ≡ slots ms =

@@ -13,6 +13,7 @@ use Rattle.macros.specs.Bounds.{mostMacros}
 use Rattle.macros.specs.Macro.{Symbol, Macro, Table}
 use Rattle.macros.specs.Macro.Symbol.{equal, less}
 use Rattle.macros.specs.Accepted.{Spellable, Each}
+use Rattle.macros.proofs.Laws.{each-spellable}
 use Rattle.form_table.specs.Form.{slotBytes, tableBytes, symbolCode, header, slot, slots, form}
 use Rattle.form_table.proofs.Tables.{slot-size, slots-size, formSize}
 use Rattle.line_memory.specs.Memory.{IsTable}
@@ -61,9 +62,9 @@ module _ (table : List ℕ) (ms : Table) (h : IsTable table ms) where
   at-slot : (k : ℕ) (m : Macro) (xs : Table) → k < length ms → drop k ms ≡ m ∷ xs → SlotAt table ms k
   unfolding form slots zeros
   at-slot k m xs l e =
-      let a : Each Spellable (m ∷ xs) = subst (Each Spellable) e (each-drop ms (h .accepted .macros) k) in
+      let a : Each Spellable (m ∷ xs) = subst (Each Spellable) e (each-drop ms (each-spellable (h .accepted)) k) in
       let d : drop (slotBytes * k) table ≡ slot m ++ (slots xs ++ zeros) =
-      ap (drop (slotBytes * k)) (sym (h .form)) ∙ slots-drop ms (h .accepted .macros) k (omega arith) zeros
+      ap (drop (slotBytes * k)) (sym (h .form)) ∙ slots-drop ms (each-spellable (h .accepted)) k (omega arith) zeros
       ∙ (ap (λ (y : Table). slots y ++ zeros) e ∙ append-assoc (slot m) (slots xs) zeros) in
       let f : getD (drop (slotBytes * k) table) 0 0 ≡ getD table (slotBytes * k) 0 =
       getD-drop (slotBytes * k) table 0 0 ∙ ap (λ (i : ℕ). getD table i 0) (add-zero (slotBytes * k)) in
@@ -85,7 +86,7 @@ module _ (table : List ℕ) (ms : Table) (h : IsTable table ms) where
   unused : (k : ℕ) → length ms ≤ k → k < mostMacros → getD table (slotBytes * k) 0 ≡ 0
   unfolding form
   unused k l g =
-      let z : length (slots ms) ≡ slotBytes * length ms = slots-size ms (h .accepted .macros) in
+      let z : length (slots ms) ≡ slotBytes * length ms = slots-size ms (each-spellable (h .accepted)) in
       let c = h .accepted .count in
       let i : ℕ = slotBytes * k - length (slots ms) in
       let e : slotBytes * k ≡ length (slots ms) + i = omega arith in

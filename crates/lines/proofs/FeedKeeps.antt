@@ -15,6 +15,7 @@ use Rattle.macros.specs.Refusals.LineRefusal.{lineTooLong, badByte}
 use Rattle.macros.specs.Macro.{Table}
 use Rattle.macros.specs.Formed.{Bytes, Octets}
 use Rattle.macros.specs.Accepted.{Accepted}
+use Rattle.macros.proofs.Laws.{each-spellable}
 use Rattle.lines.specs.State.{State, AllOf, InRange, fresh}
 use Rattle.lines.specs.Line.{Sent, Ending, Line, passesOf, hadOccurrence, ending, lineOf}
 use Rattle.lines.specs.Line.Ending.{refused, done, control}
@@ -68,7 +69,7 @@ feed-keeps ms st sent a i o =
     (λ e. by-elim (Kept ms st sent) (leb (length (sent .line)) mostLineBytes) _ _
     (λ f. by-elim (Kept ms st sent) (hasBadByte (sent .line)) _ _ (λ g. refusal-kept 0 (ofLine badByte) a i (omega arith) (line-number badByte))
     (λ g. answer-kept ms st sent a i (lineOf ms st sent)
-    (line-within ms st sent (a .macros) (record { bytes = no-zero (sent .line) g o; fits = leb-true _ mostLineBytes f; state = i }))))
+    (line-within ms st sent (each-spellable a) (record { bytes = no-zero (sent .line) g o; fits = leb-true _ mostLineBytes f; state = i }))))
     (λ f. refusal-kept 0 (ofLine lineTooLong) a i (omega arith) (line-number lineTooLong)))
     (λ e. refusal-kept 0 (ofHost budgetTooLarge) a i (omega arith) host-number)
 

@@ -21,10 +21,10 @@ use Rattle.macros.specs.FirstFault.{FaultByItsBytes, NoZero}
 use Rattle.macros.proofs.Round.{read-go, read-refuse}
 
 -- the places of two refusals that are one
-same-place : {k l : FileRefusal} {p q : ℕ} → refusedAt k p ≡ refusedAt l q → (k ≡ l) × (p ≡ q)
+pub same-place : {k l : FileRefusal} {p q : ℕ} → refusedAt k p ≡ refusedAt l q → (k ≡ l) × (p ≡ q)
 same-place e = (cc, cc)
 
-no-table : {A : Type 0} {k : FileRefusal} {p : ℕ} {ms : Table} → table ms ≡ refusedAt k p → A
+pub no-table : {A : Type 0} {k : FileRefusal} {p : ℕ} {ms : Table} → table ms ≡ refusedAt k p → A
 no-table e = let z : _≡_ {A = ℕ} 0 1 = cc in absurd (omega arith)
 
 -- the file's end refuses at its own place
@@ -74,7 +74,7 @@ no-zero p [] w = refl
 no-zero p (b ∷ s) w = rw (ne-eqb b 0 (omega (arith, w .0))) (no-zero (suc p) s (w .1))
 
 -- a refusal 12 to 19 shows in the reading byte by byte
-in-reading : (older : Table) (s : List ℕ) (k : FileRefusal) (p : ℕ) → 12 ≤ fileNumber k → readOnto older s ≡ refusedAt k p
+pub in-reading : (older : Table) (s : List ℕ) (k : FileRefusal) (p : ℕ) → 12 ≤ fileNumber k → readOnto older s ≡ refusedAt k p
     → readFrom 0 (between false (reverse older)) s ≡ refusedAt k p
 unfolding readOnto fileNumber
 in-reading older s k p h e = by (ltb mostFileBytes (length s)) (firstZero 0 s) e

@@ -12,7 +12,7 @@ use Rattle.macros.specs.ReadFile.Read.{table}
 use Rattle.macros.specs.ReadFile.Reader.{between}
 use Rattle.macros.specs.Write.{writeOut}
 use Rattle.macros.specs.Spell.{shortest}
-use Rattle.macros.specs.Accepted.{Each, Spellable, Spelled}
+use Rattle.macros.specs.Accepted.{Accepted, Each, Spellable, Spelled}
 use Rattle.macros.specs.RoundTrip.{RoundTrip, WrittenOnce}
 use Rattle.macros.specs.Spelling.{AcceptedMeans, NoShorter, ShortestReads, SomeFileSpells}
 use Rattle.macros.specs.ReadKeeps.{ReadKeeps}
@@ -21,23 +21,6 @@ use Rattle.macros.proofs.Full.{written-full}
 use Rattle.macros.proofs.Whole.{whole-spelled}
 use Rattle.macros.proofs.Round.{read-lines, read-macro, read-whole, same-macro, whole-lines, write-more}
 use Rattle.macros.proofs.Paid.{SpelledIn, produced}
-
--- WRITING OUT
-
-pub round-trip : RoundTrip
-unfolding writeOut
-round-trip ms s a e =
-    let w = write-more ms [] s (omega arith) e in
-    let z : Bytes s = rw (w .0) (whole-lines ms (a .macros)) in
-    record {
-      back = read-whole s z (w .1) ∙ rw (w .0) (read-lines ms 0 [] (a .macros) (w .2) (omega (arith, a .count)) ∙ rw (reverse-reverse ms));
-      fits = w .1;
-      bytes = z;
-      short = w .2;
-    }
-
-pub written-once : WrittenOnce
-written-once m n g h e = same-macro full fair-full m n g h (rw (written-full m, written-full n) at e)
 
 -- THE SHORTEST SPELLING
 
@@ -77,9 +60,30 @@ each-map P Q f (m ∷ ms) e = (f m (e .0), each-map P Q f ms (e .1))
 
 pub accepted-means : AcceptedMeans
 accepted-means ms = (
-  λ a. (a .count, each-map Spellable Spelled (λ m. some-file-spells m .0) ms (a .macros)),
-  λ h. record { count = h .0; macros = each-map Spelled Spellable (λ m. some-file-spells m .1) ms (h .1) },
+  λ a. (a .count, each-map Spelled Spellable (λ m. some-file-spells m .1) ms (a .macros)),
+  λ h. record { count = h .0; macros = each-map Spellable Spelled (λ m. some-file-spells m .0) ms (h .1) },
 )
+
+-- the macros of an accepted table, by their lengths
+pub each-spellable : {ms : Table} → Accepted ms → Each Spellable ms
+each-spellable {ms} a = accepted-means ms .0 a .1
+
+-- WRITING OUT
+
+pub round-trip : RoundTrip
+unfolding writeOut
+round-trip ms s a e =
+    let w = write-more ms [] s (omega arith) e in
+    let z : Bytes s = rw (w .0) (whole-lines ms (each-spellable a)) in
+    record {
+      back = read-whole s z (w .1) ∙ rw (w .0) (read-lines ms 0 [] (each-spellable a) (w .2) (omega (arith, a .count)) ∙ rw (reverse-reverse ms));
+      fits = w .1;
+      bytes = z;
+      short = w .2;
+    }
+
+pub written-once : WrittenOnce
+written-once m n g h e = same-macro full fair-full m n g h (rw (written-full m, written-full n) at e)
 
 -- READING
 
@@ -90,8 +94,8 @@ each-append P (m ∷ ms) new e f = (e .0, each-append P ms new (e .1) f)
 pub read-keeps : ReadKeeps
 read-keeps older s ms a g e =
     let p = produced older s ms g e in
-    let new : Each Spellable (p .new) = each-map (SpelledIn (length s)) Spellable (λ m x. (x .formed, x .short)) (p .new) (p .each) in
+    let new : Each Spelled (p .new) = each-map (SpelledIn (length s)) Spelled (λ m x. some-file-spells m .0 (x .formed, x .short)) (p .new) (p .each) in
     record {
-      accepted = record { count = p .count (a .count); macros = rw (p .behind) (each-append Spellable older (p .new) (a .macros) new) };
+      accepted = record { count = p .count (a .count); macros = rw (p .behind) (each-append Spelled older (p .new) (a .macros) new) };
       behind = (p .new, p .behind);
     }

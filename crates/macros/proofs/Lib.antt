@@ -12,5 +12,6 @@ pub mod PaidCalls
 pub mod Paid
 pub mod FirstFault
 pub mod ReadOnto
+pub mod Skips
 pub mod WriteRefusals
 pub mod Laws

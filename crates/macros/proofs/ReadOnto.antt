@@ -128,15 +128,15 @@ step-grows (inside skip n st ms) r′ b e = by (skips st && eqb b 47) skip e
     by false false e = unfold pick in same (taken-held n ms (partByte st b) r′ e)
 
 -- bytes after bytes
-after : Reader → List ℕ → Next
+unfoldable pub after : Reader → List ℕ → Next
 after r [] = go r
 after r (b ∷ s) = elim (step r b) [ go r′ ↦ after r′ s | refuse k ↦ refuse k ]
 
-after-go : (r r′ : Reader) (b : ℕ) (s : List ℕ) → step r b ≡ go r′ → after r (b ∷ s) ≡ after r′ s
+pub after-go : (r r′ : Reader) (b : ℕ) (s : List ℕ) → step r b ≡ go r′ → after r (b ∷ s) ≡ after r′ s
 unfolding after
 after-go r r′ b s e = rw (e, after)
 
-after-refuse : (r : Reader) (k : FileRefusal) (b : ℕ) (s : List ℕ) → step r b ≡ refuse k → after r (b ∷ s) ≡ refuse k
+pub after-refuse : (r : Reader) (k : FileRefusal) (b : ℕ) (s : List ℕ) → step r b ≡ refuse k → after r (b ∷ s) ≡ refuse k
 unfolding after
 after-refuse r k b s e = rw (e, after)
 
@@ -151,7 +151,7 @@ after-one (c ∷ u) r r′ r″ b e f = by (step r c) refl (λ x g. after-one u 
     by (refuse k) g ih = not-go (sym (after-refuse r k c u g) ∙ e)
 
 -- reading on behind bytes
-read-after : (u v : List ℕ) (q : ℕ) (r r′ : Reader) → after r u ≡ go r′ → readFrom q r (u ++ v) ≡ readFrom (q + length u) r′ v
+pub read-after : (u v : List ℕ) (q : ℕ) (r r′ : Reader) → after r u ≡ go r′ → readFrom q r (u ++ v) ≡ readFrom (q + length u) r′ v
 unfolding after
 read-after [] v q r r′ e = let z : r ≡ r′ = cc in let x : q + 0 ≡ q = omega arith in rw (x, z)
 read-after (b ∷ u) v q r r′ e = by (step r b) refl (λ x f. read-after u v (suc q) x r′ f)
@@ -233,7 +233,7 @@ plain-before : (u v : List ℕ) → NoZero (u ++ v) → NoZero u
 plain-before [] v g = tt
 plain-before (b ∷ u) v g = (g .0, plain-before u v (g .1))
 
-read-plain : (older : Table) (s : List ℕ) → Plain s → readOnto older s ≡ readFrom 0 (between false (reverse older)) s
+pub read-plain : (older : Table) (s : List ℕ) → Plain s → readOnto older s ≡ readFrom 0 (between false (reverse older)) s
 unfolding readOnto pick
 read-plain older s g = simp (le-ltb 32768 (length s) (g .0), no-zero 0 s (g .1))
 

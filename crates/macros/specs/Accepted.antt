@@ -14,10 +14,6 @@ use Rattle.macros.specs.Spell.{shortest}
 abbrev pub Spelled : Macro → Type 0
 Spelled m = (s : List ℕ) × Octets s × (readFile s ≡ table (m ∷ []))
 
--- the same by its length: it is well formed, and its shortest spelling has at most 512 bytes
-abbrev pub Spellable : Macro → Type 0
-Spellable m = Formed m × (length (shortest m) ≤ mostMacroBytes)
-
 -- a claim about each macro of a table
 abbrev pub Each : (Macro → Type 0) → Table → Type 0
 Each P [] = Unit {0}
@@ -26,4 +22,8 @@ Each P (m ∷ ms) = P m × Each P ms
 -- "at most 96 macros, each of which some file spells"
 pub record Accepted (ms : Table) : Type 0 where
   pub count : length ms ≤ mostMacros
-  pub macros : Each Spellable ms
+  pub macros : Each Spelled ms
+
+-- what is tested instead: it is well formed, and its shortest spelling has at most 512 bytes (SomeFileSpells of Spelling.antt)
+abbrev pub Spellable : Macro → Type 0
+Spellable m = Formed m × (length (shortest m) ≤ mostMacroBytes)

@@ -1,7 +1,9 @@
 -- What the computed cases of reading, writing out and spelling are made of. The cases stand in ReadingCases, WritingCases and BoundCases.
 use mathlib.Core.Path.{_≡_}
-use Prim.Native.Nat.{ℕ}
+use Prim.Native.Nat.{ℕ, _+_}
+use mathlib.Core.Bool.{_&&_}
 use mathlib.Core.List.{List, [], _∷_, _++_}
+use lib.Dec.{eqb}
 use lib.ListN.{length, replicate}
 use Prim.Native.String.{String}
 use Prim.Native.Char.{Char, code}
@@ -126,6 +128,7 @@ stretched s n c t = bytes s ++ (replicate n (code c) ++ bytes t)
 infix 30 _is_at_
 infix 30 _becomes_
 infix 30 _shortensTo_
+infix 30 _skips_
 -- a file beside what it comes to; in a string `\\` is one `\`
 pub data Case : Type 0 where
   -- refused with the number n, at place p
@@ -134,6 +137,8 @@ pub data Case : Type 0 where
   _becomes_ : (s t : String) → Case
   -- taken; the shortest spelling of its first macro is t
   _shortensTo_ : (s t : String) → Case
+  -- skips count before a byte of s, and at its end, where t has `/`
+  _skips_ : (s t : String) → Case
   -- s, k copies of a byte and t: refused with the number n at place p; or taken, n being 0 and p the macros
   long : (s : String) → (k : ℕ) → Char → (t : String) → (n p : ℕ) → Case
 
@@ -145,11 +150,23 @@ abbrev pub written-again : Read → Outcome
 written-again (refusedAt r p) = (fileNumber r, p, [])
 written-again (table ms) = elim (writeOut ms) [ file s ↦ (0, 0, s) | refused r p ↦ (fileNumber r, p, []) ]
 
+-- `/` if skips count behind the bytes u (SkipsCount of Skips.antt), else `-`
+abbrev pub skipMark : List ℕ → ℕ
+skipMark u =
+    let r : ℕ × ℕ = shown (readFile (u ++ bytes "/; ")) in
+    pick (eqb (r .0) 12 && eqb (r .1) (length u + 3)) (code "/") (code "-")
+
+-- the marks behind the bytes u, and behind each byte that follows
+abbrev pub skipMarks : List ℕ → List ℕ → List ℕ
+skipMarks u [] = skipMark u ∷ []
+skipMarks u (b ∷ s) = skipMark u ∷ skipMarks (u ++ (b ∷ [])) s
+
 -- what is computed
 abbrev pub computed : Case → Outcome
 computed (s is n at p) = (shown (readFile (bytes s)) .0, shown (readFile (bytes s)) .1, [])
 computed (s becomes t) = written-again (readFile (bytes s))
 computed (s shortensTo t) = (0, 0, shortened (readFile (bytes s)))
+computed (s skips t) = (0, 0, skipMarks [] (bytes s))
 computed (long s k c t n p) = (shown (readFile (stretched s k c t)) .0, shown (readFile (stretched s k c t)) .1, [])
 
 -- what is claimed
@@ -157,6 +174,7 @@ abbrev pub claimed : Case → Outcome
 claimed (s is n at p) = (n, p, [])
 claimed (s becomes t) = (0, 0, bytes t ++ (10 ∷ []))
 claimed (s shortensTo t) = (0, 0, bytes t)
+claimed (s skips t) = (0, 0, bytes t)
 claimed (long s k c t n p) = (n, p, [])
 
 abbrev pub each : (Case → Outcome) → List Case → List Outcome

@@ -19,6 +19,7 @@ pub mod Spelling
 pub mod ReadKeeps
 pub mod FirstFault
 pub mod ReadOnto
+pub mod Skips
 pub mod WriteRefusals
 pub mod Cases
 pub mod ReadingCases

@@ -16,7 +16,7 @@ use Rattle.macros.specs.Macro.Symbol.{equal, less}
 use Rattle.macros.specs.Read.{readFile}
 use Rattle.macros.specs.ReadFile.Read.{table}
 use Rattle.macros.specs.Cases.{everything, bytes, Case, Hold}
-use Rattle.macros.specs.Cases.Case.{_is_at_, _becomes_, _shortensTo_, long}
+use Rattle.macros.specs.Cases.Case.{_is_at_, _becomes_, _shortensTo_, _skips_, long}
 
 -- 01's M11 to M13
 pub songs : Hold (
@@ -131,6 +131,16 @@ pub skipped : Hold (
     ∷ ("'\\/a\\/'='\\/b\\/&(a:\\/c\\/:)';" becomes "'\\/a\\/'='\\/b\\/&(a:\\/c\\/:)';") ∷ [])
 unfolding everything
 skipped = refl
+
+-- skips count everywhere but in a class, behind a `\` that escapes, and in a skip
+pub skipPlaces : Hold (
+    ("'a*-?1&(b)[c-d]e'" skips "///////////----///")
+    ∷ ("'a\\b[~c\\d" skips "///-/-----")
+    ∷ ("'{a}'x<x'b\\c{1}&(d:e\\f:)'x&(1,g)h;i" skips "///////////-/////////-//////////////")
+    ∷ ("'a'\\=\\'b'\\;" skips "////////////")
+    ∷ ("a/b/'c/d/e" skips "//--///--//") ∷ [])
+unfolding everything
+skipPlaces = refl
 
 -- `\` makes the next byte literal, a raw line feed too, but `\n` is line feed and `\t` tab; elsewhere in a call and in `{n}` it is 16
 pub escapes : Hold (

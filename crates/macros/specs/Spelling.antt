@@ -29,6 +29,6 @@ NoShorter = (older : Table) (m : Macro) (s : List ℕ)
 abbrev pub SomeFileSpells : Type 0
 SomeFileSpells = (m : Macro) → Spellable m ↔ Spelled m
 
--- So a table is accepted exactly if it has at most 96 macros, each of which some file spells.
+-- So a table is accepted exactly if it has at most 96 macros, each of them well formed and with such a spelling.
 abbrev pub AcceptedMeans : Type 0
-AcceptedMeans = (ms : Table) → Accepted ms ↔ ((length ms ≤ mostMacros) × Each Spelled ms)
+AcceptedMeans = (ms : Table) → Accepted ms ↔ ((length ms ≤ mostMacros) × Each Spellable ms)

@@ -16,6 +16,7 @@ use Rattle.macros.specs.Read.{readFrom, readOnto, firstZero}
 use Rattle.macros.specs.ReadFile.Reader.{between}
 use Rattle.macros.specs.ReadFile.Read.{refusedAt, table}
 use Rattle.macros.specs.Accepted.{Accepted}
+use Rattle.macros.proofs.Laws.{each-spellable}
 use Rattle.form_table.specs.Form.{slotBytes, tableBytes, slots, form}
 use Rattle.form_table.proofs.Tables.{slots-size, formSize}
 use Rattle.read_scan.specs.Scan.{faultOf}
@@ -68,7 +69,7 @@ zeros-drop i n h = ap (drop i) (sym (zeros-split i n h)) ∙ drop-at (replicate 
 
 module _ (ms : Table) (f : Accepted ms) (c : ℕ) (l : length ms ≡ c) where
   wide : length (slots ms) ≡ slotBytes * c
-  wide = slots-size ms (f .macros) ∙ omega arith
+  wide = slots-size ms (each-spellable f) ∙ omega arith
 
   form-front : take (slotBytes * c) (form ms) ≡ slots ms
   unfolding form

@@ -12,6 +12,7 @@ use Rattle.macros.specs.Macro.{Symbol, Macro, Table}
 use Rattle.macros.specs.Macro.Symbol.{equal, less}
 use Rattle.macros.specs.Write.{written}
 use Rattle.macros.specs.Accepted.{Spellable, Each}
+use Rattle.macros.proofs.Laws.{each-spellable}
 use Rattle.form_table.specs.Form.{symbolCode, header, slot, slots, slotBytes, form, tableBytes}
 use Rattle.write_file.specs.Slots.{slotText, Parts, Holds}
 use Rattle.write_file.proofs.Room.{body-room}
@@ -61,7 +62,7 @@ unfolding form
 table-length t ms h =
     let a = length-append (slots ms) (replicate (slotBytes * (mostMacros - length ms)) 0) in
     let b = length-replicate {A = ℕ} (slotBytes * (mostMacros - length ms)) 0 in
-    let c = slots-length ms (h .0 .macros) in
+    let c = slots-length ms (each-spellable (h .0)) in
     let d = h .0 .count in
     let e : length (form ms) ≡ length t = ap length (h .1) in
     omega arith
@@ -82,7 +83,7 @@ module _ (t : List ℕ) (ms : Table) (h : Holds t ms) (k : ℕ) (l : k ≤ lengt
 
   behind : drop (slotBytes * k) t ≡ slots (drop k ms) ++ zeros
   unfolding form zeros
-  behind = ap (drop (slotBytes * k)) (sym (h .1)) ∙ slots-drop ms (h .0 .macros) k l zeros
+  behind = ap (drop (slotBytes * k)) (sym (h .1)) ∙ slots-drop ms (each-spellable (h .0)) k l zeros
 
   byte-there : getD t (slotBytes * k) 0 ≡ getD (slots (drop k ms) ++ zeros) 0 0
   byte-there = ap (λ (i : ℕ). getD t i 0) (sym (add-zero (slotBytes * k))) ∙ sym (getD-drop (slotBytes * k) t 0 0) ∙ ap (λ (x : List ℕ). getD x 0 0) behind
@@ -101,7 +102,7 @@ module _ (t : List ℕ) (ms : Table) (h : Holds t ms) (k : ℕ) (l : k ≤ lengt
   there : (m : Macro) (xs : Table) → drop k ms ≡ m ∷ xs → Slot t ms k
   unfolding slots
   there m xs q =
-      let a : Each Spellable (m ∷ xs) = subst (Each Spellable) q (each-drop ms (h .0 .macros) k) in
+      let a : Each Spellable (m ∷ xs) = subst (Each Spellable) q (each-drop ms (each-spellable (h .0)) k) in
       let d : length (drop k ms) ≡ length ms - k = length-drop k ms in
       let d2 : length (drop k ms) ≡ suc (length xs) = ap length q in
       let s : take (slotBytes * k + slotBytes - slotBytes * k) (drop (slotBytes * k) t) ≡ slot m =
