@@ -10,6 +10,7 @@ static const char control_macro[] = "$MACRO";
 static struct table table;
 static uint8_t state[M7_STATE_BYTES];
 static uint8_t output[M7_OUTPUT_BYTES];
+static uint8_t trace[M7_TRACE_BYTES];
 
 struct job {
     uint32_t budget;
@@ -29,7 +30,7 @@ static int is_state(void)
 {
     static uint8_t no_macros[M7_TABLE_BYTES];
     return m7_feed(no_macros, sizeof no_macros, state, sizeof state, NULL, 0, 0, output,
-                   sizeof output).number == 0;
+                   sizeof output, trace, sizeof trace).number == 0;
 }
 
 /* The state of a file, or a fresh one if there is no such file. */
@@ -98,7 +99,8 @@ static void note_return(struct job *job, const struct line *line)
 static int feed(struct job *job, const struct line *line)
 {
     m7_answer answer = m7_feed(table.macros, sizeof table.macros, state, sizeof state,
-                               line->bytes, line->size, job->budget, output, sizeof output);
+                               line->bytes, line->size, job->budget, output, sizeof output,
+                               trace, sizeof trace);
     note_return(job, line);
     if (answer.number != 0) {
         show_refusal(line, &answer);
