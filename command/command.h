@@ -8,6 +8,9 @@
 /* How the command ends. */
 enum { FINE = 0, REFUSED = 1, WRONG = 2 };
 
+/* The budget of a line, if none is given. */
+enum { USUAL_BUDGET = 10000 };
+
 /* A subcommand. To add one: a file with its `struct command`, its name in the
    list of main.c, a section in m7.1, a session in test/. */
 struct command {
@@ -61,6 +64,23 @@ int can_save(const char *name);
 /* Reads a line without its line feed, of a long one its first `most` bytes.
    0 at the end of the file and after an error. */
 int next_line(FILE *file, uint8_t *line, size_t most, size_t *size);
+
+/* lines.c */
+
+struct line {
+    const char *name; /* of its file */
+    size_t number, size;
+    uint8_t bytes[M7_MOST_LINE_BYTES + 1]; /* of a longer line its first ones */
+};
+
+/* The state of a file, or a fresh one if none is named or there is no such file:
+   FINE, or WRONG after a message. */
+int load_state(const char *name, uint8_t *state);
+/* Whether standard input is read once at most, as TABLE, as LINES or for want of LINES. */
+int one_input(int count, char **words);
+/* Takes the lines of all files, or of standard input if there are none, until
+   `take` gives 0: FINE, REFUSED if it did, or WRONG after a message. */
+int each_line(int count, char **names, int (*take)(void *with, const struct line *line), void *with);
 
 /* places.c: lines and columns count from 1, columns in bytes. */
 
