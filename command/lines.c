@@ -39,6 +39,28 @@ int one_input(int count, char **words)
     return named + (count == 1) <= 1;
 }
 
+int of_reading(const m7_answer *answer)
+{
+    return answer->number >= M7_FILE_TOO_LONG && answer->number <= M7_TOO_MANY_MACROS;
+}
+
+/* Of a $MACRO line as it was sent: the place of the fault in it, else 0. */
+static size_t fault_in_line(const m7_answer *answer)
+{
+    return of_reading(answer) && answer->passes == 0 ? strlen("$MACRO") + answer->place : 0;
+}
+
+void show_refusal(FILE *out, const struct line *line, const m7_answer *answer, const char *after)
+{
+    size_t at = fault_in_line(answer);
+    fprintf(out, "%s:%zu:", line->name, line->number);
+    if (at > 0)
+        fprintf(out, "%zu:", at + 1);
+    fprintf(out, " %u: %s%s\n", (unsigned)answer->number, m7_meaning(answer->number), after);
+    if (at > 0)
+        show_line(out, line->bytes, line->size, at);
+}
+
 /* The lines of a file. */
 static int each_of(const char *name, int (*take)(void *with, const struct line *line), void *with)
 {

@@ -1,8 +1,5 @@
 /* m7 run: lines through a table. */
 #include "command.h"
-#include <string.h>
-
-static const char control_macro[] = "$MACRO";
 
 static struct table table;
 static uint8_t state[M7_STATE_BYTES];
@@ -15,31 +12,6 @@ struct job {
     int seen_return; /* a line that ends in a carriage return was seen */
     int refused;     /* a line was refused */
 };
-
-/* Whether it is a fault of a macro, of a $MACRO line then. */
-static int of_reading(const m7_answer *answer)
-{
-    return answer->number >= M7_FILE_TOO_LONG && answer->number <= M7_TOO_MANY_MACROS;
-}
-
-/* Of a $MACRO line as it was sent: the place of the fault in it, else 0. */
-static size_t fault_in_line(const m7_answer *answer)
-{
-    return of_reading(answer) && answer->passes == 0 ? strlen(control_macro) + answer->place : 0;
-}
-
-static void show_refusal(const struct line *line, const m7_answer *answer)
-{
-    size_t at = fault_in_line(answer);
-    fflush(stdout);
-    fprintf(stderr, "%s:%zu:", line->name, line->number);
-    if (at > 0)
-        fprintf(stderr, "%zu:", at + 1);
-    fprintf(stderr, " %u: %s%s\n", (unsigned)answer->number, m7_meaning(answer->number),
-            answer->passes > 0 && of_reading(answer) ? ", in the $MACRO line that the macros made" : "");
-    if (at > 0)
-        show_line(stderr, line->bytes, line->size, at);
-}
 
 /* Once in a run: what a carriage return does. */
 static void note_return(struct job *job, const struct line *line)
@@ -63,7 +35,9 @@ static int feed(void *with, const struct line *line)
                                trace, sizeof trace);
     note_return(job, line);
     if (answer.number != 0) {
-        show_refusal(line, &answer);
+        fflush(stdout);
+        show_refusal(stderr, line, &answer,
+                     answer.passes > 0 && of_reading(&answer) ? ", in the $MACRO line that the macros made" : "");
         job->refused = 1;
         return !job->strict;
     }
