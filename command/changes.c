@@ -36,8 +36,15 @@ static void find_most(const struct change *change, const struct step *step)
     }
 }
 
-/* Marks the bytes that are not in common. */
-static void mark(struct change *change, const struct step *step)
+/* Of texts of one length: marks the places where they differ. */
+static void mark_places(struct change *change, const struct step *step)
+{
+    for (size_t i = change->from; i < change->old_to; i++)
+        change->old_marks[i] = change->new_marks[i] = step->old[i] != step->new[i];
+}
+
+/* Of others: marks the bytes that they do not have in common. */
+static void mark_others(struct change *change, const struct step *step)
 {
     size_t i = change->from, j = change->from;
     while (i < change->old_to || j < change->new_to) {
@@ -90,7 +97,11 @@ void find_change(struct change *change, const struct step *step)
 {
     memset(change, 0, sizeof *change);
     find_ends(change, step);
-    find_most(change, step);
-    mark(change, step);
+    if (change->old_to == change->new_to) {
+        mark_places(change, step);
+    } else {
+        find_most(change, step);
+        mark_others(change, step);
+    }
     mark_between(change);
 }

@@ -22,7 +22,7 @@ static struct {
 struct job {
     uint32_t budget;
     uint32_t only; /* the number of the lines to show, 0 for all */
-    int refused;   /* a line was refused */
+    int refused;   /* a line that was shown was refused */
 };
 
 /* STEPS */
@@ -225,9 +225,10 @@ static int take(void *with, const struct line *line)
     memcpy(old_state, state, sizeof old_state);
     answer = m7_feed(table.macros, sizeof table.macros, state, sizeof state, line->bytes,
                      line->size, job->budget, output, sizeof output, trace, sizeof trace);
-    job->refused |= answer.number != 0;
-    if (job->only == 0 || job->only == line->number)
+    if (job->only == 0 || job->only == line->number) {
         show(job, line, &answer);
+        job->refused |= answer.number != 0;
+    }
     macros = macros_in(table.macros);
     if (macros > macros_in(old_macros)) {
         added[macros - 1].name = line->name;
