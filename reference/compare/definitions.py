@@ -26,8 +26,8 @@ use mathlib.Core.List.{List, [], _∷_, _++_}
 use lib.ListN.{length, replicate}
 use Rattle.macros.specs.Refusals.{fileNumber}
 use Rattle.macros.specs.Macro.{Macro, Table}
-use Rattle.macros.specs.Read.{Read, readFile}
-use Rattle.macros.specs.Read.Read.{refusedAt, table}
+use Rattle.macros.specs.ReadFile.{Read, readFile}
+use Rattle.macros.specs.ReadFile.Read.{refusedAt, table}
 use Rattle.macros.specs.Write.{Written, writeOut}
 use Rattle.macros.specs.Write.Written.{file, refused}
 use Rattle.macros.specs.Spell.{shortest}

@@ -9,7 +9,7 @@ use lib.ListN.{length}
 use borrow.Author.Tests.{leb-true, le-leb}
 use Rattle.macros.specs.Bounds.{mostTags, mostMacroBytes}
 use Rattle.macros.specs.Macro.{Piece, Call, Action, Symbol, Macro, tags}
-use Rattle.macros.specs.Read.Held.{nothing}
+use Rattle.macros.specs.ReadSoFar.Joinable.{nothing}
 use Rattle.macros.specs.Formed.{Octets}
 use Rattle.macros.specs.Spell.{spellPattern, spellReplacement, shortest}
 use Rattle.macros.specs.Accepted.{Spellable}

@@ -13,8 +13,8 @@ use Rattle.macros.specs.Macro.Member.{single, range}
 use Rattle.macros.specs.Macro.Mark.{stack, counter}
 use Rattle.macros.specs.Macro.PatternUnit.{literal, class}
 use Rattle.macros.specs.Macro.Piece.{element}
-use Rattle.macros.specs.Read.{Held, hold}
-use Rattle.macros.specs.Read.Held.{nothing, unit, starred, query, marked}
+use Rattle.macros.specs.Read.{Joinable, hold}
+use Rattle.macros.specs.ReadSoFar.Joinable.{nothing, unit, starred, query, marked}
 use Rattle.macros.specs.Write.{closureBytes}
 use Rattle.macros.specs.Spell.{Before, joins, needs, leavesUnit, leaves, joinsClass, needsClass, none?, behind, spellMember, spellMembers, spellUnit, spellPiece, spellPattern}
 use Rattle.macros.specs.Spell.Before.{bracket, tilde, aSingle, aRange}
@@ -26,7 +26,7 @@ use Rattle.form_table.proofs.Walks.{byte-length}
 
 -- PIECES
 
-abbrev pub top : List Piece → Held
+abbrev pub top : List Piece → Joinable
 top [] = nothing
 top (p ∷ ps) = leaves p
 
@@ -44,14 +44,14 @@ unfolding spellPattern
 cost-spelled ps = cost-onto ps [] ∙ omega arith
 
 -- what may be joined
-unfoldable pub jointOf : Held → Joint
+unfoldable pub jointOf : Joinable → Joint
 jointOf nothing = loose
 jointOf (unit u) = loose
 jointOf (starred u) = afterStar
 jointOf query = afterQuery
 jointOf (marked m) = afterMark
 
-joins-at : (h : Held) (b : ℕ) → joins h b ≡ joinsAt (jointOf h) b
+joins-at : (h : Joinable) (b : ℕ) → joins h b ≡ joinsAt (jointOf h) b
 unfolding joins joinsAt jointOf
 joins-at nothing b = refl
 joins-at (unit u) b = refl
@@ -82,7 +82,7 @@ closure-joint u once = refl
 closure-joint u oneOrMore = refl
 closure-joint u zeroOrMore = refl
 
-pub literal-length : (h : Held) (b : ℕ) → length (spellUnit h (literal b)) ≡ literalLength (jointOf h) b
+pub literal-length : (h : Joinable) (b : ℕ) → length (spellUnit h (literal b)) ≡ literalLength (jointOf h) b
 unfolding spellUnit needs literalLength
 literal-length h b = byte-length (needs h b) b ∙ rw (joins-at h b)
 
@@ -160,7 +160,7 @@ members-onto neg (m ∷ ms) x l =
     members-onto neg ms m (x ∷ l)
     ∙ rw (← (spot-behind neg m ms)) (omega (arith, length-append (spellMember (beforeOf (spotOf neg ms)) false m) (spellMembers (behind m) (x ∷ l))))
 
-pub class-length : (h : Held) (neg : Bool) (m : Member) (ms : List Member)
+pub class-length : (h : Joinable) (neg : Bool) (m : Member) (ms : List Member)
     → length (spellUnit h (class neg (reverse (m ∷ ms)))) ≡ 2 + bit neg + costLast neg (m ∷ ms)
 unfolding spellUnit bit spellMembers costLast none? opening
 class-length h true m ms =

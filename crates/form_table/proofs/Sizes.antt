@@ -15,8 +15,8 @@ use Rattle.macros.specs.Macro.Piece.{element, start, end, left, right}
 use Rattle.macros.specs.Macro.Move.{still, before, after}
 use Rattle.macros.specs.Macro.Call.{insert, storeTag, setTo, storeText, setIncrement}
 use Rattle.macros.specs.Macro.Action.{text, tag, call}
-use Rattle.macros.specs.Read.{Held}
-use Rattle.macros.specs.Read.Held.{nothing}
+use Rattle.macros.specs.Read.{Joinable}
+use Rattle.macros.specs.ReadSoFar.Joinable.{nothing}
 use Rattle.macros.specs.Write.{byte, digitsBy, digits, nameBytes, innerBytes, callBytes, commandsBytes}
 use Rattle.macros.specs.Spell.{Before, leaves, behind, none?, needs, needsClass, needsText, spellMember, spellMembers, spellUnit, spellPiece, spellPattern, spellText, leavesMark, spellAction, spellReplacement, shortest}
 use Rattle.macros.specs.Spell.Before.{bracket, tilde}
@@ -43,7 +43,7 @@ members-size f [] = omega arith
 members-size f (m ∷ ms) =
     simp length-append (omega (arith, member-size f (none? ms) m, members-size (behind m) ms))
 
-unit-size : (h : Held) (u : PatternUnit) → length (unitRest u) + 2 ≤ 2 * length (spellUnit h u)
+unit-size : (h : Joinable) (u : PatternUnit) → length (unitRest u) + 2 ≤ 2 * length (spellUnit h u)
 unfolding unitRest spellUnit
 unit-size h (literal b) = omega (arith, byte-size (needs h b) b)
 unit-size h (kind n) = omega arith
@@ -51,7 +51,7 @@ unit-size h (class true ms) = omega (arith, members-size tilde ms)
 unit-size h (class false ms) = omega (arith, members-size bracket ms)
 unit-size h (callOf m i) = omega arith
 
-piece-size : (h : Held) (p : Piece) → length (pieceItems p) ≤ 2 * length (spellPiece h p)
+piece-size : (h : Joinable) (p : Piece) → length (pieceItems p) ≤ 2 * length (spellPiece h p)
 unfolding pieceItems spellPiece
 piece-size h (element u c) = simp length-append (omega (arith, unit-size h u))
 piece-size h start = omega arith
@@ -59,7 +59,7 @@ piece-size h end = omega arith
 piece-size h left = omega arith
 piece-size h right = omega arith
 
-pattern-size : (h : Held) (ps : List Piece) → length (patternItems ps) ≤ 2 * length (spellPattern h ps)
+pattern-size : (h : Joinable) (ps : List Piece) → length (patternItems ps) ≤ 2 * length (spellPattern h ps)
 unfolding patternItems spellPattern
 pattern-size h [] = omega arith
 pattern-size h (p ∷ ps) = simp length-append (omega (arith, piece-size h p, pattern-size (leaves p) ps))

@@ -10,7 +10,10 @@ use lib.ListN.{length, length-append}
 use Rattle.macros.specs.Bounds.{mostFileBytes, mostMacros, mostMacroBytes}
 use Rattle.macros.specs.Refusals.FileRefusal.{fileTooLong, zeroByte, incomplete, macroTooLong, tooManyMacros}
 use Rattle.macros.specs.Macro.{Macro, Table, pick}
-use Rattle.macros.specs.Read.{Part, Step, on, done, stop, Reader, between, inside, Next, go, refuse, count, taken, step, skips, partByte, Read, refusedAt, table, atEnd, readFrom, firstZero, readOnto}
+use Rattle.macros.specs.ReadSoFar.{Part, Step, on, done, stop}
+use Rattle.macros.specs.ReadParts.{skips, partByte}
+use Rattle.macros.specs.ReadFile.{Reader, between, inside, Next, go, refuse, count, taken, step}
+use Rattle.macros.specs.ReadFile.{Read, refusedAt, table, atEnd, readFrom, firstZero, readOnto}
 
 -- the macros ms, newest first, have those of old behind them
 abbrev Behind : List Macro → List Macro → Type 0

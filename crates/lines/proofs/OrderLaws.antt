@@ -11,7 +11,7 @@ use Rattle.macros.specs.Refusals.Refusal.{ofLine}
 use Rattle.macros.specs.Refusals.LineRefusal.{badControl}
 use Rattle.macros.specs.Macro.{Table, pick}
 use Rattle.macros.specs.Read.{Read, readOnto}
-use Rattle.macros.specs.Read.Read.{refusedAt, table}
+use Rattle.macros.specs.ReadFile.Read.{refusedAt, table}
 use Rattle.lines.specs.State.{State}
 use Rattle.lines.specs.Matching.{begins}
 use Rattle.lines.specs.Feeding.{bytes, same, withTrace, withNflag, Order, wrong, orders, flagOrder, macroOrder, orderOf}

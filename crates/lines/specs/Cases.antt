@@ -11,7 +11,7 @@ use Prim.Native.Char.{Char}
 use Rattle.kinds.specs.Kind.{kindOf}
 use Rattle.macros.specs.Macro.{pick}
 use Rattle.macros.specs.Read.{Read, readFile}
-use Rattle.macros.specs.Read.Read.{refusedAt, table}
+use Rattle.macros.specs.ReadFile.Read.{refusedAt, table}
 use Rattle.macros.specs.Refusals.{fileNumber}
 use Rattle.macros.specs.Cases.{everything as macrosOpen}
 use Rattle.lines.specs.State.{Stack, Counter, State, freshStack, freshCounter, fresh, stackOf, counterOf, currentEntry, contents}

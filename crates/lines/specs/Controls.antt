@@ -9,7 +9,7 @@ use Rattle.macros.specs.Refusals.Refusal.{ofHost, ofLine, ofFile, ofWork}
 use Rattle.macros.specs.Refusals.LineRefusal.{lineTooLong, badByte, badControl}
 use Rattle.macros.specs.Macro.{Macro, Table}
 use Rattle.macros.specs.Read.{readOnto}
-use Rattle.macros.specs.Read.Read.{refusedAt, table}
+use Rattle.macros.specs.ReadFile.Read.{refusedAt, table}
 use Rattle.lines.specs.State.{State}
 use Rattle.lines.specs.Feeding.{bytes, Order, orderOf}
 use Rattle.lines.specs.Feeding.Order.{wrong, orders}

@@ -10,7 +10,7 @@ use Rattle.macros.specs.Bounds.{mostFileBytes, mostMacros, mostMacroBytes}
 use Rattle.macros.specs.Macro.{Macro, Table}
 use Rattle.macros.specs.Formed.{Bytes, Octets}
 use Rattle.macros.specs.Read.{readFile}
-use Rattle.macros.specs.Read.Read.{table}
+use Rattle.macros.specs.ReadFile.Read.{table}
 use Rattle.macros.specs.Write.{written, writeOut}
 use Rattle.macros.specs.Write.Written.{file}
 use Rattle.macros.specs.Accepted.{Each, Accepted}

@@ -14,7 +14,7 @@ use Rattle.macros.specs.Refusals.HostRefusal.{budgetTooLarge}
 use Rattle.macros.specs.Macro.{Table}
 use Rattle.macros.specs.Formed.{Octets}
 use Rattle.macros.specs.Read.{Read, readOnto}
-use Rattle.macros.specs.Read.Read.{refusedAt, table}
+use Rattle.macros.specs.ReadFile.Read.{refusedAt, table}
 use Rattle.macros.specs.Accepted.{Accepted}
 use Rattle.lines.specs.State.{State, InRange}
 use Rattle.lines.specs.Matching.{begins}

@@ -12,9 +12,9 @@ use Rattle.macros.specs.Refusals.{FileRefusal}
 use Rattle.macros.specs.Refusals.FileRefusal.{zeroByte}
 use Rattle.macros.specs.Macro.{Table}
 use Rattle.macros.specs.Read.{Read, Reader, Next, step, atEnd, readFrom, firstZero, readOnto}
-use Rattle.macros.specs.Read.Reader.{between, inside}
-use Rattle.macros.specs.Read.Next.{go, refuse}
-use Rattle.macros.specs.Read.Read.{refusedAt, table}
+use Rattle.macros.specs.ReadFile.Reader.{between, inside}
+use Rattle.macros.specs.ReadFile.Next.{go, refuse}
+use Rattle.macros.specs.ReadFile.Read.{refusedAt, table}
 use Rattle.macros.specs.Write.{Written, written, writeFrom, writeOut}
 use Rattle.macros.specs.Write.Written.{refused, file}
 use Rattle.form_table.proofs.Basics.{and-right}

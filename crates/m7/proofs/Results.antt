@@ -14,7 +14,7 @@ use Rattle.macros.specs.Refusals.{number, place, hostNumber, fileNumber}
 use Rattle.macros.specs.Macro.{Table, pick}
 use Rattle.macros.specs.Formed.{Octets}
 use Rattle.macros.specs.Read.{readFile, readOnto}
-use Rattle.macros.specs.Read.Read.{refusedAt, table}
+use Rattle.macros.specs.ReadFile.Read.{refusedAt, table}
 use Rattle.macros.specs.Write.{Written, writeOut}
 use Rattle.macros.specs.Write.Written.{refused, file}
 use Rattle.macros.specs.Accepted.{Accepted}

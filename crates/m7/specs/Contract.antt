@@ -11,7 +11,7 @@ use Rattle.macros.specs.Refusals.Refusal.{ofHost, ofFile}
 use Rattle.macros.specs.Refusals.HostRefusal.{badMemory, badTable}
 use Rattle.macros.specs.Macro.{Table, pick}
 use Rattle.macros.specs.Read.{Read, readFile}
-use Rattle.macros.specs.Read.Read.{refusedAt, table}
+use Rattle.macros.specs.ReadFile.Read.{refusedAt, table}
 use Rattle.macros.specs.Write.{Written, writeOut}
 use Rattle.macros.specs.Write.Written.{refused, file}
 use Rattle.form_table.specs.Form.{tableBytes, form}

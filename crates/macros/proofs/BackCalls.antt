@@ -16,12 +16,12 @@ use Rattle.macros.specs.Macro.Move.{after, before, still}
 use Rattle.macros.specs.Macro.Call.{insert, setIncrement, setTo, storeTag, storeText}
 use Rattle.macros.specs.Macro.Action.{call, tag, text}
 use Rattle.macros.specs.Formed.{Commands, FormedAction, FormedCall, FormedCommands, FormedReplacement, Letter, numberFits}
-use Rattle.macros.specs.Read.{Front, Part, Phase, Place, andDigit, breaks, callByte, commandsByte, commandsFresh, frontOf, isCommand, isSign, isStill, numberEnd, partByte, placed, replacementByte, replacementFresh, sign, signOf, skips, tagByte, tagEnd, textByte, turned}
-use Rattle.macros.specs.Read.Phase.{begun, comma, equals, increment, named, signed, tagNamed, tagSigned, tagged, texted}
-use Rattle.macros.specs.Read.Place.{asCommand, inReplacement}
-use Rattle.macros.specs.Read.Part.{callText, callTextEscape, calling, commands, replacement, tagNumber}
-use Rattle.macros.specs.Read.Step.{on}
-use Rattle.macros.specs.Read.Turn.{closed, into}
+use Rattle.macros.specs.Read.{Front, Part, Phase, CallSite, andDigit, breaks, callByte, commandsByte, commandsFresh, frontOf, isCommand, isSign, isStill, numberEnd, partByte, behindCall, replacementByte, replacementFresh, sign, signOf, skips, tagByte, tagEnd, textByte, turned}
+use Rattle.macros.specs.ReadSoFar.Phase.{begun, comma, equals, increment, named, signed, tagNamed, tagSigned, tagged, texted}
+use Rattle.macros.specs.ReadSoFar.CallSite.{asCommand, inReplacement}
+use Rattle.macros.specs.ReadSoFar.Part.{callText, callTextEscape, calling, commands, replacement, tagNumber}
+use Rattle.macros.specs.ReadSoFar.Step.{on}
+use Rattle.macros.specs.ReadCalls.Turn.{closed, into}
 use Rattle.macros.specs.Write.{byte, callBytes, commandsBytes, digits, digitsBy, innerBytes, markOf, nameBytes, signByte}
 use Rattle.macros.specs.Spell.{isMark, markIn, needsText}
 use Rattle.macros.specs.Spell.{textSigns, callTextSigns}
@@ -58,14 +58,14 @@ module _ (S : Option ℕ → Part) (skipping : (o : Option ℕ) → skips (S o) 
 
 -- CALLS
 
-call-into : (pl : Place) (ph ph′ : Phase) (b : ℕ) → eqb b 47 ≡ false → callByte (isCommand pl) ph b ≡ into ph′ → Reads (calling pl ph) (b ∷ []) (calling pl ph′)
+call-into : (pl : CallSite) (ph ph′ : Phase) (b : ℕ) → eqb b 47 ≡ false → callByte (isCommand pl) ph b ≡ into ph′ → Reads (calling pl ph) (b ∷ []) (calling pl ph′)
 unfolding skips partByte turned
 call-into pl ph ph′ b s e = move (calling pl ph) b (calling pl ph′) s (rw e) stay
 
-call-closed : (pl : Place) (ph : Phase) (c : Call) (b : ℕ) → eqb b 47 ≡ false → callByte (isCommand pl) ph b ≡ closed c → numberFits (tags (frontOf pl .pieces)) c ≡ true
-    → Reads (calling pl ph) (b ∷ []) (placed pl c)
+call-closed : (pl : CallSite) (ph : Phase) (c : Call) (b : ℕ) → eqb b 47 ≡ false → callByte (isCommand pl) ph b ≡ closed c → numberFits (tags (frontOf pl .pieces)) c ≡ true
+    → Reads (calling pl ph) (b ∷ []) (behindCall pl c)
 unfolding skips partByte turned pick
-call-closed pl ph c b s e r = move (calling pl ph) b (placed pl c) s (rw (e, r)) stay
+call-closed pl ph c b s e r = move (calling pl ph) b (behindCall pl c) s (rw (e, r)) stay
 
 -- a lower case letter is nothing else
 pub record Lowercase (i : ℕ) : Type 0 where
@@ -84,7 +84,7 @@ lowercase i g =
       sign = simp (ne-eqb i 43 (omega arith), ne-eqb i 45 (omega arith));
     }
 
-module _ (pl : Place) (i : ℕ) (g : Letter i) where
+module _ (pl : CallSite) (i : ℕ) (g : Letter i) where
   name-still : (m : Mark) → Reads (calling pl (begun m)) (i ∷ []) (calling pl (named m i still))
   unfolding callByte pick
   name-still stack = let l = lowercase i g in call-into pl (begun stack) (named stack i still) i (l .slash) (simp (l .figure, l .sign, l .low))
@@ -128,7 +128,7 @@ module _ (pl : Place) (i : ℕ) (g : Letter i) where
       let l = lowercase i g in
       then (call-into pl (comma n) (tagNamed n i still) i (l .slash) (simp (l .sign, l .low))) (call-into pl (tagNamed n i still) (tagNamed n i (after minus)) 45 refl refl)
 
-  set-to : (m : Mark) (n : ℕ) → numberFits (tags (frontOf pl .pieces)) (setTo m i n) ≡ true → Reads (calling pl (begun m)) (i ∷ 61 ∷ (digits n ++ (41 ∷ []))) (placed pl (setTo m i n))
+  set-to : (m : Mark) (n : ℕ) → numberFits (tags (frontOf pl .pieces)) (setTo m i n) ≡ true → Reads (calling pl (begun m)) (i ∷ 61 ∷ (digits n ++ (41 ∷ []))) (behindCall pl (setTo m i n))
   unfolding callByte pick isStill digit within numberEnd isSign signOf turned partByte skips
   set-to m n r =
       then (name-still m)
@@ -141,7 +141,7 @@ module _ (pl : Place) (i : ℕ) (g : Letter i) where
       to-equals counter = call-into pl (named counter i still) (equals counter i none) 61 refl refl
 
   set-increment : (n : ℕ) → numberFits (tags (frontOf pl .pieces)) (setIncrement i n) ≡ true
-      → Reads (calling pl (begun counter)) (i ∷ 44 ∷ (digits n ++ (41 ∷ []))) (placed pl (setIncrement i n))
+      → Reads (calling pl (begun counter)) (i ∷ 44 ∷ (digits n ++ (41 ∷ []))) (behindCall pl (setIncrement i n))
   unfolding callByte pick isStill digit within numberEnd isSign signOf turned partByte skips
   set-increment n r =
       then (name-still counter)
@@ -150,11 +150,11 @@ module _ (pl : Place) (i : ℕ) (g : Letter i) where
       (call-closed pl (increment i (some n)) (setIncrement i n) 41 refl refl r)))
 
 -- where the reader stands in a call that begins with a tag's number
-tagPart : Place → Option ℕ → Part
+tagPart : CallSite → Option ℕ → Part
 tagPart pl none = calling pl (begun stack)
 tagPart pl (some n) = calling pl (tagged n)
 
-tag-digits : (pl : Place) (n : ℕ) → Reads (calling pl (begun stack)) (digits n) (calling pl (tagged n))
+tag-digits : (pl : CallSite) (n : ℕ) → Reads (calling pl (begun stack)) (digits n) (calling pl (tagged n))
 unfolding tagPart callByte turned partByte skips pick andDigit
 tag-digits pl n = read-digits (tagPart pl) skipping takes n
   where
@@ -170,7 +170,7 @@ no-command : (p : Bool) → (p ≡ true → ⊥) → p ≡ false
 no-command true k = absurd (k refl)
 no-command false k = refl
 
-module _ (y : Style) (fair : Fair y) (pl : Place) where
+module _ (y : Style) (fair : Fair y) (pl : CallSite) where
   read-call-text-byte : (i : ℕ) (h : Move) (acc : List ℕ) (b : ℕ) (p q : Bool) → length acc < mostEntryBytes → y .textToo b ≡ p → among callTextSigns b ≡ q
       → Reads (callText pl i h acc) (byte (p || q) b) (callText pl i h (b ∷ acc))
   unfolding byte skips partByte textByte breaks among pick
@@ -193,7 +193,7 @@ module _ (y : Style) (fair : Fair y) (pl : Place) where
   read-call-text (b ∷ t) i h acc l =
       then (read-call-text-byte i h acc b (y .textToo b) (among callTextSigns b) (omega arith) refl refl) (read-call-text t i h (b ∷ acc) (omega arith))
 
-  read-inner : (c : Call) → FormedCall (tags (frontOf pl .pieces)) c → (isCommand pl ≡ true → Commands c) → Reads (calling pl (begun (markOf c))) (innerBytes (textBytes y) c) (placed pl c)
+  read-inner : (c : Call) → FormedCall (tags (frontOf pl .pieces)) c → (isCommand pl ≡ true → Commands c) → Reads (calling pl (begun (markOf c))) (innerBytes (textBytes y) c) (behindCall pl c)
   unfolding innerBytes markOf callByte pick turned partByte skips textByte isSign signOf
   read-inner (insert stack i h) g k =
       let c : isCommand pl ≡ false = no-command (isCommand pl) k in
@@ -302,7 +302,7 @@ module _ (y : Style) (fair : Fair y) where
 
   read-action : (a : Option Mark) (f : Front) (ps : List Action) (p : Action) → FormedAction (tags (f .pieces)) p
       → Reads (replacement a f ps) (actionBytes y a p) (replacement (actionLeaves y p) f (beforeAction (actionLeaves y p) p (withMark a ps)))
-  unfolding actionBytes callBytes actionLeaves beforeAction skips partByte replacementFresh tagByte breaks among pick digit within tagEnd isCommand frontOf placed
+  unfolding actionBytes callBytes actionLeaves beforeAction skips partByte replacementFresh tagByte breaks among pick digit within tagEnd isCommand frontOf behindCall
   read-action a f ps (text b) g = read-text-by a f ps b (y .textToo b) (needsText a b) refl refl
   read-action a f ps (tag n) g =
       next refl (settles-text a f ps 123 refl)
@@ -323,7 +323,7 @@ module _ (y : Style) (fair : Fair y) where
 
   pub read-commands : (l : List Call) (f : Front) (ps : List Action) (cs : List Call) → FormedCommands (tags (f .pieces)) l
       → Reads (commands none f ps cs) (commandsBytes (textBytes y) l) (commands none f ps (reverseAux l cs))
-  unfolding commandsBytes callBytes isCommand frontOf placed
+  unfolding commandsBytes callBytes isCommand frontOf behindCall
   read-commands [] f ps cs g = stay
   read-commands (c ∷ l) f ps cs g =
       then (command-open (markOf c) none f ps cs)

@@ -14,11 +14,11 @@ use Rattle.macros.specs.Macro.Mark.{counter, stack}
 use Rattle.macros.specs.Macro.PatternUnit.{callOf, class, kind, literal}
 use Rattle.macros.specs.Macro.Piece.{element, end, left, right, start}
 use Rattle.macros.specs.Formed.{Between, FormedMember, FormedMembers, FormedPattern, FormedPieces, FormedUnit, Letter}
-use Rattle.macros.specs.Read.{Held, Last, Part, breaks, classEnd, closes, dashed, dashes, fresh, hold, kept, kindDigit, membersByte, newMember, openedByte, partByte, patternByte, patternEnd, sign, signs, skips}
-use Rattle.macros.specs.Read.Held.{marked, nothing, query, starred, unit}
-use Rattle.macros.specs.Read.Last.{dash, free, member}
-use Rattle.macros.specs.Read.Part.{awaitSymbol, members, opened, pattern, patternCall, patternCalled}
-use Rattle.macros.specs.Read.Step.{on}
+use Rattle.macros.specs.Read.{Joinable, Last, Part, breaks, classEnd, closes, dashed, dashes, fresh, hold, membersAtEnd, kindDigit, membersByte, newMember, openedByte, partByte, patternByte, patternEnd, sign, signs, skips}
+use Rattle.macros.specs.ReadSoFar.Joinable.{marked, nothing, query, starred, unit}
+use Rattle.macros.specs.ReadSoFar.Last.{dash, free, member}
+use Rattle.macros.specs.ReadSoFar.Part.{awaitSymbol, members, opened, pattern, patternCall, patternCalled}
+use Rattle.macros.specs.ReadSoFar.Step.{on}
 use Rattle.macros.specs.Write.{byte, closureBytes, escapeByte}
 use Rattle.macros.specs.Spell.{Before, behind, joins, joinsClass, needs, needsClass, none?}
 use Rattle.macros.specs.Spell.Before.{aRange, aSingle, bracket, tilde}
@@ -29,7 +29,7 @@ use Rattle.macros.proofs.Readings.{Reads, escaped-escape, move, settled
 use Rattle.macros.proofs.Readings.Reads.{next, stay}
 
 -- nothing joins: the byte acts on the settled pieces
-settles : (h : Held) (ps : List Piece) (b : ℕ) → joins h b ≡ false → eqb b 42 ≡ false → patternByte h ps b ≡ fresh (settled h ps) b
+settles : (h : Joinable) (ps : List Piece) (b : ℕ) → joins h b ≡ false → eqb b 42 ≡ false → patternByte h ps b ≡ fresh (settled h ps) b
 unfolding joins patternByte closes settled pick
 settles nothing ps b j e = refl
 settles (unit u) ps b j e = simp e
@@ -38,7 +38,7 @@ settles query ps b j e = simp (j, e)
 settles (marked m) ps b j e = simp (j, e)
 
 -- bytes that join nothing
-pub loose : (h : Held) (b : ℕ) → kindDigit b ≡ false → eqb b 40 ≡ false → eqb b 45 ≡ false → joins h b ≡ false
+pub loose : (h : Joinable) (b : ℕ) → kindDigit b ≡ false → eqb b 40 ≡ false → eqb b 45 ≡ false → joins h b ≡ false
 unfolding joins
 loose nothing b d e f = refl
 loose (unit u) b d e f = refl
@@ -51,13 +51,13 @@ unfolding fresh pick
 fresh-raw ps b e = rw e
 
 -- a byte that needs no `\` is none of these
-pub record Plain (h : Held) (b : ℕ) : Type 0 where
+pub record Plain (h : Joinable) (b : ℕ) : Type 0 where
   pub slash : eqb b 47 ≡ false
   pub sign : among signs b ≡ false
   pub star : eqb b 42 ≡ false
   pub joint : joins h b ≡ false
 
-pub plain : (h : Held) (b : ℕ) → needs h b ≡ false → Plain h b
+pub plain : (h : Joinable) (b : ℕ) → needs h b ≡ false → Plain h b
 unfolding needs among signs
 plain h b e =
     let m : among (47 ∷ signs) b ≡ false = or-left (among (47 ∷ signs) b) (joins h b) e in
@@ -68,26 +68,26 @@ plain h b e =
       joint = or-right (among (47 ∷ signs) b) (joins h b) e;
     }
 
-read-escape : (h : Held) (ps : List Piece) (b : ℕ) → eqb b 110 ≡ false → eqb b 116 ≡ false
+read-escape : (h : Joinable) (ps : List Piece) (b : ℕ) → eqb b 110 ≡ false → eqb b 116 ≡ false
     → Reads (pattern h ps) (92 ∷ escapeByte b ∷ []) (pattern (unit (literal b)) (settled h ps))
 unfolding skips partByte fresh signs sign among breaks pick kindDigit within
 read-escape h ps b f g =
     next refl (settles h ps 92 (loose h 92 refl refl refl) refl)
     (next refl (ap (λ (c : ℕ). on (pattern (unit (literal c)) (settled h ps))) (escaped-escape b f g)) stay)
 
-read-raw : (h : Held) (ps : List Piece) (b : ℕ) → needs h b ≡ false → Reads (pattern h ps) (b ∷ []) (pattern (hold b) (settled h ps))
+read-raw : (h : Joinable) (ps : List Piece) (b : ℕ) → needs h b ≡ false → Reads (pattern h ps) (b ∷ []) (pattern (hold b) (settled h ps))
 unfolding skips partByte
 read-raw h ps b e =
     let p = plain h b e in
     next (p .slash) (settles h ps b (p .joint) (p .star) ∙ fresh-raw (settled h ps) b (p .sign)) stay
 
 -- `?` and `&` need no `\`, `n` and `t` neither
-pub needs-free : (h : Held) (b : ℕ) → among (47 ∷ signs) b ≡ false → kindDigit b ≡ false → eqb b 40 ≡ false → eqb b 45 ≡ false → needs h b ≡ false
+pub needs-free : (h : Joinable) (b : ℕ) → among (47 ∷ signs) b ≡ false → kindDigit b ≡ false → eqb b 40 ≡ false → eqb b 45 ≡ false → needs h b ≡ false
 unfolding needs
 needs-free h b m d e f = rw (m, loose h b d e f)
 
 -- a byte that needs a `\` is held as a literal
-held-literal : (h : Held) (b : ℕ) → needs h b ≡ true → hold b ≡ unit (literal b)
+held-literal : (h : Joinable) (b : ℕ) → needs h b ≡ true → hold b ≡ unit (literal b)
 unfolding hold pick among signs kindDigit within
 held-literal h b n =
     let never : (c : ℕ) → needs h c ≡ false → eqb b c ≡ false = λ c f. spares (needs h) b c f n in
@@ -98,7 +98,7 @@ held-literal h b n =
     )
 
 module _ (y : Style) (fair : Fair y) where
-  read-literal : (h : Held) (ps : List Piece) (b : ℕ) → Reads (pattern h ps) (unitBytes y h (literal b)) (pattern (unitLeaves y (literal b)) (settled h ps))
+  read-literal : (h : Joinable) (ps : List Piece) (b : ℕ) → Reads (pattern h ps) (unitBytes y h (literal b)) (pattern (unitLeaves y (literal b)) (settled h ps))
   unfolding unitBytes unitLeaves byte pick among signs kindDigit within
   read-literal h ps b = by (y .patternToo b) (needs h b) refl refl
     where
@@ -139,8 +139,8 @@ Fits aRange (dash a) = ⊥
 
 -- a member that makes no range
 new-single : (ps : List Piece) (neg : Bool) (c : Before) (l : Last) (ms : List Member) (a : ℕ) → Fits c l
-    → newMember ps neg l ms a ≡ on (members ps neg (member a) (kept l ms))
-unfolding Fits newMember kept
+    → newMember ps neg l ms a ≡ on (members ps neg (member a) (membersAtEnd l ms))
+unfolding Fits newMember membersAtEnd
 new-single ps neg c free ms a f = refl
 new-single ps neg c (member x) ms a f = refl
 new-single ps neg bracket (dash x) ms a f = absurd f
@@ -163,10 +163,10 @@ no-dash aRange free b f j = simp and-false
 no-dash aRange (member a) b f j = absurd f
 no-dash aRange (dash a) b f j = absurd f
 
-class-end : (ps : List Piece) (neg : Bool) (l : Last) (ms : List Member) → 0 < length (kept l ms)
-    → Reads (members ps neg l ms) (93 ∷ []) (pattern (unit (class neg (reverse (kept l ms)))) ps)
+class-end : (ps : List Piece) (neg : Bool) (l : Last) (ms : List Member) → 0 < length (membersAtEnd l ms)
+    → Reads (members ps neg l ms) (93 ∷ []) (pattern (unit (class neg (reverse (membersAtEnd l ms)))) ps)
 unfolding skips partByte membersByte classEnd pick
-class-end ps neg l ms h = next refl (by (kept l ms) h) stay
+class-end ps neg l ms h = next refl (by (membersAtEnd l ms) h) stay
   where
     by : (k : List Member) → 0 < length k → classEnd ps neg k ≡ on (pattern (unit (class neg (reverse k))) ps)
     by [] h = absurd (omega arith)
@@ -193,19 +193,19 @@ module _ (y : Style) (fair : Fair y) (ps : List Piece) (neg : Bool) where
   Classed ms k = pattern (unit (class neg (reverse (reverseAux ms k)))) ps
 
   escaped-member : (c : Before) (l : Last) (acc : List Member) (a : ℕ) → Fits c l → eqb a 110 ≡ false → eqb a 116 ≡ false
-      → Reads (members ps neg l acc) (92 ∷ escapeByte a ∷ []) (members ps neg (member a) (kept l acc))
+      → Reads (members ps neg l acc) (92 ∷ escapeByte a ∷ []) (members ps neg (member a) (membersAtEnd l acc))
   unfolding skips partByte membersByte breaks among pick
   escaped-member c l acc a f g h =
       next refl refl (next refl (ap (newMember ps neg l acc) (escaped-escape a g h) ∙ new-single ps neg c l acc a f) stay)
 
   raw-member : (c : Before) (l : Last) (acc : List Member) (a : ℕ) → Fits c l → among classSigns a ≡ false → (eqb a 45 && dashes l) ≡ false
-      → Reads (members ps neg l acc) (a ∷ []) (members ps neg (member a) (kept l acc))
+      → Reads (members ps neg l acc) (a ∷ []) (members ps neg (member a) (membersAtEnd l acc))
   unfolding skips partByte
   raw-member c l acc a f m d = next refl (members-raw ps neg l acc a m d ∙ new-single ps neg c l acc a f) stay
 
   -- a dash at the end
-  last-dash : (l : Last) (acc : List Member) (a : ℕ) → (eqb a 45 && dashes l) ≡ true → Reads (members ps neg l acc) (a ∷ 93 ∷ []) (Classed [] (single a ∷ kept l acc))
-  unfolding dashes kept skips partByte membersByte breaks among pick dashed classEnd
+  last-dash : (l : Last) (acc : List Member) (a : ℕ) → (eqb a 45 && dashes l) ≡ true → Reads (members ps neg l acc) (a ∷ 93 ∷ []) (Classed [] (single a ∷ membersAtEnd l acc))
+  unfolding dashes membersAtEnd skips partByte membersByte breaks among pick dashed classEnd
   last-dash free acc a e = clash e (simp and-false)
   last-dash (dash x) acc a e = clash e (simp and-false)
   last-dash (member x) acc a e =
@@ -213,14 +213,14 @@ module _ (y : Style) (fair : Fair y) (ps : List Piece) (neg : Bool) where
       rw q (next refl refl (next refl refl stay))
 
   last-raw : (c : Before) (l : Last) (acc : List Member) (a : ℕ) → Fits c l → among classSigns a ≡ false → (d : Bool) → (eqb a 45 && dashes l) ≡ d
-      → Reads (members ps neg l acc) (a ∷ 93 ∷ []) (Classed [] (single a ∷ kept l acc))
-  unfolding kept
+      → Reads (members ps neg l acc) (a ∷ 93 ∷ []) (Classed [] (single a ∷ membersAtEnd l acc))
+  unfolding membersAtEnd
   last-raw c l acc a f m true e = last-dash l acc a e
-  last-raw c l acc a f m false e = then (raw-member c l acc a f m e) (class-end ps neg (member a) (kept l acc) (omega arith))
+  last-raw c l acc a f m false e = then (raw-member c l acc a f m e) (class-end ps neg (member a) (membersAtEnd l acc) (omega arith))
 
   raw-single : (rest : List Member) (c : Before) (l : Last) (acc : List Member) (a : ℕ) → Fits c l → needsClass c (none? rest) a ≡ false
-      → Reads (members ps neg (member a) (kept l acc)) (membersBytes y aSingle rest) (Classed rest (single a ∷ kept l acc))
-      → Reads (members ps neg l acc) (a ∷ membersBytes y aSingle rest) (Classed rest (single a ∷ kept l acc))
+      → Reads (members ps neg (member a) (membersAtEnd l acc)) (membersBytes y aSingle rest) (Classed rest (single a ∷ membersAtEnd l acc))
+      → Reads (members ps neg l acc) (a ∷ membersBytes y aSingle rest) (Classed rest (single a ∷ membersAtEnd l acc))
   unfolding needsClass none? membersBytes
   raw-single [] c l acc a f n ih = last-raw c l acc a f (or-left (among classSigns a) (joinsClass c true a) n) (eqb a 45 && dashes l) refl
   raw-single (m ∷ rest) c l acc a f n ih =
@@ -228,37 +228,37 @@ module _ (y : Style) (fair : Fair y) (ps : List Piece) (neg : Bool) where
       (no-dash c l a f (or-right (among classSigns a) (joinsClass c false a) n))) ih
 
   escaped-single : (rest : List Member) (c : Before) (l : Last) (acc : List Member) (a : ℕ) → Fits c l → (y .classToo a || needsClass c (none? rest) a) ≡ true
-      → Reads (members ps neg l acc) (92 ∷ escapeByte a ∷ []) (members ps neg (member a) (kept l acc))
+      → Reads (members ps neg l acc) (92 ∷ escapeByte a ∷ []) (members ps neg (member a) (membersAtEnd l acc))
   escaped-single rest c l acc a f e =
       let spare : (d : ℕ) → (y .classToo d || needsClass c (none? rest) d) ≡ false → eqb a d ≡ false = λ d g. spares (λ b. y .classToo b || needsClass c (none? rest) b) a d g e in
       escaped-member c l acc a f (spare 110 (rw (fair .class-n, class-needs-n c (none? rest)) refl)) (spare 116 (rw (fair .class-t, class-needs-t c (none? rest)) refl))
 
   read-single : (rest : List Member) (c : Before) (l : Last) (acc : List Member) (a : ℕ) → Fits c l → (p q : Bool) → y .classToo a ≡ p → needsClass c (none? rest) a ≡ q
-      → Reads (members ps neg (member a) (kept l acc)) (membersBytes y aSingle rest) (Classed rest (single a ∷ kept l acc))
-      → Reads (members ps neg l acc) (byte (p || q) a ++ membersBytes y aSingle rest) (Classed rest (single a ∷ kept l acc))
+      → Reads (members ps neg (member a) (membersAtEnd l acc)) (membersBytes y aSingle rest) (Classed rest (single a ∷ membersAtEnd l acc))
+      → Reads (members ps neg l acc) (byte (p || q) a ++ membersBytes y aSingle rest) (Classed rest (single a ∷ membersAtEnd l acc))
   unfolding byte
   read-single rest c l acc a f false false e n ih = raw-single rest c l acc a f n ih
   read-single rest c l acc a f true q e n ih = then (escaped-single rest c l acc a f (rw e refl)) ih
   read-single rest c l acc a f false true e n ih = then (escaped-single rest c l acc a f (rw (e, n) refl)) ih
 
   read-range : (c : Before) (l : Last) (acc : List Member) (a z : ℕ) → Fits c l → isRange a z ≡ true
-      → Reads (members ps neg l acc) (a ∷ 45 ∷ z ∷ []) (members ps neg free (range a z ∷ kept l acc))
-  unfolding skips partByte membersByte breaks among pick dashes dashed newMember kept alnum digit upper lower within spared
+      → Reads (members ps neg l acc) (a ∷ 45 ∷ z ∷ []) (members ps neg free (range a z ∷ membersAtEnd l acc))
+  unfolding skips partByte membersByte breaks among pick dashes dashed newMember membersAtEnd alnum digit upper lower within spared
   read-range c l acc a z f e =
       let p = first-alnum a z e in
       let q = second-alnum a z e in
       let d : eqb a 45 ≡ false = absent (45 ∷ []) a 45 (apart alnum (45 ∷ []) a p refl) refl in
       then (raw-member c l acc a f (apart alnum classSigns a p refl) (rw d refl))
       (next refl refl
-      (next refl (members-raw ps neg (dash a) (kept l acc) z (apart alnum classSigns z q refl) (simp and-false) ∙ rw e) stay))
+      (next refl (members-raw ps neg (dash a) (membersAtEnd l acc) z (apart alnum classSigns z q refl) (simp and-false) ∙ rw e) stay))
 
-  read-members : (ms : List Member) (c : Before) (l : Last) (acc : List Member) → Fits c l → FormedMembers ms → 0 < length (reverseAux ms (kept l acc))
-      → Reads (members ps neg l acc) (membersBytes y c ms) (Classed ms (kept l acc))
-  unfolding membersBytes memberBytes behind kept Fits
+  read-members : (ms : List Member) (c : Before) (l : Last) (acc : List Member) → Fits c l → FormedMembers ms → 0 < length (reverseAux ms (membersAtEnd l acc))
+      → Reads (members ps neg l acc) (membersBytes y c ms) (Classed ms (membersAtEnd l acc))
+  unfolding membersBytes memberBytes behind membersAtEnd Fits
   read-members [] c l acc f g h = class-end ps neg l acc h
   read-members (single a ∷ rest) c l acc f g h =
-      read-single rest c l acc a f (y .classToo a) (needsClass c (none? rest) a) refl refl (read-members rest aSingle (member a) (kept l acc) tt (g .1) h)
-  read-members (range a z ∷ rest) c l acc f g h = then (read-range c l acc a z f (g .0)) (read-members rest aRange free (range a z ∷ kept l acc) tt (g .1) h)
+      read-single rest c l acc a f (y .classToo a) (needsClass c (none? rest) a) refl refl (read-members rest aSingle (member a) (membersAtEnd l acc) tt (g .1) h)
+  read-members (range a z ∷ rest) c l acc f g h = then (read-range c l acc a z f (g .0)) (read-members rest aRange free (range a z ∷ membersAtEnd l acc) tt (g .1) h)
 
 -- the first byte is no `~`
 Tilde-less : List ℕ → Type 0
@@ -285,10 +285,10 @@ first-byte y isLast (single a) g = by (y .classToo a) (needsClass bracket isLast
     by false true e = refl
     by false false e = or-right (among classSigns a) (eqb a 126) e
 
-module _ (y : Style) (fair : Fair y) (h : Held) (ps : List Piece) where
+module _ (y : Style) (fair : Fair y) (h : Joinable) (ps : List Piece) where
   read-class : (neg : Bool) (ms : List Member) → 0 < length ms → FormedMembers ms
       → Reads (pattern h ps) (classBytes y neg ms) (pattern (unit (class neg (reverse (reverseAux ms [])))) (settled h ps))
-  unfolding classBytes skips partByte fresh signs sign among breaks pick kindDigit within openedByte kept Fits membersBytes
+  unfolding classBytes skips partByte fresh signs sign among breaks pick kindDigit within openedByte membersAtEnd Fits membersBytes
   read-class true ms l g =
       next refl (settles h ps 91 (loose h 91 refl refl refl) refl)
       (next refl refl (read-members y fair (settled h ps) true ms tilde free [] tt g (rw (length-reverse ms) l)))
@@ -324,7 +324,7 @@ module _ (y : Style) (fair : Fair y) (h : Held) (ps : List Piece) where
   read-unit (callOf m i) g = read-call-of m i g
 
 -- what is held behind a literal, by cases
-pub held-by : (P : Held → Type 0) (b : ℕ) → (b ≡ 63 → P query) → ((m : Mark) → b ≡ markByte m → P (marked m)) → P (unit (literal b)) → P (hold b)
+pub held-by : (P : Joinable → Type 0) (b : ℕ) → (b ≡ 63 → P query) → ((m : Mark) → b ≡ markByte m → P (marked m)) → P (unit (literal b)) → P (hold b)
 unfolding hold pick markByte
 held-by P b q a u = by (eqb b 63) (eqb b 38) (eqb b 35) refl refl refl
   where
@@ -334,7 +334,7 @@ held-by P b q a u = by (eqb b 63) (eqb b 38) (eqb b 35) refl refl refl
     by false false true e f g = rw (e, f, g) (a counter (eqb-true b 35 g))
     by false false false e f g = rw (e, f, g) u
 
-leaves-by : (y : Style) (P : Held → Type 0) (b : ℕ) → (b ≡ 63 → P query) → ((m : Mark) → b ≡ markByte m → P (marked m)) → P (unit (literal b)) → P (unitLeaves y (literal b))
+leaves-by : (y : Style) (P : Joinable → Type 0) (b : ℕ) → (b ≡ 63 → P query) → ((m : Mark) → b ≡ markByte m → P (marked m)) → P (unit (literal b)) → P (unitLeaves y (literal b))
 unfolding unitLeaves pick
 leaves-by y P b q a u = by (y .patternToo b)
   where
@@ -346,7 +346,7 @@ leaves-by y P b q a u = by (y .patternToo b)
 settled-unit : (y : Style) (u : PatternUnit) (ps : List Piece) → settled (unitLeaves y u) ps ≡ element u once ∷ ps
 unfolding unitLeaves settled
 settled-unit y (literal b) ps =
-    leaves-by y (λ (h : Held). settled h ps ≡ element (literal b) once ∷ ps) b (λ e. rw e) (λ m e. rw e) refl
+    leaves-by y (λ (h : Joinable). settled h ps ≡ element (literal b) once ∷ ps) b (λ e. rw e) (λ m e. rw e) refl
 settled-unit y (kind k) ps = refl
 settled-unit y (class neg ms) ps = refl
 settled-unit y (callOf m i) ps = refl
@@ -355,7 +355,7 @@ settled-unit y (callOf m i) ps = refl
 star-unit : (y : Style) (u : PatternUnit) (ps : List Piece) → patternByte (unitLeaves y u) ps 42 ≡ on (pattern (starred u) ps)
 unfolding unitLeaves patternByte closes pick kindDigit within
 star-unit y (literal b) ps =
-    leaves-by y (λ (h : Held). patternByte h ps 42 ≡ on (pattern (starred (literal b)) ps)) b (λ e. rw e) (λ m e. rw e) refl
+    leaves-by y (λ (h : Joinable). patternByte h ps 42 ≡ on (pattern (starred (literal b)) ps)) b (λ e. rw e) (λ m e. rw e) refl
 star-unit y (kind k) ps = refl
 star-unit y (class neg ms) ps = refl
 star-unit y (callOf m i) ps = refl
@@ -389,7 +389,7 @@ formed-tail (left ∷ l) ps g = formed-tail l (left ∷ ps) g .1
 formed-tail (right ∷ l) ps g = formed-tail l (right ∷ ps) g .1
 
 module _ (y : Style) (fair : Fair y) where
-  read-piece : (h : Held) (ps : List Piece) (p : Piece) → FormedPieces (p ∷ settled h ps)
+  read-piece : (h : Joinable) (ps : List Piece) (p : Piece) → FormedPieces (p ∷ settled h ps)
       → Reads (pattern h ps) (pieceBytes y h p) (pattern (pieceLeaves y p) (beforePiece p (settled h ps)))
   unfolding pieceBytes closureBytes pieceLeaves beforePiece skips partByte fresh signs sign among breaks pick kindDigit within patternByte
   read-piece h ps (element u once) g = then (read-unit y fair h ps u (g .0)) stay
@@ -404,7 +404,7 @@ module _ (y : Style) (fair : Fair y) where
       move (pattern h ps) 125 (pattern nothing (right ∷ settled h ps)) refl
       (settles h ps 125 (loose h 125 refl refl refl) refl ∙ rw (lt-ltb 0 (depth (settled h ps)) (g .0))) stay
 
-  pub read-pattern : (l : List Piece) (h : Held) (ps : List Piece) → FormedPattern (reverseAux l (settled h ps))
+  pub read-pattern : (l : List Piece) (h : Joinable) (ps : List Piece) → FormedPattern (reverseAux l (settled h ps))
       → Reads (pattern h ps) (patternBytes y h l ++ (39 ∷ [])) (awaitSymbol (reverseAux l (settled h ps)))
   unfolding patternBytes skips partByte fresh signs sign among breaks pick kindDigit within patternEnd
   read-pattern [] h ps g =

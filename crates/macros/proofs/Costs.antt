@@ -15,13 +15,13 @@ use Rattle.macros.specs.Macro.Member.{single}
 use Rattle.macros.specs.Macro.Piece.{element}
 use Rattle.macros.specs.Macro.Move.{after, before, still}
 use Rattle.macros.specs.Formed.{Bytes, Formed, FormedCommands, FormedMembers, FormedPattern, FormedPieces, FormedReplacement, Letter}
-use Rattle.macros.specs.Read.{Front, Held, Last, Part, Phase, Place, Step, kept}
-use Rattle.macros.specs.Read.Held.{marked, nothing, query, starred, unit}
-use Rattle.macros.specs.Read.Last.{dash, free, member}
-use Rattle.macros.specs.Read.Phase.{begun, comma, equals, increment, named, signed, tagNamed, tagSigned, tagged, texted}
-use Rattle.macros.specs.Read.Place.{asCommand, inReplacement}
-use Rattle.macros.specs.Read.Part.{awaitQuote, awaitSymbol, callText, callTextEscape, calling, commands, members, membersEscape, opened, pattern, patternCall, patternCalled, patternEscape, replacement, replacementEscape, tagNumber}
-use Rattle.macros.specs.Read.Step.{done, on, stop}
+use Rattle.macros.specs.Read.{Front, Joinable, Last, Part, Phase, CallSite, Step, membersAtEnd}
+use Rattle.macros.specs.ReadSoFar.Joinable.{marked, nothing, query, starred, unit}
+use Rattle.macros.specs.ReadSoFar.Last.{dash, free, member}
+use Rattle.macros.specs.ReadSoFar.Phase.{begun, comma, equals, increment, named, signed, tagNamed, tagSigned, tagged, texted}
+use Rattle.macros.specs.ReadSoFar.CallSite.{asCommand, inReplacement}
+use Rattle.macros.specs.ReadSoFar.Part.{awaitQuote, awaitSymbol, callText, callTextEscape, calling, commands, members, membersEscape, opened, pattern, patternCall, patternCalled, patternEscape, replacement, replacementEscape, tagNumber}
+use Rattle.macros.specs.ReadSoFar.Step.{done, on, stop}
 use Rattle.macros.specs.Write.{byte, callBytes, closureBytes, digits}
 use Rattle.macros.specs.Spell.{Before, behind, leaves, leavesMark, leavesUnit, shortest, spellAction, spellMember, spellPattern, spellPiece, spellText, spellUnit}
 use Rattle.macros.specs.Spell.Before.{aRange, aSingle, bracket, tilde}
@@ -31,7 +31,7 @@ use Rattle.macros.proofs.Readings.{settled, withMark}
 -- COSTS of what has been read, newest first, in the shortest spelling
 
 -- what the newest piece leaves to be joined
-unfoldable pub top : List Piece → Held
+unfoldable pub top : List Piece → Joinable
 top [] = nothing
 top (p ∷ ps) = leaves p
 
@@ -63,7 +63,7 @@ module _ (u : PatternUnit) (ps : List Piece) where
   cost-star-dash = omega (arith, length-append (spellUnit (top ps) u) (42 ∷ 45 ∷ []), length-append (spellUnit (top ps) u) [])
 
 -- one byte more where the next raw one might clash with what the shortest spelling holds
-unfoldable pub gap : Held → ℕ
+unfoldable pub gap : Joinable → ℕ
 gap nothing = 0
 gap (unit u) = 0
 gap (starred u) = 1
@@ -71,7 +71,7 @@ gap query = 1
 gap (marked m) = 1
 
 -- that byte, where a part must have it in hand
-unfoldable pub slack : Held → List Piece → ℕ
+unfoldable pub slack : Joinable → List Piece → ℕ
 slack nothing ps = gap (top ps)
 slack (unit u) ps = gap (leavesUnit u)
 slack (starred u) ps = 0
@@ -164,7 +164,7 @@ loadCall (tagNamed n i h) = 4 + figures (some n) + moves h
 loadCall (texted i h t) = 5 + moves h + costText t
 
 -- the bytes that stand before a call
-unfoldable pub base : Place → ℕ
+unfoldable pub base : CallSite → ℕ
 base (inReplacement f ps) = cost (f .pieces) + 4 + costActions ps
 base (asCommand f ps cs) = cost (f .pieces) + 5 + costActions ps + costCalls cs
 
@@ -191,7 +191,7 @@ load (commands a f ps cs) = cost (f .pieces) + 5 + costActions ps + costCalls cs
 unfoldable pub Done : Front → List Action → Type 0
 Done f ps = FormedPattern (f .pieces) × FormedReplacement (tags (f .pieces)) ps
 
-unfoldable pub FitPlace : Place → Type 0
+unfoldable pub FitPlace : CallSite → Type 0
 FitPlace (inReplacement f ps) = Done f ps
 FitPlace (asCommand f ps cs) = Done f ps × FormedCommands (tags (f .pieces)) cs
 
@@ -212,8 +212,8 @@ unfoldable pub Fit : Part → Type 0
 Fit (pattern h ps) = FormedPieces (settled h ps)
 Fit (patternEscape ps) = FormedPieces ps
 Fit (opened ps) = FormedPieces ps
-Fit (members ps neg l ms) = FormedPieces ps × FormedMembers (kept l ms)
-Fit (membersEscape ps neg l ms) = FormedPieces ps × FormedMembers (kept l ms)
+Fit (members ps neg l ms) = FormedPieces ps × FormedMembers (membersAtEnd l ms)
+Fit (membersEscape ps neg l ms) = FormedPieces ps × FormedMembers (membersAtEnd l ms)
 Fit (patternCall m ps) = FormedPieces ps
 Fit (patternCalled m ps i) = FormedPieces ps × Letter i
 Fit (awaitSymbol ps) = FormedPattern ps

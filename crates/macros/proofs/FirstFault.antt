@@ -14,9 +14,9 @@ use Rattle.macros.specs.Refusals.{FileRefusal, fileNumber}
 use Rattle.macros.specs.Refusals.FileRefusal.{fileTooLong, incomplete, zeroByte}
 use Rattle.macros.specs.Macro.{Macro, Table, pick}
 use Rattle.macros.specs.Read.{Next, Read, Reader, atEnd, firstZero, readFrom, readOnto, step}
-use Rattle.macros.specs.Read.Reader.{between, inside}
-use Rattle.macros.specs.Read.Next.{go, refuse}
-use Rattle.macros.specs.Read.Read.{refusedAt, table}
+use Rattle.macros.specs.ReadFile.Reader.{between, inside}
+use Rattle.macros.specs.ReadFile.Next.{go, refuse}
+use Rattle.macros.specs.ReadFile.Read.{refusedAt, table}
 use Rattle.macros.specs.FirstFault.{FaultByItsBytes, NoZero}
 use Rattle.macros.proofs.Round.{read-go, read-refuse}
 

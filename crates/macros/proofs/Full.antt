@@ -12,8 +12,8 @@ use Rattle.macros.specs.Macro.PatternUnit.{callOf, class, kind, literal}
 use Rattle.macros.specs.Macro.Piece.{element, end, left, right, start}
 use Rattle.macros.specs.Macro.Call.{insert, setIncrement, setTo, storeTag, storeText}
 use Rattle.macros.specs.Macro.Action.{call, tag, text}
-use Rattle.macros.specs.Read.{Held, hold, signs}
-use Rattle.macros.specs.Read.Held.{marked, nothing, query, starred, unit}
+use Rattle.macros.specs.Read.{Joinable, hold, signs}
+use Rattle.macros.specs.ReadSoFar.Joinable.{marked, nothing, query, starred, unit}
 use Rattle.macros.specs.Write.{callBytes, classMarks, commandsBytes, innerBytes, patternMarks, textMarks, writeAction, writeMember, writeMembers, writePattern, writePiece, writeReplacement, writeText, writeUnit, written}
 use Rattle.macros.specs.Spell.{Before, behind, isMark, joins, joinsClass, markIn, needs, needsClass, needsText, none?}
 use Rattle.macros.specs.Spell.Before.{aRange, aSingle, bracket, tilde}
@@ -22,20 +22,20 @@ use Rattle.macros.proofs.Tests.{absent, adds-nothing, among-more, and-l
 use Rattle.macros.proofs.Styles.{actionBytes, actionLeaves, classBytes, full, memberBytes, membersBytes, patternBytes, pieceBytes, pieceLeaves, replacementBytes, spelled, textBytes, unitBytes, unitLeaves}
 
 -- what the full style leaves: never a raw `?`, `&` or `#`
-Calm : Held → Type 0
+Calm : Joinable → Type 0
 Calm nothing = Unit {0}
 Calm (unit u) = Unit {0}
 Calm (starred u) = Unit {0}
 Calm query = ⊥
 Calm (marked m) = ⊥
 
-pattern-adds : (h : Held) (b : ℕ) → Calm h → (among patternMarks b || needs h b) ≡ among patternMarks b
+pattern-adds : (h : Joinable) (b : ℕ) → Calm h → (among patternMarks b || needs h b) ≡ among patternMarks b
 unfolding Calm needs joins patternMarks signs among holds
 pattern-adds h b c =
     adds-nothing (among patternMarks b) (needs h b)
     (or-cases (among (47 ∷ signs) b) (joins h b) (among patternMarks b) (among-more patternMarks (47 ∷ signs) b refl) (by h c))
   where
-    by : (h : Held) → Calm h → joins h b ≡ true → among patternMarks b ≡ true
+    by : (h : Joinable) → Calm h → joins h b ≡ true → among patternMarks b ≡ true
     by nothing c e = clash e refl
     by (unit u) c e = clash e refl
     by (starred u) c e = single-among patternMarks b 45 refl e
@@ -91,7 +91,7 @@ members-full c [] = refl
 members-full c (single a ∷ ms) = rw (class-adds c (none? ms) a, members-full (behind (single a)) ms)
 members-full c (range a z ∷ ms) = rw (members-full (behind (range a z)) ms)
 
-unit-full : (h : Held) (u : PatternUnit) → Calm h → writeUnit u ≡ unitBytes full h u
+unit-full : (h : Joinable) (u : PatternUnit) → Calm h → writeUnit u ≡ unitBytes full h u
 unfolding writeUnit unitBytes classBytes full
 unit-full h (literal b) c = rw (pattern-adds h b c)
 unit-full h (kind k) c = refl
@@ -99,7 +99,7 @@ unit-full h (class true ms) c = rw (members-full tilde ms)
 unit-full h (class false ms) c = rw (members-full bracket ms)
 unit-full h (callOf m i) c = refl
 
-piece-full : (h : Held) (p : Piece) → Calm h → writePiece p ≡ pieceBytes full h p
+piece-full : (h : Joinable) (p : Piece) → Calm h → writePiece p ≡ pieceBytes full h p
 unfolding writePiece pieceBytes
 piece-full h (element u k) c = rw (unit-full h u c)
 piece-full h start c = refl
@@ -107,7 +107,7 @@ piece-full h end c = refl
 piece-full h left c = refl
 piece-full h right c = refl
 
-pattern-full : (h : Held) (ps : List Piece) → Calm h → writePattern ps ≡ patternBytes full h ps
+pattern-full : (h : Joinable) (ps : List Piece) → Calm h → writePattern ps ≡ patternBytes full h ps
 unfolding writePattern patternBytes
 pattern-full h [] c = refl
 pattern-full h (p ∷ ps) c = cc (piece-full h p c, pattern-full (pieceLeaves full p) ps (calm p))

@@ -8,8 +8,8 @@ use lib.ListN.{length}
 use Rattle.macros.specs.Macro.{Macro, Table, pick}
 use Rattle.macros.specs.Formed.{Bytes, Octets}
 use Rattle.macros.specs.Read.{atEnd, readFile, readFrom, readOnto}
-use Rattle.macros.specs.Read.Read.{table}
-use Rattle.macros.specs.Read.Reader.{between}
+use Rattle.macros.specs.ReadFile.Read.{table}
+use Rattle.macros.specs.ReadFile.Reader.{between}
 use Rattle.macros.specs.Write.{writeOut}
 use Rattle.macros.specs.Spell.{shortest}
 use Rattle.macros.specs.Accepted.{Each, Spellable, Spelled}

@@ -16,13 +16,13 @@ use Rattle.macros.specs.Macro.{Macro, Mark, Table, among, lower, pick}
 use Rattle.macros.specs.Macro.PatternUnit.{callOf, literal}
 use Rattle.macros.specs.Macro.Action.{text}
 use Rattle.macros.specs.Formed.{Byte, Bytes, Formed, Octets}
-use Rattle.macros.specs.Read.{Held, Next, Part, Read, Reader, Step, atEnd, callByte, count, escaped, firstZero, isCommand, partByte, quoteByte, readFrom, readOnto, skips, step, symbolByte, tagByte, taken}
-use Rattle.macros.specs.Read.Held.{unit}
-use Rattle.macros.specs.Read.Part.{awaitQuote, awaitSymbol, callText, callTextEscape, calling, commands, members, membersEscape, opened, pattern, patternCall, patternCalled, patternEscape, replacement, replacementEscape, tagNumber}
-use Rattle.macros.specs.Read.Step.{done, on, stop}
-use Rattle.macros.specs.Read.Reader.{between, inside}
-use Rattle.macros.specs.Read.Next.{go, refuse}
-use Rattle.macros.specs.Read.Read.{refusedAt, table}
+use Rattle.macros.specs.Read.{Joinable, Next, Part, Read, Reader, Step, atEnd, callByte, count, escaped, firstZero, isCommand, partByte, quoteByte, readFrom, readOnto, skips, step, symbolByte, tagByte, taken}
+use Rattle.macros.specs.ReadSoFar.Joinable.{unit}
+use Rattle.macros.specs.ReadSoFar.Part.{awaitQuote, awaitSymbol, callText, callTextEscape, calling, commands, members, membersEscape, opened, pattern, patternCall, patternCalled, patternEscape, replacement, replacementEscape, tagNumber}
+use Rattle.macros.specs.ReadSoFar.Step.{done, on, stop}
+use Rattle.macros.specs.ReadFile.Reader.{between, inside}
+use Rattle.macros.specs.ReadFile.Next.{go, refuse}
+use Rattle.macros.specs.ReadFile.Read.{refusedAt, table}
 use Rattle.macros.specs.Spell.{behind, leavesUnit, shortest, spellUnit}
 use Rattle.macros.specs.Accepted.{Each}
 use Rattle.macros.specs.Spell.{callTextSigns}
@@ -34,7 +34,7 @@ use Rattle.macros.proofs.Costs.Good.{fault, fine, whole}
 use Rattle.macros.proofs.PaidPattern.{escaped-byte, escaped-load, literal-length, members-good, new-good, new-most, opened-good, pattern-good}
 use Rattle.macros.proofs.PaidCalls.{call-good, call-text-good, commands-good, cost-text, escaped-text-load, figures-more, low-name, otherwise-good, replacement-good, tag-good, turned-good}
 
-call-of-length : (m : Mark) (i : ℕ) (h : Held) → length (spellUnit h (callOf m i)) ≡ 4
+call-of-length : (m : Mark) (i : ℕ) (h : Joinable) → length (spellUnit h (callOf m i)) ≡ 4
 unfolding spellUnit
 call-of-length m i h = refl
 

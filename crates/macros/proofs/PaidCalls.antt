@@ -14,12 +14,12 @@ use Rattle.macros.specs.Macro.Move.{after, before, still}
 use Rattle.macros.specs.Macro.Call.{insert, setIncrement, setTo, storeTag, storeText}
 use Rattle.macros.specs.Macro.Action.{call, tag, text}
 use Rattle.macros.specs.Formed.{Byte, Bytes, Commands, FormedCall, FormedCommands, FormedReplacement, Letter, Named}
-use Rattle.macros.specs.Read.{Front, Part, Phase, Place, Turn, andDigit, breaks, callByte, commandsByte, commandsFresh, frontOf, isCommand, numberEnd, otherwise, placed, replacementByte, replacementFresh, tagEnd, textByte, turned}
-use Rattle.macros.specs.Read.Phase.{begun, comma, equals, increment, named, signed, tagNamed, tagSigned, tagged, texted}
-use Rattle.macros.specs.Read.Place.{asCommand, inReplacement}
-use Rattle.macros.specs.Read.Part.{callText, calling, commands, replacement, tagNumber}
-use Rattle.macros.specs.Read.Step.{done, on}
-use Rattle.macros.specs.Read.Turn.{closed, into, textOf, wrong}
+use Rattle.macros.specs.Read.{Front, Part, Phase, CallSite, Turn, andDigit, breaks, callByte, commandsByte, commandsFresh, frontOf, isCommand, numberEnd, otherwise, behindCall, replacementByte, replacementFresh, tagEnd, textByte, turned}
+use Rattle.macros.specs.ReadSoFar.Phase.{begun, comma, equals, increment, named, signed, tagNamed, tagSigned, tagged, texted}
+use Rattle.macros.specs.ReadSoFar.CallSite.{asCommand, inReplacement}
+use Rattle.macros.specs.ReadSoFar.Part.{callText, calling, commands, replacement, tagNumber}
+use Rattle.macros.specs.ReadSoFar.Step.{done, on}
+use Rattle.macros.specs.ReadCalls.Turn.{closed, into, textOf, wrong}
 use Rattle.macros.specs.Write.{byte, callBytes, commandsBytes, digits, digitsBy, innerBytes, nameBytes}
 use Rattle.macros.specs.Spell.{isMark, leavesMark, markIn, needsText, shortest, spellAction, spellReplacement, spellText}
 use Rattle.macros.specs.Spell.{textSigns, callTextSigns}
@@ -185,13 +185,13 @@ unfolding otherwise
 otherwise-good n st b h f = either (λ e. fine (omega arith) f) (λ e. either (λ k. fault tt) (λ k. fault tt))
 
 -- behind a call
-placed-good : (n : ℕ) (pl : Place) (c : Call) → base pl + length (callBytes spellText c) ≤ suc n → FitPlace pl → FormedCall (tags (frontOf pl .pieces)) c
-    → (isCommand pl ≡ true → Commands c) → Good n (on (placed pl c))
-unfolding base FitPlace placed frontOf isCommand load Fit withMark slackMark costActions costCalls spellAction topMark leavesMark gapMark Done
+placed-good : (n : ℕ) (pl : CallSite) (c : Call) → base pl + length (callBytes spellText c) ≤ suc n → FitPlace pl → FormedCall (tags (frontOf pl .pieces)) c
+    → (isCommand pl ≡ true → Commands c) → Good n (on (behindCall pl c))
+unfolding base FitPlace behindCall frontOf isCommand load Fit withMark slackMark costActions costCalls spellAction topMark leavesMark gapMark Done
 placed-good n (inReplacement f ps) c h d g k = fine {st = replacement none f (call c ∷ ps)} (omega arith) (d .0, (g, d .1))
 placed-good n (asCommand f ps cs) c h d g k = fine {st = commands none f ps (c ∷ cs)} (omega arith) (d .0, ((k refl, g), d .1))
 
-pub turned-good : (n : ℕ) (pl : Place) (ph : Phase) (b : ℕ) (x : Turn) → GoodTurn (isCommand pl) (loadCall ph) x → base pl + loadCall ph ≤ n → FitPlace pl → FitPhase ph
+pub turned-good : (n : ℕ) (pl : CallSite) (ph : Phase) (b : ℕ) (x : Turn) → GoodTurn (isCommand pl) (loadCall ph) x → base pl + loadCall ph ≤ n → FitPlace pl → FitPhase ph
     → Good n (turned pl ph b x)
 unfolding turned load Fit costText
 turned-good n pl ph b (into q) (onward l f) h d e = fine {st = calling pl q} (omega arith) (d, f)
@@ -206,7 +206,7 @@ no-call-text-sign b s c f h =
     let u = unbroken b f in
     simp (s, c, u .0, u .1, u .2, h)
 
-pub call-text-good : (n b : ℕ) → Byte b → (pl : Place) (i : ℕ) (j : Move) (t : List ℕ) → eqb b 47 ≡ false → load (callText pl i j t) ≤ n → Fit (callText pl i j t)
+pub call-text-good : (n b : ℕ) → Byte b → (pl : CallSite) (i : ℕ) (j : Move) (t : List ℕ) → eqb b 47 ≡ false → load (callText pl i j t) ≤ n → Fit (callText pl i j t)
     → Good n (textByte pl i j t b)
 unfolding textByte load Fit FitPhase loadCall costText
 call-text-good n b g pl i j t s l h =

@@ -15,11 +15,11 @@ use Rattle.macros.specs.Macro.Mark.{counter, stack}
 use Rattle.macros.specs.Macro.PatternUnit.{class, kind, literal}
 use Rattle.macros.specs.Macro.Piece.{element}
 use Rattle.macros.specs.Formed.{Byte, FormedMembers, FormedPieces}
-use Rattle.macros.specs.Read.{Held, Last, breaks, classEnd, closes, dashed, dashes, escaped, fresh, hold, kept, kindDigit, membersByte, newMember, openedByte, patternByte, patternEnd, sign, signs}
-use Rattle.macros.specs.Read.Held.{marked, nothing, query, starred, unit}
-use Rattle.macros.specs.Read.Last.{dash, free, member}
-use Rattle.macros.specs.Read.Part.{members, opened, pattern}
-use Rattle.macros.specs.Read.Step.{on}
+use Rattle.macros.specs.Read.{Joinable, Last, breaks, classEnd, closes, dashed, dashes, escaped, fresh, hold, membersAtEnd, kindDigit, membersByte, newMember, openedByte, patternByte, patternEnd, sign, signs}
+use Rattle.macros.specs.ReadSoFar.Joinable.{marked, nothing, query, starred, unit}
+use Rattle.macros.specs.ReadSoFar.Last.{dash, free, member}
+use Rattle.macros.specs.ReadSoFar.Part.{members, opened, pattern}
+use Rattle.macros.specs.ReadSoFar.Step.{on}
 use Rattle.macros.specs.Write.{byte}
 use Rattle.macros.specs.Spell.{Before, behind, joins, joinsClass, leaves, leavesUnit, needs, needsClass, none?, spellMember, spellMembers, spellPiece, spellUnit}
 use Rattle.macros.specs.Spell.Before.{aRange, aSingle, bracket, tilde}
@@ -30,16 +30,16 @@ use Rattle.macros.proofs.BackPattern.{needs-free}
 use Rattle.macros.proofs.Costs.{Fit, Good, byte-least, byte-most, context, cost, cost-once, cost-star, cost-star-dash, costMembers, either, gap, gapClass, heldClass, load, loadClass, negs, slack, top}
 use Rattle.macros.proofs.Costs.Good.{fault, fine}
 
-pub literal-length : (h : Held) (b : ℕ) → length (spellUnit h (literal b)) ≡ length (byte (needs h b) b)
+pub literal-length : (h : Joinable) (b : ℕ) → length (spellUnit h (literal b)) ≡ length (byte (needs h b) b)
 unfolding spellUnit
 literal-length h b = refl
 
 -- a raw byte that is no sign costs one byte, or two where it clashes
-raw-tight : (h : Held) (b : ℕ) → eqb b 47 ≡ false → among signs b ≡ false → joins h b ≡ false → length (byte (needs h b) b) ≡ 1
+raw-tight : (h : Joinable) (b : ℕ) → eqb b 47 ≡ false → among signs b ≡ false → joins h b ≡ false → length (byte (needs h b) b) ≡ 1
 unfolding needs among byte
 raw-tight h b s m j = simp (s, m, j)
 
-raw-gap : (h : Held) (b : ℕ) → eqb b 47 ≡ false → among signs b ≡ false → length (byte (needs h b) b) ≤ suc (gap h)
+raw-gap : (h : Joinable) (b : ℕ) → eqb b 47 ≡ false → among signs b ≡ false → length (byte (needs h b) b) ≤ suc (gap h)
 unfolding gap joins
 raw-gap nothing b s m = omega (arith, raw-tight nothing b s m refl)
 raw-gap (unit u) b s m = omega (arith, raw-tight (unit u) b s m refl)
@@ -99,7 +99,7 @@ unfolding top leaves leavesUnit hold pick joins markByte
 joins-mark stack ps b e = e
 joins-mark counter ps b e = e
 
-kind-length : (k : ℕ) (h : Held) → length (spellUnit h (kind k)) ≡ 2
+kind-length : (k : ℕ) (h : Joinable) → length (spellUnit h (kind k)) ≡ 2
 unfolding spellUnit
 kind-length k h = refl
 
@@ -137,7 +137,7 @@ module _ (n b : ℕ) (g : Byte b) where
     fresh-tight : eqb b 47 ≡ false → suc (cost ps) ≤ n → joins (top ps) b ≡ false → Good n (fresh ps b)
     fresh-tight s h j = fresh-good s h (λ m. omega (arith, raw-tight (top ps) b s m j))
 
-  pub pattern-good : (h : Held) (ps : List Piece) → eqb b 47 ≡ false → load (pattern h ps) ≤ n → Fit (pattern h ps) → Good n (patternByte h ps b)
+  pub pattern-good : (h : Joinable) (ps : List Piece) → eqb b 47 ≡ false → load (pattern h ps) ≤ n → Fit (pattern h ps) → Good n (patternByte h ps b)
   unfolding patternByte closes load Fit slack settled top leaves leavesUnit gap joins kindDigit
   pattern-good nothing ps s h f = fresh-slack ps f s h
   pattern-good (unit u) ps s h f =
@@ -165,7 +165,7 @@ members-onto-cost neg [] l = omega arith
 members-onto-cost neg (m ∷ ms) l =
     members-onto-cost neg ms (m ∷ l) ∙ omega (arith, length-append (spellMember (context neg ms) (none? l) m) (spellMembers (behind m) l))
 
-class-length : (h : Held) (neg : Bool) (ms : List Member) → length (spellUnit h (class neg (reverse ms))) ≡ 2 + negs neg + costMembers neg true ms
+class-length : (h : Joinable) (neg : Bool) (ms : List Member) → length (spellUnit h (class neg (reverse ms))) ≡ 2 + negs neg + costMembers neg true ms
 unfolding spellUnit negs context spellMembers none?
 class-length h true ms = omega (arith, members-onto-cost true ms [])
 class-length h false ms = omega (arith, members-onto-cost false ms [])
@@ -183,8 +183,8 @@ last-less aSingle (single a) = by (among classSigns a) (eqb a 45)
     by false true = unfold byte in omega arith
     by false false = omega arith
 
-end-less : (neg : Bool) (l : Last) (ms : List Member) → costMembers neg true (kept l ms) ≤ heldClass neg l ms
-unfolding kept heldClass costMembers context behind spellMember needsClass joinsClass among byte
+end-less : (neg : Bool) (l : Last) (ms : List Member) → costMembers neg true (membersAtEnd l ms) ≤ heldClass neg l ms
+unfolding membersAtEnd heldClass costMembers context behind spellMember needsClass joinsClass among byte
 end-less neg free [] = omega arith
 end-less neg free (m ∷ ms) = omega (arith, last-less (context neg ms) m)
 end-less neg (member a) ms = omega (arith, last-less (context neg ms) (single a))
@@ -235,9 +235,9 @@ module _ (n : ℕ) (ps : List Piece) (f : FormedPieces ps) (neg : Bool) where
       fine {st = pattern (unit (class neg (reverse (m ∷ ms)))) ps} (omega (arith, cost-once (class neg (reverse (m ∷ ms))) ps, class-length (top ps) neg (m ∷ ms)))
       ((rw (length-reverse (m ∷ ms)) (omega arith), formed-onto (m ∷ ms) [] g tt), f)
 
-  pub new-good : (l : Last) (ms : List Member) (c : ℕ) → Byte c → cost ps + 2 + negs neg + heldClass neg l ms + newCost neg l ms c ≤ suc n → FormedMembers (kept l ms)
+  pub new-good : (l : Last) (ms : List Member) (c : ℕ) → Byte c → cost ps + 2 + negs neg + heldClass neg l ms + newCost neg l ms c ≤ suc n → FormedMembers (membersAtEnd l ms)
       → Good n (newMember ps neg l ms c)
-  unfolding newMember heldClass newCost load Fit loadClass kept costMembers context behind gapClass
+  unfolding newMember heldClass newCost load Fit loadClass membersAtEnd costMembers context behind gapClass
   new-good free ms c g h e = fine {st = members ps neg (member c) ms} (omega (arith, member-bytes (context neg ms) false c)) (f, (g, e))
   new-good (member a) ms c g h e = fine {st = members ps neg (member c) (single a ∷ ms)} (omega (arith, member-bytes aSingle false c)) (f, (g, e))
   new-good (dash a) ms c g h e =
@@ -247,9 +247,9 @@ module _ (n : ℕ) (ps : List Piece) (f : FormedPieces ps) (neg : Bool) where
       three : (k : Before) (a z : ℕ) → length (spellMember k false (range a z)) ≡ 3
       three k a z = unfold spellMember in refl
 
-  dash-good : (l : Last) (ms : List Member) (b : ℕ) → cost ps + 2 + negs neg + heldClass neg l ms ≤ n → FormedMembers (kept l ms) → (eqb b 45 && dashes l) ≡ true
+  dash-good : (l : Last) (ms : List Member) (b : ℕ) → cost ps + 2 + negs neg + heldClass neg l ms ≤ n → FormedMembers (membersAtEnd l ms) → (eqb b 45 && dashes l) ≡ true
       → Good n (on (members ps neg (dashed l) ms))
-  unfolding dashes dashed heldClass loadClass load Fit kept
+  unfolding dashes dashed heldClass loadClass load Fit membersAtEnd
   dash-good free ms b h e d = clash d (simp and-false)
   dash-good (dash a) ms b h e d = clash d (simp and-false)
   dash-good (member a) ms b h e d = fine {st = members ps neg (dash a) ms} (omega arith) (f, (omega arith, e))
@@ -257,10 +257,10 @@ module _ (n : ℕ) (ps : List Piece) (f : FormedPieces ps) (neg : Bool) where
   -- a byte in a class, where a raw member would be paid for
   members-by : (l : Last) (ms : List Member) (b : ℕ) → Byte b → cost ps + 2 + negs neg + heldClass neg l ms ≤ n
       → (among classSigns b ≡ false → (eqb b 45 && dashes l) ≡ false → cost ps + 2 + negs neg + heldClass neg l ms + newCost neg l ms b ≤ suc n)
-      → FormedMembers (kept l ms) → Good n (membersByte ps neg l ms b)
+      → FormedMembers (membersAtEnd l ms) → Good n (membersByte ps neg l ms b)
   unfolding membersByte load Fit
   members-by l ms b g h k e =
-      either (λ x. class-good (kept l ms) (omega (arith, end-less neg l ms)) e)
+      either (λ x. class-good (membersAtEnd l ms) (omega (arith, end-less neg l ms)) e)
       (λ x. either (λ y. fault tt)
       (λ y. either (λ z. fine (omega arith) (f, e))
       (λ z. either (λ d. dash-good l ms b h e d)
@@ -279,12 +279,12 @@ module _ (n : ℕ) (ps : List Piece) (f : FormedPieces ps) (neg : Bool) where
   held-less (member a) ms = omega arith
   held-less (dash a) ms = omega arith
 
-  pub members-good : (l : Last) (ms : List Member) (b : ℕ) → Byte b → load (members ps neg l ms) ≤ n → FormedMembers (kept l ms) → Good n (membersByte ps neg l ms b)
+  pub members-good : (l : Last) (ms : List Member) (b : ℕ) → Byte b → load (members ps neg l ms) ≤ n → FormedMembers (membersAtEnd l ms) → Good n (membersByte ps neg l ms b)
   unfolding load
   members-good l ms b g h e = members-by l ms b g (omega (arith, held-less l ms)) (raw-paid l ms b h) e
 
 pub opened-good : (n : ℕ) (ps : List Piece) (b : ℕ) → FormedPieces ps → Byte b → load (opened ps) ≤ n → Good n (openedByte ps b)
-unfolding openedByte load Fit negs loadClass costMembers gapClass context heldClass newCost kept
+unfolding openedByte load Fit negs loadClass costMembers gapClass context heldClass newCost membersAtEnd
 opened-good n ps b f g h =
     either (λ e. fine (omega arith) (f, tt))
     (λ e. members-by n ps f false free [] b g (omega arith) (λ m d. omega (arith, raw-member-tight bracket b m (no-tilde e))) tt)

@@ -14,12 +14,12 @@ use Rattle.macros.specs.Refusals.{FileRefusal}
 use Rattle.macros.specs.Refusals.FileRefusal.{fileTooLong, macroTooLong, tooManyMacros, zeroByte}
 use Rattle.macros.specs.Macro.{Macro, Table, pick}
 use Rattle.macros.specs.Read.{Next, Part, Read, Reader, Step, atEnd, count, firstZero, partByte, readFile, readFrom, readOnto, skips, step, taken}
-use Rattle.macros.specs.Read.Held.{nothing}
-use Rattle.macros.specs.Read.Part.{pattern}
-use Rattle.macros.specs.Read.Step.{done, on, stop}
-use Rattle.macros.specs.Read.Reader.{between, inside}
-use Rattle.macros.specs.Read.Next.{go, refuse}
-use Rattle.macros.specs.Read.Read.{refusedAt, table}
+use Rattle.macros.specs.ReadSoFar.Joinable.{nothing}
+use Rattle.macros.specs.ReadSoFar.Part.{pattern}
+use Rattle.macros.specs.ReadSoFar.Step.{done, on, stop}
+use Rattle.macros.specs.ReadFile.Reader.{between, inside}
+use Rattle.macros.specs.ReadFile.Next.{go, refuse}
+use Rattle.macros.specs.ReadFile.Read.{refusedAt, table}
 use Rattle.macros.specs.FirstFault.{NoZero, Plain}
 use Rattle.macros.specs.ReadOnto.{AddsWell, Begins, OntoIsAppending}
 use Rattle.macros.proofs.Round.{read-go, read-refuse}
@@ -275,16 +275,16 @@ quote-full ms h = let l : 96 ≤ length ms = omega arith in rw (le-ltb (length m
 
 module _ (old : List Macro) where
   -- a macro begins where there is none to spare, or has room
-  data Place (s : List ℕ) (r : Reader) (b : ℕ) : Type 0 where
-    fits : Room old r b → Place s r b
-    past : (j q : ℕ) → Begins s j q → length old + j ≡ mostMacros → Place s r b
+  data Quoting (s : List ℕ) (r : Reader) (b : ℕ) : Type 0 where
+    fits : Room old r b → Quoting s r b
+    past : (j q : ℕ) → Begins s j q → length old + j ≡ mostMacros → Quoting s r b
 
-  find : (u v : List ℕ) (b : ℕ) (r : Reader) → Plain u → after none-before u ≡ go r → held r + length old ≤ mostMacros → Place (u ++ (b ∷ v)) r b
+  find : (u v : List ℕ) (b : ℕ) (r : Reader) → Plain u → after none-before u ≡ go r → held r + length old ≤ mostMacros → Quoting (u ++ (b ∷ v)) r b
   unfolding Room held
   find u v b (inside skip n st ms) g e h = fits tt
   find u v b (between skip ms) g e h = by (eqb b 39) skip (ltb (length ms + length old) mostMacros) refl refl refl
     where
-      by : (c d f : Bool) → eqb b 39 ≡ c → skip ≡ d → ltb (length ms + length old) mostMacros ≡ f → Place (u ++ (b ∷ v)) (between skip ms) b
+      by : (c d f : Bool) → eqb b 39 ≡ c → skip ≡ d → ltb (length ms + length old) mostMacros ≡ f → Quoting (u ++ (b ∷ v)) (between skip ms) b
       by c d true x y z = fits (λ i j. ltb-true _ _ z)
       by false d false x y z = fits (λ i j. let a : (false && not skip) ≡ true = rw x at j in let k : _≡_ {A = ℕ} 0 1 = cc in absurd (omega arith))
       by true true false x y z = fits (λ i j. let a : (true && not true) ≡ true = rw (x, y) at j in let k : _≡_ {A = ℕ} 0 1 = cc in absurd (omega arith))
@@ -315,7 +315,7 @@ module _ (old : List Macro) where
       by (step r b) refl (rw (← z) at (find u v b r (plain-front u (b ∷ v) (rw z at g)) a h))
       (λ x f i y. faulty-from v s (u ++ (b ∷ [])) (suc q) x k p (z ∙ sym (append-assoc u (b ∷ []) v)) g (after-one u none-before r x b a f) i never y)
     where
-      by : (w : Next) → step r b ≡ w → Place s r b
+      by : (w : Next) → step r b ≡ w → Quoting s r b
           → ((x : Reader) → step r b ≡ go x → held x + length old ≤ mostMacros → readFrom (suc q) x v ≡ refusedAt k p → readFrom (suc q) (shift old x) v ≡ refusedAt k p)
           → readFrom q (shift old r) (b ∷ v) ≡ refusedAt k p
       by w f (past j o t c) ih = absurd (never j o t c)

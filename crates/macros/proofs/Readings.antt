@@ -11,9 +11,9 @@ use Rattle.macros.specs.Macro.Closure.{once, oneOrMore}
 use Rattle.macros.specs.Macro.PatternUnit.{literal}
 use Rattle.macros.specs.Macro.Piece.{element}
 use Rattle.macros.specs.Macro.Action.{text}
-use Rattle.macros.specs.Read.{Held, Part, escaped, partByte, skips}
-use Rattle.macros.specs.Read.Held.{marked, nothing, query, starred, unit}
-use Rattle.macros.specs.Read.Step.{on}
+use Rattle.macros.specs.Read.{Joinable, Part, escaped, partByte, skips}
+use Rattle.macros.specs.ReadSoFar.Joinable.{marked, nothing, query, starred, unit}
+use Rattle.macros.specs.ReadSoFar.Step.{on}
 use Rattle.macros.specs.Write.{escapeByte}
 
 -- the bytes lead from one part to another: none of them is a fault, ends the macro or begins a skip
@@ -37,7 +37,7 @@ one-end (next {st′ = x} f e r) (next {st′ = y} g h q) =
     one-end r (rw z at q)
 
 -- the pieces, when nothing joins the newest any more
-unfoldable pub settled : Held → List Piece → List Piece
+unfoldable pub settled : Joinable → List Piece → List Piece
 settled nothing ps = ps
 settled (unit u) ps = element u once ∷ ps
 settled (starred u) ps = element u oneOrMore ∷ ps

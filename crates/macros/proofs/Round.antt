@@ -15,12 +15,12 @@ use Rattle.macros.specs.Macro.{Macro, Piece, Symbol, pick}
 use Rattle.macros.specs.Macro.Symbol.{equal, less}
 use Rattle.macros.specs.Formed.{Bytes, Formed}
 use Rattle.macros.specs.Read.{Front, Part, Reader, atEnd, commandsByte, commandsFresh, count, firstZero, partByte, quoteByte, readFile, readFrom, readOnto, skips, step, symbolByte, taken}
-use Rattle.macros.specs.Read.Held.{nothing}
-use Rattle.macros.specs.Read.Part.{awaitSymbol, commands, pattern, replacement}
-use Rattle.macros.specs.Read.Step.{done, on}
-use Rattle.macros.specs.Read.Reader.{between, inside}
-use Rattle.macros.specs.Read.Next.{go, refuse}
-use Rattle.macros.specs.Read.Read.{refusedAt, table}
+use Rattle.macros.specs.ReadSoFar.Joinable.{nothing}
+use Rattle.macros.specs.ReadSoFar.Part.{awaitSymbol, commands, pattern, replacement}
+use Rattle.macros.specs.ReadSoFar.Step.{done, on}
+use Rattle.macros.specs.ReadFile.Reader.{between, inside}
+use Rattle.macros.specs.ReadFile.Next.{go, refuse}
+use Rattle.macros.specs.ReadFile.Read.{refusedAt, table}
 use Rattle.macros.specs.Write.{Written, commandsBytes, symbolSign, writeFrom, written}
 use Rattle.macros.specs.Write.Written.{file, refused}
 use Rattle.macros.specs.Accepted.{Each, Spellable}

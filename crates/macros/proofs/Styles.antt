@@ -11,8 +11,8 @@ use Rattle.macros.specs.Macro.PatternUnit.{callOf, class, kind, literal}
 use Rattle.macros.specs.Macro.Piece.{element, end, left, right, start}
 use Rattle.macros.specs.Macro.Call.{insert, setIncrement, setTo, storeTag, storeText}
 use Rattle.macros.specs.Macro.Action.{call, tag, text}
-use Rattle.macros.specs.Read.{Held, hold}
-use Rattle.macros.specs.Read.Held.{nothing, starred, unit}
+use Rattle.macros.specs.Read.{Joinable, hold}
+use Rattle.macros.specs.ReadSoFar.Joinable.{nothing, starred, unit}
 use Rattle.macros.specs.Write.{byte, callBytes, classMarks, closureBytes, commandsBytes, digits, innerBytes, patternMarks, symbolSign, textMarks}
 use Rattle.macros.specs.Spell.{callTextSigns, Before, behind, leaves, leavesMark, leavesUnit, markIn, needs, needsClass, needsText, none?, shortest, spellAction, spellMember, spellMembers, spellPattern, spellPiece, spellReplacement, spellText, spellUnit}
 use Rattle.macros.specs.Spell.Before.{bracket, tilde}
@@ -37,13 +37,13 @@ unfoldable pub classBytes : Style → Bool → List Member → List ℕ
 classBytes y true ms = 91 ∷ 126 ∷ membersBytes y tilde ms
 classBytes y false ms = 91 ∷ membersBytes y bracket ms
 
-unfoldable pub unitBytes : Style → Held → PatternUnit → List ℕ
+unfoldable pub unitBytes : Style → Joinable → PatternUnit → List ℕ
 unitBytes y h (literal b) = byte (y .patternToo b || needs h b) b
 unitBytes y h (kind n) = 63 ∷ (48 + n) ∷ []
 unitBytes y h (class neg ms) = classBytes y neg ms
 unitBytes y h (callOf m i) = markByte m ∷ 40 ∷ i ∷ 41 ∷ []
 
-unfoldable pub pieceBytes : Style → Held → Piece → List ℕ
+unfoldable pub pieceBytes : Style → Joinable → Piece → List ℕ
 pieceBytes y h (element u c) = unitBytes y h u ++ closureBytes c
 pieceBytes y h start = 94 ∷ []
 pieceBytes y h end = 36 ∷ []
@@ -51,13 +51,13 @@ pieceBytes y h left = 123 ∷ []
 pieceBytes y h right = 125 ∷ []
 
 -- what a piece leaves for the next byte to join
-unfoldable pub unitLeaves : Style → PatternUnit → Held
+unfoldable pub unitLeaves : Style → PatternUnit → Joinable
 unitLeaves y (literal b) = pick (y .patternToo b) (unit (literal b)) (hold b)
 unitLeaves y (kind n) = unit (kind n)
 unitLeaves y (class neg ms) = unit (class neg ms)
 unitLeaves y (callOf m i) = unit (callOf m i)
 
-unfoldable pub pieceLeaves : Style → Piece → Held
+unfoldable pub pieceLeaves : Style → Piece → Joinable
 pieceLeaves y (element u once) = unitLeaves y u
 pieceLeaves y (element u oneOrMore) = starred u
 pieceLeaves y (element u zeroOrMore) = nothing
@@ -66,7 +66,7 @@ pieceLeaves y end = nothing
 pieceLeaves y left = nothing
 pieceLeaves y right = nothing
 
-unfoldable pub patternBytes : Style → Held → List Piece → List ℕ
+unfoldable pub patternBytes : Style → Joinable → List Piece → List ℕ
 patternBytes y h [] = []
 patternBytes y h (p ∷ ps) = pieceBytes y h p ++ patternBytes y (pieceLeaves y p) ps
 
@@ -129,7 +129,7 @@ members-bare f [] = refl
 members-bare f (single a ∷ ms) = rw (members-bare (behind (single a)) ms)
 members-bare f (range a z ∷ ms) = rw (members-bare (behind (range a z)) ms)
 
-unit-bare : (h : Held) (u : PatternUnit) → spellUnit h u ≡ unitBytes bare h u
+unit-bare : (h : Joinable) (u : PatternUnit) → spellUnit h u ≡ unitBytes bare h u
 unfolding spellUnit unitBytes classBytes bare
 unit-bare h (literal b) = refl
 unit-bare h (kind n) = refl
@@ -137,7 +137,7 @@ unit-bare h (class true ms) = rw (members-bare tilde ms)
 unit-bare h (class false ms) = rw (members-bare bracket ms)
 unit-bare h (callOf m i) = refl
 
-piece-bare : (h : Held) (p : Piece) → spellPiece h p ≡ pieceBytes bare h p
+piece-bare : (h : Joinable) (p : Piece) → spellPiece h p ≡ pieceBytes bare h p
 unfolding spellPiece pieceBytes
 piece-bare h (element u c) = rw (unit-bare h u)
 piece-bare h start = refl
@@ -162,7 +162,7 @@ leaves-bare end = refl
 leaves-bare left = refl
 leaves-bare right = refl
 
-pattern-bare : (h : Held) (ps : List Piece) → spellPattern h ps ≡ patternBytes bare h ps
+pattern-bare : (h : Joinable) (ps : List Piece) → spellPattern h ps ≡ patternBytes bare h ps
 unfolding spellPattern patternBytes
 pattern-bare h [] = refl
 pattern-bare h (p ∷ ps) = rw (piece-bare h p, leaves-bare p, pattern-bare (pieceLeaves bare p) ps)

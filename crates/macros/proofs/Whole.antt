@@ -19,8 +19,8 @@ use Rattle.macros.specs.Macro.Call.{insert, setIncrement, setTo, storeTa
 use Rattle.macros.specs.Macro.Action.{call, tag, text}
 use Rattle.macros.specs.Macro.Symbol.{equal, less}
 use Rattle.macros.specs.Formed.{Byte, Bytes, Formed, FormedAction, FormedCall, FormedCommands, FormedMembers, FormedPieces, FormedReplacement, FormedUnit, Letter}
-use Rattle.macros.specs.Read.{Held}
-use Rattle.macros.specs.Read.Held.{nothing}
+use Rattle.macros.specs.Read.{Joinable}
+use Rattle.macros.specs.ReadSoFar.Joinable.{nothing}
 use Rattle.macros.specs.Write.{byte, callBytes, closureBytes, commandsBytes, digits, digitsBy, escapeByte, innerBytes, markOf, nameBytes, signByte, symbolSign}
 use Rattle.macros.specs.Spell.{Before, behind, needsClass, none?}
 use Rattle.macros.specs.Spell.Before.{aRange, aSingle, bracket, tilde}
@@ -83,7 +83,7 @@ module _ (y : Style) where
   whole-members c (range a z ∷ ms) g =
       (alnum-byte a (first-alnum a z (g .0)), (omega arith, (alnum-byte z (second-alnum a z (g .0)), whole-members aRange ms (g .1))))
 
-  whole-unit : (h : Held) (u : PatternUnit) → FormedUnit u → Bytes (unitBytes y h u)
+  whole-unit : (h : Joinable) (u : PatternUnit) → FormedUnit u → Bytes (unitBytes y h u)
   unfolding unitBytes classBytes
   whole-unit h (literal b) g = whole-byte _ b g
   whole-unit h (kind k) g = (omega arith, (omega arith, tt))
@@ -97,7 +97,7 @@ module _ (y : Style) where
   whole-closure oneOrMore = (omega arith, tt)
   whole-closure zeroOrMore = (omega arith, (omega arith, tt))
 
-  whole-pattern : (l ps : List Piece) (h : Held) → FormedPieces (reverseAux l ps) → Bytes (patternBytes y h l)
+  whole-pattern : (l ps : List Piece) (h : Joinable) → FormedPieces (reverseAux l ps) → Bytes (patternBytes y h l)
   unfolding patternBytes pieceBytes
   whole-pattern [] ps h g = tt
   whole-pattern (element u k ∷ l) ps h g =

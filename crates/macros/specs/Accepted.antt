@@ -7,7 +7,7 @@ use Rattle.macros.specs.Bounds.{mostMacros, mostMacroBytes}
 use Rattle.macros.specs.Macro.{Macro, Table}
 use Rattle.macros.specs.Formed.{Octets, Formed}
 use Rattle.macros.specs.Read.{readFile}
-use Rattle.macros.specs.Read.Read.{table}
+use Rattle.macros.specs.ReadFile.Read.{table}
 use Rattle.macros.specs.Spell.{shortest}
 
 -- "some file spells" it: a file that reading takes as this macro alone
@@ -18,6 +18,7 @@ Spelled m = (s : List ℕ) × Octets s × (readFile s ≡ table (m ∷ []))
 abbrev pub Spellable : Macro → Type 0
 Spellable m = Formed m × (length (shortest m) ≤ mostMacroBytes)
 
+-- a claim about each macro of a table
 abbrev pub Each : (Macro → Type 0) → Table → Type 0
 Each P [] = Unit {0}
 Each P (m ∷ ms) = P m × Each P ms

@@ -3,33 +3,37 @@ use mathlib.Core.Path.{_≡_, refl}
 use Prim.Native.Nat.{ℕ, zero, suc}
 use mathlib.Core.List.{List, [], _∷_, _++_}
 use lib.ListN.{replicate}
-use Rattle.macros.specs.Bounds.{mostFileBytes, mostMacros, mostMacroBytes, mostTags, mostLineBytes, letters, mostEntries, mostEntryBytes, mostCounter, mostBudget}
+use Rattle.macros.specs.Bounds.{mostFileBytes, mostMacros, mostMacroBytes, mostTags, mostLineBytes, letters}
+use Rattle.macros.specs.Bounds.{mostEntries, mostEntryBytes, mostCounter, mostBudget}
 use Rattle.macros.specs.Refusals.{hostNumber, lineNumber, fileNumber, workNumber, place}
 use Rattle.macros.specs.Refusals.HostRefusal.{badMemory, badTable, badState, budgetTooLarge}
 use Rattle.macros.specs.Refusals.LineRefusal.{lineTooLong, badByte, badControl}
-use Rattle.macros.specs.Refusals.FileRefusal.{fileTooLong, zeroByte, incomplete, badClass, noUnit, badBrace, badCall, noElement, macroTooLong, tooManyMacros}
+use Rattle.macros.specs.Refusals.FileRefusal.{fileTooLong, zeroByte, incomplete, badClass, noUnit}
+use Rattle.macros.specs.Refusals.FileRefusal.{badBrace, badCall, noElement, macroTooLong, tooManyMacros}
 use Rattle.macros.specs.Refusals.WorkRefusal.{budgetUsedUp, newLineTooLong, tagTooLong, pointerTooHigh, counterTooHigh}
 use Rattle.macros.specs.Refusals.Refusal.{ofHost, ofLine, ofFile, ofWork}
 use Rattle.macros.specs.Read.{readFile, readOnto}
-use Rattle.macros.specs.Read.Read.{refusedAt, table}
+use Rattle.macros.specs.ReadFile.Read.{refusedAt, table}
 use Rattle.macros.specs.Cases.{everything, bytes, shown, sized}
 
--- 01's bounds: the file, the macros, a macro's bytes, the tags, the line, the stacks, their entries, an entry's bytes, the counters, the budget
+-- 01's bounds: file, macros, a macro's bytes, tags, line; stacks, their entries, an entry's bytes, counters, budget
 pub boundNumbers :
-    mostFileBytes ∷ mostMacros ∷ mostMacroBytes ∷ mostTags ∷ mostLineBytes ∷ letters ∷ mostEntries ∷ mostEntryBytes ∷ mostCounter ∷ mostBudget ∷ []
-    ≡ 32768 ∷ 96 ∷ 512 ∷ 99 ∷ 1054 ∷ 26 ∷ 20 ∷ 50 ∷ 999999999 ∷ 1000000 ∷ []
-boundNumbers = refl
+    (mostFileBytes ∷ mostMacros ∷ mostMacroBytes ∷ mostTags ∷ mostLineBytes ∷ [] ≡ 32768 ∷ 96 ∷ 512 ∷ 99 ∷ 1054 ∷ []) ×
+    (letters ∷ mostEntries ∷ mostEntryBytes ∷ mostCounter ∷ mostBudget ∷ [] ≡ 26 ∷ 20 ∷ 50 ∷ 999999999 ∷ 1000000 ∷ [])
+boundNumbers = (refl, refl)
 
 -- 01's numbers of refusals, in its order: the host, whoever sends the line, the table writer, the table at work
 pub refusalNumbers :
     (hostNumber badMemory ∷ hostNumber badTable ∷ hostNumber badState ∷ hostNumber budgetTooLarge ∷ [] ≡ 3 ∷ 1 ∷ 2 ∷ 4 ∷ []) ×
     (lineNumber lineTooLong ∷ lineNumber badByte ∷ lineNumber badControl ∷ [] ≡ 21 ∷ 22 ∷ 23 ∷ []) ×
-    (fileNumber fileTooLong ∷ fileNumber zeroByte ∷ fileNumber incomplete ∷ fileNumber badClass ∷ fileNumber noUnit ∷ [] ≡ 10 ∷ 11 ∷ 12 ∷ 13 ∷ 14 ∷ []) ×
-    (fileNumber badBrace ∷ fileNumber badCall ∷ fileNumber noElement ∷ fileNumber macroTooLong ∷ fileNumber tooManyMacros ∷ [] ≡ 15 ∷ 16 ∷ 17 ∷ 18 ∷ 19 ∷ []) ×
-    (workNumber budgetUsedUp ∷ workNumber newLineTooLong ∷ workNumber tagTooLong ∷ workNumber pointerTooHigh ∷ workNumber counterTooHigh ∷ []
-    ≡ 31 ∷ 32 ∷ 33 ∷ 34 ∷ 35 ∷ [])
+    (fileNumber fileTooLong ∷ fileNumber zeroByte ∷ fileNumber incomplete ∷ fileNumber badClass ∷ fileNumber noUnit ∷ []
+    ≡ 10 ∷ 11 ∷ 12 ∷ 13 ∷ 14 ∷ []) ×
+    (fileNumber badBrace ∷ fileNumber badCall ∷ fileNumber noElement ∷ fileNumber macroTooLong ∷ fileNumber tooManyMacros ∷ []
+    ≡ 15 ∷ 16 ∷ 17 ∷ 18 ∷ 19 ∷ []) ×
+    (workNumber budgetUsedUp ∷ workNumber newLineTooLong ∷ workNumber tagTooLong ∷ [] ≡ 31 ∷ 32 ∷ 33 ∷ []) ×
+    (workNumber pointerTooHigh ∷ workNumber counterTooHigh ∷ [] ≡ 34 ∷ 35 ∷ [])
 unfolding everything
-refusalNumbers = (refl, refl, refl, refl, refl)
+refusalNumbers = (refl, refl, refl, refl, refl, refl)
 
 -- "the place (10 to 19, else 0)"
 pub refusalPlaces :

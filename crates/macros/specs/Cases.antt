@@ -4,25 +4,105 @@ use Prim.Native.Nat.{ℕ}
 use mathlib.Core.List.{List, [], _∷_, _++_}
 use lib.ListN.{length, replicate}
 use Prim.Native.String.{String}
-use Prim.Native.String as Str
 use Prim.Native.Char.{Char, code}
 use Rattle.macros.specs.Macro.{Table, pick, among, within, upper, lower, digit, isRange, markByte, tags, elements, depth}
+pub use Rattle.macros.specs.Quoted.{bytes}
 use Rattle.macros.specs.Formed.{limit, numberFits}
 use Rattle.macros.specs.Refusals.{hostNumber, lineNumber, fileNumber, workNumber, number, place}
-use Rattle.macros.specs.Read.{Read, breaks, escaped, signs, kindDigit, hold, patternEnd, sign, fresh, closes, patternByte, newMember, kept, classEnd, dashes, dashed, membersByte, openedByte, otherwise, andDigit, isSign, signOf, isStill, numberEnd, callByte, isCommand, frontOf, placed, turned, textByte, tagEnd, tagByte, replacementFresh, replacementByte, symbolByte, quoteByte, commandsFresh, commandsByte, partByte, skips, count, taken, step, atEnd, readFrom, firstZero, readOnto, readFile}
-use Rattle.macros.specs.Write.{Written, patternMarks, classMarks, textMarks, escapeByte, byte, digitsBy, digits, writeMember, writeMembers, writeUnit, closureBytes, writePiece, writePattern, signByte, nameBytes, writeText, markOf, innerBytes, callBytes, writeAction, writeReplacement, commandsBytes, symbolSign, written, writeFrom, writeOut}
-use Rattle.macros.specs.Spell.{joins, needs, leavesUnit, leaves, joinsClass, needsClass, none?, behind, spellMember, spellMembers, spellUnit, spellPiece, spellPattern, spellText, isMark, needsText, markIn, leavesMark, spellAction, spellReplacement, shortest}
-use Rattle.macros.specs.Read.Read.{refusedAt, table}
+use Rattle.macros.specs.Read.{Read, breaks, escaped, signs, kindDigit, hold, patternEnd, sign, fresh, closes, patternByte}
+use Rattle.macros.specs.Read.{newMember, membersAtEnd, classEnd, dashes, dashed, membersByte, openedByte, otherwise, andDigit, isSign}
+use Rattle.macros.specs.Read.{signOf, isStill, numberEnd, callByte, isCommand, frontOf, behindCall, turned, textByte, tagEnd, tagByte}
+use Rattle.macros.specs.Read.{replacementFresh, replacementByte, symbolByte, quoteByte, commandsFresh, commandsByte, partByte}
+use Rattle.macros.specs.Read.{skips, count, taken, step, atEnd, readFrom, firstZero, readOnto, readFile}
+use Rattle.macros.specs.Write.{Written, patternMarks, classMarks, textMarks, escapeByte, byte, digitsBy, digits, writeMember}
+use Rattle.macros.specs.Write.{writeMembers, writeUnit, closureBytes, writePiece, writePattern, signByte, nameBytes, writeText}
+use Rattle.macros.specs.Write.{markOf, innerBytes, callBytes, writeAction, writeReplacement, commandsBytes, symbolSign, written}
+use Rattle.macros.specs.Write.{writeFrom, writeOut}
+use Rattle.macros.specs.Spell.{joins, needs, leavesUnit, leaves, joinsClass, needsClass, none?, behind, spellMember, spellMembers}
+use Rattle.macros.specs.Spell.{spellUnit, spellPiece, spellPattern, spellText, isMark, needsText, markIn, leavesMark, spellAction}
+use Rattle.macros.specs.Spell.{spellReplacement, shortest}
+use Rattle.macros.specs.ReadFile.Read.{refusedAt, table}
 use Rattle.macros.specs.Write.Written.{file, refused}
 
--- the name that opens all definitions for a computed case
-unfoldable pub everything : ℕ
-unfolding pick among within upper lower digit isRange markByte tags elements depth limit numberFits hostNumber lineNumber fileNumber workNumber number place breaks escaped signs kindDigit hold patternEnd sign fresh closes patternByte newMember kept classEnd dashes dashed membersByte openedByte otherwise andDigit isSign signOf isStill numberEnd callByte isCommand frontOf placed turned textByte tagEnd tagByte replacementFresh replacementByte symbolByte quoteByte commandsFresh commandsByte partByte skips count taken step atEnd readFrom firstZero readOnto readFile patternMarks classMarks textMarks escapeByte byte digitsBy digits writeMember writeMembers writeUnit closureBytes writePiece writePattern signByte nameBytes writeText markOf innerBytes callBytes writeAction writeReplacement commandsBytes symbolSign written writeFrom writeOut joins needs leavesUnit leaves joinsClass needsClass none? behind spellMember spellMembers spellUnit spellPiece spellPattern spellText isMark needsText markIn leavesMark spellAction spellReplacement shortest
-everything = 0
+-- opens Macro and Formed
+unfoldable pub opensTests : ℕ
+unfolding pick among within upper lower digit isRange markByte tags elements depth limit numberFits
+opensTests = 0
 
-abbrev pub bytes : String → List ℕ
-bytes Str.[] = []
-bytes (Str._∷_ c s) = code c ∷ bytes s
+-- opens Refusals
+unfoldable pub opensNumbers : ℕ
+unfolding hostNumber lineNumber fileNumber workNumber number place
+opensNumbers = 0
+
+-- opens ReadSoFar and ReadPattern
+unfoldable pub opensPattern : ℕ
+unfolding breaks escaped signs kindDigit hold patternEnd sign fresh closes patternByte
+opensPattern = 0
+
+-- opens ReadClass
+unfoldable pub opensClass : ℕ
+unfolding newMember membersAtEnd classEnd dashes dashed membersByte openedByte
+opensClass = 0
+
+-- opens ReadCalls
+unfoldable pub opensCalls : ℕ
+unfolding otherwise andDigit isSign signOf isStill numberEnd callByte isCommand frontOf behindCall turned textByte
+opensCalls = 0
+
+-- opens ReadReplacement and ReadParts
+unfoldable pub opensParts : ℕ
+unfolding tagEnd tagByte replacementFresh replacementByte symbolByte quoteByte commandsFresh commandsByte partByte skips
+opensParts = 0
+
+-- opens ReadFile
+unfoldable pub opensFile : ℕ
+unfolding count taken step atEnd readFrom firstZero readOnto readFile
+opensFile = 0
+
+-- opens Write: marks and numbers
+unfoldable pub opensWritten : ℕ
+unfolding patternMarks classMarks textMarks escapeByte byte digitsBy digits
+opensWritten = 0
+
+-- opens Write: a pattern
+unfoldable pub opensWrittenPattern : ℕ
+unfolding writeMember writeMembers writeUnit closureBytes writePiece writePattern
+opensWrittenPattern = 0
+
+-- opens Write: calls and a replacement
+unfoldable pub opensWrittenCalls : ℕ
+unfolding signByte nameBytes writeText markOf innerBytes callBytes writeAction writeReplacement commandsBytes
+opensWrittenCalls = 0
+
+-- opens Write: a macro and a file
+unfoldable pub opensWrittenFile : ℕ
+unfolding symbolSign written writeFrom writeOut
+opensWrittenFile = 0
+
+-- opens Spell: a pattern
+unfoldable pub opensSpelled : ℕ
+unfolding joins needs leavesUnit leaves joinsClass needsClass none? behind spellMember spellMembers spellUnit spellPiece spellPattern
+opensSpelled = 0
+
+-- opens Spell: a macro
+unfoldable pub opensSpelledMacro : ℕ
+unfolding spellText isMark needsText markIn leavesMark spellAction spellReplacement shortest
+opensSpelledMacro = 0
+
+-- opens reading
+unfoldable pub opensReading : ℕ
+unfolding opensTests opensNumbers opensPattern opensClass opensCalls opensParts opensFile
+opensReading = 0
+
+-- opens writing out and spelling
+unfoldable pub opensWriting : ℕ
+unfolding opensWritten opensWrittenPattern opensWrittenCalls opensWrittenFile opensSpelled opensSpelledMacro
+opensWriting = 0
+
+-- opens all definitions, for a computed case
+unfoldable pub everything : ℕ
+unfolding opensReading opensWriting
+everything = 0
 
 -- a refusal's number and place
 abbrev pub shown : Read → ℕ × ℕ

@@ -1,5 +1,6 @@
--- What is promised of where reading refuses (01, "Then the first byte where a fault shows"): what stands behind the fault's byte does not matter.
--- FaultByItsBytes is false with the edits fault_first_p (the first p bytes suffice), fault_any_number (10 and 11 too) and fault_ahead (a place that counts bytes behind).
+-- What is promised of where reading refuses (01, "Then the first byte where a fault shows"): what stands behind does not matter.
+-- FaultByItsBytes is false with the edits fault_first_p (the first p bytes suffice), fault_any_number (10 and 11 too)
+-- and fault_ahead (a place that counts bytes behind).
 use Prim.Native.Nat.{ℕ, suc, _≤_}
 use mathlib.Core.Path.{_≡_}
 use mathlib.Core.List.{List, [], _∷_}
@@ -8,7 +9,7 @@ use Rattle.macros.specs.Bounds.{mostFileBytes}
 use Rattle.macros.specs.Refusals.{FileRefusal, fileNumber}
 use Rattle.macros.specs.Macro.{Table}
 use Rattle.macros.specs.Read.{readOnto}
-use Rattle.macros.specs.Read.Read.{refusedAt}
+use Rattle.macros.specs.ReadFile.Read.{refusedAt}
 
 -- no byte is 0
 abbrev pub NoZero : List ℕ → Type 0

@@ -13,6 +13,7 @@ use Rattle.macros.specs.Macro.Piece.{element, start, end, left, right}
 use Rattle.macros.specs.Macro.Call.{insert, storeTag, setTo, storeText, setIncrement}
 use Rattle.macros.specs.Macro.Action.{text, tag, call}
 
+-- n is one of a to z
 abbrev pub Between : ℕ → ℕ → ℕ → Type 0
 Between a z n = (a ≤ n) × (n ≤ z)
 
@@ -20,6 +21,7 @@ Between a z n = (a ≤ n) × (n ≤ z)
 abbrev pub Byte : ℕ → Type 0
 Byte b = Between 1 255 b
 
+-- bytes, none of them 0
 abbrev pub Bytes : List ℕ → Type 0
 Bytes [] = Unit {0}
 Bytes (b ∷ s) = Byte b × Bytes s
@@ -33,10 +35,12 @@ Octets (b ∷ s) = (b ≤ 255) × Octets s
 abbrev pub Letter : ℕ → Type 0
 Letter i = Between 97 122 i
 
+-- a member is a byte other than 0, or a range's ends are in order
 abbrev pub FormedMember : Member → Type 0
 FormedMember (single c) = Byte c
 FormedMember (range a z) = (isRange a z ≡ true)
 
+-- each member is well formed
 abbrev pub FormedMembers : List Member → Type 0
 FormedMembers [] = Unit {0}
 FormedMembers (m ∷ ms) = FormedMember m × FormedMembers ms
@@ -84,15 +88,18 @@ Named (setTo m i n) = Letter i
 Named (storeText i v t) = Letter i × Bytes t × (length t ≤ mostEntryBytes)
 Named (setIncrement i n) = Letter i
 
+-- a call is well formed behind a pattern of k tags
 pub record FormedCall (k : ℕ) (c : Call) : Type 0 where
   pub names : Named c
   pub numbers : numberFits k c ≡ true
 
+-- a part of a replacement, behind a pattern of k tags
 abbrev pub FormedAction : ℕ → Action → Type 0
 FormedAction k (text b) = Byte b
 FormedAction k (tag n) = Between 1 k n
 FormedAction k (call c) = FormedCall k c
 
+-- each part of a replacement is well formed
 abbrev pub FormedReplacement : ℕ → List Action → Type 0
 FormedReplacement k [] = Unit {0}
 FormedReplacement k (a ∷ as₁) = FormedAction k a × FormedReplacement k as₁
@@ -105,10 +112,12 @@ Commands (setTo m i n) = Unit {0}
 Commands (storeText i v t) = Unit {0}
 Commands (setIncrement i n) = Unit {0}
 
+-- each command is one, and well formed
 abbrev pub FormedCommands : ℕ → List Call → Type 0
 FormedCommands k [] = Unit {0}
 FormedCommands k (c ∷ cs) = (Commands c × FormedCall k c) × FormedCommands k cs
 
+-- a macro is well formed
 pub record Formed (m : Macro) : Type 0 where
   pub pattern : FormedPattern (reverse (m .pattern))
   pub replacement : FormedReplacement (tags (reverse (m .pattern))) (m .replacement)

@@ -2,6 +2,14 @@ pub mod Bounds
 pub mod Refusals
 pub mod Macro
 pub mod Formed
+pub mod Quoted
+pub mod ReadSoFar
+pub mod ReadCalls
+pub mod ReadReplacement
+pub mod ReadClass
+pub mod ReadPattern
+pub mod ReadParts
+pub mod ReadFile
 pub mod Read
 pub mod Write
 pub mod Spell

@@ -3,6 +3,7 @@ use Prim.Native.Nat.{ℕ, suc, _-_}
 use mathlib.Core.Bool.{Bool, true, false, _&&_, _||_}
 use mathlib.Core.List.{List, [], _∷_}
 use lib.Dec.{leb, eqb}
+use Prim.Native.Char.{code}
 
 -- none; `*`, one or more; `*-`, zero or more
 pub data Closure : Type 0 where
@@ -72,25 +73,31 @@ Table = List Macro
 
 -- TESTS THAT THE OTHER DEFINITIONS SHARE
 
+-- a where the test holds, else b
 unfoldable pub pick {ℓ} : {A : Type ℓ} → Bool → A → A → A
 pick true a b = a
 pick false a b = b
 
+-- the byte is in the list
 unfoldable pub among : List ℕ → ℕ → Bool
 among [] b = false
 among (x ∷ xs) b = eqb b x || among xs b
 
+-- the byte is one of a to z
 unfoldable pub within : ℕ → ℕ → ℕ → Bool
 within a z b = leb a b && leb b z
 
+-- `A` to `Z`
 unfoldable pub upper : ℕ → Bool
-upper = within 65 90
+upper = within (code "A") (code "Z")
 
+-- `a` to `z`
 unfoldable pub lower : ℕ → Bool
-lower = within 97 122
+lower = within (code "a") (code "z")
 
+-- `0` to `9`
 unfoldable pub digit : ℕ → Bool
-digit = within 48 57
+digit = within (code "0") (code "9")
 
 -- "Range ends are both lower, both upper or both digits, rising or equal."
 unfoldable pub isRange : ℕ → ℕ → Bool
@@ -98,8 +105,8 @@ isRange a z = (digit a && digit z || (upper a && upper z || lower a && lower z))
 
 -- the byte of a mark
 unfoldable pub markByte : Mark → ℕ
-markByte stack = 38
-markByte counter = 35
+markByte stack = code "&"
+markByte counter = code "#"
 
 -- the tags of a pattern, or of a part of one, in either order
 unfoldable pub tags : List Piece → ℕ

@@ -1,12 +1,13 @@
 -- What is promised of reading (01, part 2, and `$MACRO` of part 6).
--- It rules out the edits range_falls (a falling range is read), tag_past (a tag that the pattern has not is read) and older_lost (the older macros are lost).
+-- It rules out the edits range_falls (a falling range is read), tag_past (a tag that the pattern has not is read)
+-- and older_lost (the older macros are lost).
 use Prim.Native.Nat.{ℕ}
 use mathlib.Core.Path.{_≡_}
 use mathlib.Core.List.{List, _++_}
 use Rattle.macros.specs.Macro.{Table}
 use Rattle.macros.specs.Formed.{Octets}
 use Rattle.macros.specs.Read.{readOnto}
-use Rattle.macros.specs.Read.Read.{table}
+use Rattle.macros.specs.ReadFile.Read.{table}
 use Rattle.macros.specs.Accepted.{Accepted}
 
 -- the table ms that reading a file onto a table `older` gives

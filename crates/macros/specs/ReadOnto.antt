@@ -1,5 +1,7 @@
--- What is promised of reading onto a table (01, 19: "the 97th macro's first quote, those of the table counted with those that `$MACRO` reads").
--- OntoIsAppending rules out the edit older_lost (the older macros are lost), and is false with sum_alone (the file's macros alone are counted) and sum_97 (19 a macro late).
+-- What is promised of reading onto a table (01, 19: "the 97th macro's first quote, those of the table counted
+-- with those that `$MACRO` reads").
+-- OntoIsAppending rules out the edit older_lost (the older macros are lost), and is false with sum_alone
+-- (the file's macros alone are counted) and sum_97 (19 a macro late).
 use Prim.Native.Nat.{ℕ, _+_, _≤_}
 use mathlib.Core.Path.{_≡_}
 use mathlib.Core.List.{List, [], _∷_, _++_}
@@ -9,7 +11,7 @@ use Rattle.macros.specs.Refusals.{FileRefusal}
 use Rattle.macros.specs.Refusals.FileRefusal.{tooManyMacros}
 use Rattle.macros.specs.Macro.{Table}
 use Rattle.macros.specs.Read.{readFile, readOnto}
-use Rattle.macros.specs.Read.Read.{refusedAt, table}
+use Rattle.macros.specs.ReadFile.Read.{refusedAt, table}
 use Rattle.macros.specs.FirstFault.{Plain}
 
 -- the macro number j + 1 of a file, counted from 1, begins at place p: the bytes before are a file of j macros, and a quote follows

@@ -14,7 +14,7 @@ use Rattle.macros.specs.Macro.Call.{insert, storeTag, setTo, storeText, 
 use Rattle.macros.specs.Macro.Action.{text, tag, call}
 use Rattle.macros.specs.Macro.Symbol.{equal, less}
 use Rattle.macros.specs.Read.{readFile}
-use Rattle.macros.specs.Read.Read.{table}
+use Rattle.macros.specs.ReadFile.Read.{table}
 use Rattle.macros.specs.Cases.{everything, bytes, Case, Hold}
 use Rattle.macros.specs.Cases.Case.{_is_at_, _becomes_, _shortensTo_, long}
 
@@ -34,7 +34,9 @@ pub asData :
           ∷ element (class true (range 98 100 ∷ single 120 ∷ [])) oneOrMore
           ∷ element (callOf stack 115) once ∷ element (callOf counter 110) once ∷ end ∷ [];
       symbol = less;
-      replacement = text 99 ∷ tag 1 ∷ call (insert stack 115 still) ∷ call (storeTag 1 116 (before plus)) ∷ call (insert counter 110 (after minus)) ∷ [];
+      replacement =
+          text 99 ∷ tag 1 ∷ call (insert stack 115 still) ∷ call (storeTag 1 116 (before plus))
+          ∷ call (insert counter 110 (after minus)) ∷ [];
       commands = setTo stack 115 20 ∷ storeText 116 (after minus) (117 ∷ 118 ∷ []) ∷ setTo counter 110 7 ∷ setIncrement 110 3 ∷ [];
     } ∷ [])
 unfolding everything
@@ -235,7 +237,8 @@ ranges = refl
 
 -- REPLACEMENT
 
--- `{n}`, calls, and every other byte a literal; a number is taken by its value; 16 at what cannot be, or at the `}` of a tag that the pattern has not
+-- `{n}`, calls, and every other byte a literal; a number is taken by its value;
+-- 16 at what cannot be, or at the `}` of a tag that the pattern has not
 pub tagNumbers : Hold (
     ("'{a}'='{001}}*-?[~]^$(\"';" becomes "'{a}'='{1}}*-?[~]^$(\"';")
     ∷ ("'{a}'='{2}';" is 16 at 9)

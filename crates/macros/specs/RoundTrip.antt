@@ -1,5 +1,6 @@
 -- What is promised of writing out (01, part 7).
--- It rules out the edits pattern_mark, class_mark and text_mark (a byte is written without its `\`) and written_513 (a macro of 513 bytes is written).
+-- It rules out the edits pattern_mark, class_mark and text_mark (a byte is written without its `\`)
+-- and written_513 (a macro of 513 bytes is written).
 use Prim.Native.Nat.{ℕ, _≤_}
 use mathlib.Core.Path.{_≡_}
 use mathlib.Core.List.{List}
@@ -8,7 +9,7 @@ use Rattle.macros.specs.Bounds.{mostFileBytes, mostMacroBytes}
 use Rattle.macros.specs.Macro.{Macro, Table}
 use Rattle.macros.specs.Formed.{Bytes, Formed}
 use Rattle.macros.specs.Read.{readFile}
-use Rattle.macros.specs.Read.Read.{table}
+use Rattle.macros.specs.ReadFile.Read.{table}
 use Rattle.macros.specs.Write.{written, writeOut}
 use Rattle.macros.specs.Write.Written.{file}
 use Rattle.macros.specs.Accepted.{Each, Accepted}
@@ -28,6 +29,7 @@ pub record WrittenWell (ms : Table) (s : List ℕ) : Type 0 where
 abbrev pub RoundTrip : Type 0
 RoundTrip = (ms : Table) (s : List ℕ) → Accepted ms → writeOut ms ≡ file s → WrittenWell ms s
 
--- Two well-formed macros that are written alike are the same macro, however long they are. (The same macro is always written alike: `written` is a function.)
+-- Two well-formed macros that are written alike are the same macro, however long they are.
+-- (The same macro is always written alike: `written` is a function.)
 abbrev pub WrittenOnce : Type 0
 WrittenOnce = (m n : Macro) → Formed m → Formed n → written m ≡ written n → m ≡ n

@@ -4,7 +4,8 @@ use Prim.Native.Nat.{ℕ, _+_}
 use mathlib.Core.Bool.{Bool, true, false, not, _&&_, _||_}
 use mathlib.Core.List.{List, [], _∷_, _++_}
 use mathlib.Core.Option.{Option, none, some}
-use lib.Dec.{eqb}
+use Prim.Native.Char.{code}
+use Rattle.macros.specs.Quoted.{bytes, _is_}
 use Rattle.macros.specs.Macro.{Member, Mark, PatternUnit, Piece, Action, Macro, pick, among, markByte}
 use Rattle.macros.specs.Macro.Closure.{once, oneOrMore, zeroOrMore}
 use Rattle.macros.specs.Macro.Member.{single, range}
@@ -12,32 +13,33 @@ use Rattle.macros.specs.Macro.Mark.{stack, counter}
 use Rattle.macros.specs.Macro.PatternUnit.{literal, kind, class, callOf}
 use Rattle.macros.specs.Macro.Piece.{element, start, end, left, right}
 use Rattle.macros.specs.Macro.Action.{text, tag, call}
-use Rattle.macros.specs.Read.{Held, signs, kindDigit, hold}
-use Rattle.macros.specs.Read.Held.{nothing, unit, starred, query, marked}
+use Rattle.macros.specs.Read.{Joinable, signs, kindDigit, hold}
+use Rattle.macros.specs.ReadSoFar.Joinable.{nothing, unit, starred, query, marked}
 use Rattle.macros.specs.Write.{byte, digits, closureBytes, callBytes, commandsBytes, symbolSign}
 
 -- PATTERN
 
 -- the byte would join what stands before it: `-` a `*`; 1 to 6 a `?`; `(` a `&` or `#`
-unfoldable pub joins : Held → ℕ → Bool
+unfoldable pub joins : Joinable → ℕ → Bool
 joins nothing b = false
 joins (unit u) b = false
-joins (starred u) b = eqb b 45
+joins (starred u) b = b is "-"
 joins query b = kindDigit b
-joins (marked m) b = eqb b 40
+joins (marked m) b = b is "("
 
 -- a literal needs its `\`: always `$ ^ * [ { } / \ ' ;` and line feed
-unfoldable pub needs : Held → ℕ → Bool
-needs h b = among (47 ∷ signs) b || joins h b
+unfoldable pub needs : Joinable → ℕ → Bool
+needs h b = among (code "/" ∷ signs) b || joins h b
 
--- what a piece leaves for the next byte to join
-unfoldable pub leavesUnit : PatternUnit → Held
+-- what a unit without a closure leaves for the next byte to join
+unfoldable pub leavesUnit : PatternUnit → Joinable
 leavesUnit (literal b) = hold b
 leavesUnit (kind n) = unit (kind n)
 leavesUnit (class neg ms) = unit (class neg ms)
 leavesUnit (callOf m i) = unit (callOf m i)
 
-unfoldable pub leaves : Piece → Held
+-- what a piece leaves for the next byte to join
+unfoldable pub leaves : Piece → Joinable
 leaves (element u once) = leavesUnit u
 leaves (element u oneOrMore) = starred u
 leaves (element u zeroOrMore) = nothing
@@ -52,51 +54,57 @@ pub data Before : Type 0 where
 
 -- the byte would not be a member: a leading `~`, or, behind a single member, a `-` that is not the last member
 unfoldable pub joinsClass : Before → Bool → ℕ → Bool
-joinsClass bracket isLast b = eqb b 126
+joinsClass bracket isLast b = b is "~"
 joinsClass tilde isLast b = false
-joinsClass aSingle isLast b = eqb b 45 && not isLast
+joinsClass aSingle isLast b = b is "-" && not isLast
 joinsClass aRange isLast b = false
 
 -- the bytes that need their `\` anywhere in a class: `] ' ; LF \`
 abbrev pub classSigns : List ℕ
-classSigns = 93 ∷ 39 ∷ 59 ∷ 10 ∷ 92 ∷ []
+classSigns = bytes "]';\n\\"
 
 -- a member needs its `\`
 unfoldable pub needsClass : Before → Bool → ℕ → Bool
 needsClass f isLast b = among classSigns b || joinsClass f isLast b
 
+-- no member follows
 unfoldable pub none? : List Member → Bool
 none? [] = true
 none? (m ∷ ms) = false
 
+-- what stands before the next member
 unfoldable pub behind : Member → Before
 behind (single a) = aSingle
 behind (range a z) = aRange
 
+-- a member, behind what stands before it
 unfoldable pub spellMember : Before → Bool → Member → List ℕ
 spellMember f isLast (single a) = byte (needsClass f isLast a) a
-spellMember f isLast (range a z) = a ∷ 45 ∷ z ∷ []
+spellMember f isLast (range a z) = a ∷ code "-" ∷ z ∷ []
 
+-- the members and the `]`
 unfoldable pub spellMembers : Before → List Member → List ℕ
-spellMembers f [] = 93 ∷ []
+spellMembers f [] = code "]" ∷ []
 spellMembers f (m ∷ ms) = spellMember f (none? ms) m ++ spellMembers (behind m) ms
 
-unfoldable pub spellUnit : Held → PatternUnit → List ℕ
+-- a unit, behind what may still be joined
+unfoldable pub spellUnit : Joinable → PatternUnit → List ℕ
 spellUnit h (literal b) = byte (needs h b) b
-spellUnit h (kind n) = 63 ∷ (48 + n) ∷ []
-spellUnit h (class true ms) = 91 ∷ 126 ∷ spellMembers tilde ms
-spellUnit h (class false ms) = 91 ∷ spellMembers bracket ms
-spellUnit h (callOf m i) = markByte m ∷ 40 ∷ i ∷ 41 ∷ []
+spellUnit h (kind n) = code "?" ∷ (code "0" + n) ∷ []
+spellUnit h (class true ms) = code "[" ∷ code "~" ∷ spellMembers tilde ms
+spellUnit h (class false ms) = code "[" ∷ spellMembers bracket ms
+spellUnit h (callOf m i) = markByte m ∷ code "(" ∷ i ∷ code ")" ∷ []
 
-unfoldable pub spellPiece : Held → Piece → List ℕ
+-- an element or a brace, behind what may still be joined
+unfoldable pub spellPiece : Joinable → Piece → List ℕ
 spellPiece h (element u c) = spellUnit h u ++ closureBytes c
-spellPiece h start = 94 ∷ []
-spellPiece h end = 36 ∷ []
-spellPiece h left = 123 ∷ []
-spellPiece h right = 125 ∷ []
+spellPiece h start = code "^" ∷ []
+spellPiece h end = code "$" ∷ []
+spellPiece h left = code "{" ∷ []
+spellPiece h right = code "}" ∷ []
 
 -- the pieces, behind what may still be joined
-unfoldable pub spellPattern : Held → List Piece → List ℕ
+unfoldable pub spellPattern : Joinable → List Piece → List ℕ
 spellPattern h [] = []
 spellPattern h (p ∷ ps) = spellPiece h p ++ spellPattern (leaves p) ps
 
@@ -104,38 +112,43 @@ spellPattern h (p ∷ ps) = spellPiece h p ++ spellPattern (leaves p) ps
 
 -- the bytes that need their `\` in a call's text: `/ : ' ; LF \`
 abbrev pub callTextSigns : List ℕ
-callTextSigns = 47 ∷ 58 ∷ 39 ∷ 59 ∷ 10 ∷ 92 ∷ []
+callTextSigns = bytes "/:';\n\\"
 
+-- a call's text
 unfoldable pub spellText : List ℕ → List ℕ
 spellText [] = []
 spellText (b ∷ t) = byte (among callTextSigns b) b ++ spellText t
 
+-- whether a bare `&` or `#` stands before
 unfoldable pub isMark : Option Mark → Bool
 isMark none = false
 isMark (some m) = true
 
 -- the bytes that need their `\` anywhere in a replacement: `/ ' ; LF \ {`
 abbrev pub textSigns : List ℕ
-textSigns = 47 ∷ 39 ∷ 59 ∷ 10 ∷ 92 ∷ 123 ∷ []
+textSigns = bytes "/';\n\\{"
 
 -- a literal of a replacement needs its `\`; so does `(` behind `&` or `#`
 unfoldable pub needsText : Option Mark → ℕ → Bool
-needsText a b = among textSigns b || eqb b 40 && isMark a
+needsText a b = among textSigns b || b is "(" && isMark a
 
 -- the `&` or `#` that a byte is
 unfoldable pub markIn : ℕ → Option Mark
-markIn b = pick (eqb b 38) (some stack) (pick (eqb b 35) (some counter) none)
+markIn b = pick (b is "&") (some stack) (pick (b is "#") (some counter) none)
 
+-- the bare `&` or `#` that an action leaves
 unfoldable pub leavesMark : Action → Option Mark
 leavesMark (text b) = markIn b
 leavesMark (tag n) = none
 leavesMark (call c) = none
 
+-- a part of a replacement, behind a bare `&` or `#` or not
 unfoldable pub spellAction : Option Mark → Action → List ℕ
 spellAction a (text b) = byte (needsText a b) b
-spellAction a (tag n) = 123 ∷ (digits n ++ (125 ∷ []))
+spellAction a (tag n) = code "{" ∷ (digits n ++ (code "}" ∷ []))
 spellAction a (call c) = callBytes spellText c
 
+-- a replacement, behind a bare `&` or `#` or not
 unfoldable pub spellReplacement : Option Mark → List Action → List ℕ
 spellReplacement a [] = []
 spellReplacement a (x ∷ xs) = spellAction a x ++ spellReplacement (leavesMark x) xs
@@ -143,5 +156,6 @@ spellReplacement a (x ∷ xs) = spellAction a x ++ spellReplacement (leavesMark 
 -- the shortest spelling, from the first quote to the `;`
 unfoldable pub shortest : Macro → List ℕ
 shortest m =
-    39 ∷ (spellPattern nothing (m .pattern)
-    ++ (39 ∷ symbolSign (m .symbol) ∷ 39 ∷ (spellReplacement none (m .replacement) ++ (39 ∷ (commandsBytes spellText (m .commands) ++ (59 ∷ []))))))
+    code "'" ∷ (spellPattern nothing (m .pattern)
+    ++ (code "'" ∷ symbolSign (m .symbol) ∷ code "'" ∷ (spellReplacement none (m .replacement)
+    ++ (code "'" ∷ (commandsBytes spellText (m .commands) ++ (code ";" ∷ []))))))

@@ -1,6 +1,7 @@
--- What is promised of what writing out refuses (01, part 7: "The first byte that makes a macro longer than 512 gives 18, the 32,769th of the file 10,
--- whichever comes first (18 if the same); the place is that byte's").
--- WritesWhole rules out the edits place_513 (18 stands one byte late) and ten_first (10 on a tie), and is false with last_513 (a later macro's 18).
+-- What is promised of what writing out refuses (01, part 7: "The first byte that makes a macro longer than 512 gives 18,
+-- the 32,769th of the file 10, whichever comes first (18 if the same); the place is that byte's").
+-- WritesWhole rules out the edits place_513 (18 stands one byte late) and ten_first (10 on a tie),
+-- and is false with last_513 (a later macro's 18).
 use Prim.Native.Nat.{ℕ, _+_, _<_, _≤_}
 use mathlib.Core.Path.{_≡_}
 use mathlib.Core.List.{List, [], _∷_, _++_}
@@ -32,7 +33,8 @@ pub data WritesWell (ms : Table) : Written → Type 0 where
   -- 18 at the least of the 513th bytes, if that is at most 32,768
   long : {p : ℕ} → TooLongAt ms p → p ≤ mostFileBytes → ((q : ℕ) → TooLongAt ms q → p ≤ q) → WritesWell ms (refused macroTooLong p)
   -- 10 at place 32,768, the 32,769th byte, if every 513th byte of a macro stands behind it
-  full : mostFileBytes < length (wholeText ms) → ((q : ℕ) → TooLongAt ms q → mostFileBytes < q) → WritesWell ms (refused fileTooLong mostFileBytes)
+  full : mostFileBytes < length (wholeText ms) → ((q : ℕ) → TooLongAt ms q → mostFileBytes < q)
+      → WritesWell ms (refused fileTooLong mostFileBytes)
 
 -- Of these three exactly one is so of a table, and it is the answer.
 abbrev pub WritesWhole : Type 0

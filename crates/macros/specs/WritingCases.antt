@@ -6,7 +6,7 @@ use lib.ListN.{length, replicate}
 use Rattle.macros.specs.Macro.{Table}
 use Rattle.macros.specs.Refusals.{fileNumber}
 use Rattle.macros.specs.Read.{Read, readFile}
-use Rattle.macros.specs.Read.Read.{refusedAt, table}
+use Rattle.macros.specs.ReadFile.Read.{refusedAt, table}
 use Rattle.macros.specs.Write.{Written, writeFrom, writeOut}
 use Rattle.macros.specs.Write.Written.{file, refused}
 use Rattle.macros.specs.Cases.{everything, stretched, sized, Case, Hold}

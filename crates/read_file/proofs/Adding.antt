@@ -11,8 +11,8 @@ use borrow.Author.Tests.{le-ltb}
 use Rattle.macros.specs.Refusals.FileRefusal.{tooManyMacros}
 use Rattle.macros.specs.Macro.{Macro, Table, pick}
 use Rattle.macros.specs.Read.{Read, step, readFrom}
-use Rattle.macros.specs.Read.Reader.{between}
-use Rattle.macros.specs.Read.Read.{refusedAt}
+use Rattle.macros.specs.ReadFile.Reader.{between}
+use Rattle.macros.specs.ReadFile.Read.{refusedAt}
 use Rattle.form_table.specs.Form.{slotBytes, body, slot, slots}
 use Rattle.form_items.specs.Items.{Wrote}
 use Rattle.form_table.proofs.Actions.{slot-length}

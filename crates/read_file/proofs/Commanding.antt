@@ -12,11 +12,11 @@ use borrow.Author.Tests.{ne-eqb}
 use Rattle.macros.specs.Refusals.FileRefusal.{incomplete}
 use Rattle.macros.specs.Macro.{Macro, Mark, Action, Call, pick, markByte, tags}
 use Rattle.macros.specs.Macro.Mark.{stack, counter}
-use Rattle.macros.specs.Read.{Part, Front, Place, partByte, skips, commandsByte, commandsFresh, isCommand, frontOf, placed}
-use Rattle.macros.specs.Read.Part.{calling, commands}
-use Rattle.macros.specs.Read.Place.{asCommand}
-use Rattle.macros.specs.Read.Phase.{begun}
-use Rattle.macros.specs.Read.Step.{on, stop}
+use Rattle.macros.specs.Read.{Part, Front, CallSite, partByte, skips, commandsByte, commandsFresh, isCommand, frontOf, behindCall}
+use Rattle.macros.specs.ReadSoFar.Part.{calling, commands}
+use Rattle.macros.specs.ReadSoFar.CallSite.{asCommand}
+use Rattle.macros.specs.ReadSoFar.Phase.{begun}
+use Rattle.macros.specs.ReadSoFar.Step.{on, stop}
 use Rattle.form_table.specs.Form.{callsItems, callItems}
 use Rattle.read_scan.specs.Scan.{run, Here, Passes, Reached}
 use Rattle.form_items.specs.Items.{Wrote}
@@ -152,7 +152,7 @@ module _ {s : List ℕ} {a p : ℕ} (old out : List ℕ) (n k : ℕ) (c : Bool) 
     begins h f l cs ms = there f l cs ms ∙ here-on (command-byte .found .1) ms (commands (some (markOf c)) f l cs) (calling (asCommand f l cs) (begun (markOf c))) (λ q o. refl) (mark-call (markOf c) f l cs b h)
 
     pub command-call : b ≡ 40 → (w : Ended) → CalledFrom s a (q + 1) old out n (markOf c) true k w → CommandFrom s a p old out n k w
-    unfolding isCommand frontOf placed
+    unfolding isCommand frontOf behindCall
     command-call h (Upto z e′) d = (
       omega (arith, d .further, command-byte .found .0),
       does-one (d .call) (d .wrote) (d .used) (omega (arith, d .room, d .further, command-byte .found .0)) (d .reached)

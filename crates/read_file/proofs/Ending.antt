@@ -16,10 +16,10 @@ use Rattle.macros.specs.Macro.Mark.{stack, counter}
 use Rattle.macros.specs.Macro.Move.{still, before, after}
 use Rattle.macros.specs.Macro.Call.{insert, storeTag, setTo, storeText, setIncrement}
 use Rattle.macros.specs.Formed.{numberFits, limit}
-use Rattle.macros.specs.Read.{Part, Place, Phase, callByte, isCommand, frontOf, placed, isSign, signOf, isStill, breaks, numberEnd as closing}
-use Rattle.macros.specs.Read.Part.{calling, callText}
-use Rattle.macros.specs.Read.Phase.{begun, signed, named, equals, increment, tagged, comma, tagSigned, tagNamed, texted}
-use Rattle.macros.specs.Read.Turn.{into, textOf, closed, wrong}
+use Rattle.macros.specs.Read.{Part, CallSite, Phase, callByte, isCommand, frontOf, behindCall, isSign, signOf, isStill, breaks, numberEnd as closing}
+use Rattle.macros.specs.ReadSoFar.Part.{calling, callText}
+use Rattle.macros.specs.ReadSoFar.Phase.{begun, signed, named, equals, increment, tagged, comma, tagSigned, tagNamed, texted}
+use Rattle.macros.specs.ReadCalls.Turn.{into, textOf, closed, wrong}
 use Rattle.read_scan.specs.Scan.MacroRead.{refusedAt}
 use Rattle.form_bytes.specs.Fours.{four}
 use Rattle.form_table.specs.Form.{callItems, moveCode}
@@ -43,7 +43,7 @@ use Rattle.form_items.proofs.Writing.{wrote-more}
 use Rattle.read_file.proofs.Naming.{turn-closed, turn-unfit, call-next, call-none, here-wrong, here-into}
 
 -- a call read further
-pub ends-from : (s : List ℕ) (a p p′ : ℕ) (old out : List ℕ) (n x x′ : ℕ) (cmd : Bool) (k : ℕ) (F G : Place → Part) (r : Ended)
+pub ends-from : (s : List ℕ) (a p p′ : ℕ) (old out : List ℕ) (n x x′ : ℕ) (cmd : Bool) (k : ℕ) (F G : CallSite → Part) (r : Ended)
     → p ≤ p′ → x′ ≤ x + 2 * (p′ - p) → Comes s a cmd k F p G p′ → Ends s a p′ old out n x′ cmd k G r → Ends s a p old out n x cmd k F r
 ends-from s a p p′ old out n x x′ cmd k F G (Upto q e) h j g y =
     record {
@@ -57,7 +57,7 @@ ends-from s a p p′ old out n x x′ cmd k F G (Upto q e) h j g y =
     }
 ends-from s a p p′ old out n x x′ cmd k F G (NoEnd f q) h j g y = (y .0, λ pl u v ms. g pl u v ms ∙ y .1 pl u v ms)
 
-module _ (s : List ℕ) (a p : ℕ) (old out : List ℕ) (n x : ℕ) (cmd : Bool) (k : ℕ) (F : Place → Part) {q : ℕ} (ph : Phase) (g : Comes s a cmd k F p (λ pl. calling pl ph) q) where
+module _ (s : List ℕ) (a p : ℕ) (old out : List ℕ) (n x : ℕ) (cmd : Bool) (k : ℕ) (F : CallSite → Part) {q : ℕ} (ph : Phase) (g : Comes s a cmd k F p (λ pl. calling pl ph) q) where
   -- no byte more
   pub ends-none : {r : Next} {f : Fault} {v : ℕ} {w : Ended} → Calls s a q r → r ≡ NoByte f v → w ≡ nextEnd r → Ends s a p old out n x cmd k F w
   ends-none {r} {f} {v} y e i =
@@ -87,7 +87,7 @@ module _ (s : List ℕ) (a p : ℕ) (old out : List ℕ) (n x : ℕ) (cmd : Bool
           room = m;
           further = omega arith;
           reached = reached-behind (y .stands);
-          answer = λ pl u v ms. g pl u v ms ∙ here-on y ms (calling pl ph) (placed pl d) (λ q o. refl) (turn-closed pl ph d c (rw u e) (rw v h));
+          answer = λ pl u v ms. g pl u v ms ∙ here-on y ms (calling pl ph) (behindCall pl d) (λ q o. refl) (turn-closed pl ph d c (rw u e) (rw v h));
         }
 
 -- NUMBERS
@@ -292,7 +292,7 @@ module _ {s : List ℕ} {a p b : ℕ} (x : Here s a p b) where
       (omega (arith, t .there), λ w pl ms. here-wrong pl (tagged w) ms x f g (tag-stray (isCommand pl) w b h e) i)
 
   module _ (e : b ≡ 44) {r : Next} (y : Calls s a (p + 1) r) where
-    at-comma : (w : ℕ) (pl : Place) (ms : List Macro) → run s a ms false p (calling pl (tagged w)) ≡ run s a ms false (p + 1) (calling pl (comma w))
+    at-comma : (w : ℕ) (pl : CallSite) (ms : List Macro) → run s a ms false p (calling pl (tagged w)) ≡ run s a ms false (p + 1) (calling pl (comma w))
     at-comma w pl ms = here-into pl (tagged w) ms x (comma w) (tag-comma (isCommand pl) w b e)
 
     pub tag-none : {f : Fault} {q : ℕ} {z : Name} → r ≡ NoByte f q → z ≡ nextName r → TagNaming s a p z
@@ -304,7 +304,7 @@ module _ {s : List ℕ} {a p b : ℕ} (x : Here s a p b) where
       pub tag-byte : Calls s a (p + 1) (Byte c q)
       tag-byte = rw i at y
 
-      behind : (w : ℕ) (pl : Place) (ms : List Macro) → run s a ms false p (calling pl (tagged w)) ≡ run s a ms false q (calling pl (comma w))
+      behind : (w : ℕ) (pl : CallSite) (ms : List Macro) → run s a ms false p (calling pl (tagged w)) ≡ run s a ms false q (calling pl (comma w))
       behind w pl ms = at-comma w pl ms ∙ call-next pl (comma w) ms tag-byte
 
       pub tag-named : (w : Name) → Naming s a q c true w → TagNaming s a p w

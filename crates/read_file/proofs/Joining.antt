@@ -12,11 +12,11 @@ use borrow.Author.Tests.{lt-ltb, le-ltb}
 use Rattle.macros.specs.Refusals.FileRefusal.{macroTooLong}
 use Rattle.macros.specs.Macro.{Macro, Action, Call, pick, tags}
 use Rattle.macros.specs.Read.{Front, Reader, readFrom, step, skips, partByte, taken, count, commandsByte, commandsFresh}
-use Rattle.macros.specs.Read.Held.{nothing}
-use Rattle.macros.specs.Read.Part.{pattern, awaitSymbol, awaitQuote, replacement, commands}
-use Rattle.macros.specs.Read.Step.{done}
-use Rattle.macros.specs.Read.Reader.{between, inside}
-use Rattle.macros.specs.Read.Next.{go, refuse}
+use Rattle.macros.specs.ReadSoFar.Joinable.{nothing}
+use Rattle.macros.specs.ReadSoFar.Part.{pattern, awaitSymbol, awaitQuote, replacement, commands}
+use Rattle.macros.specs.ReadSoFar.Step.{done}
+use Rattle.macros.specs.ReadFile.Reader.{between, inside}
+use Rattle.macros.specs.ReadFile.Next.{go, refuse}
 use Rattle.read_scan.specs.Scan.MacroRead.{refusedAt, patternTo, macroTo}
 use Rattle.form_table.specs.Form.{patternItems, replacementItems, callsItems, symbolCode, header, body}
 use Rattle.form_table.proofs.Order.{tags-reverse}

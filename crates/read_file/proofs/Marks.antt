@@ -14,10 +14,10 @@ use Rattle.macros.specs.Macro.Mark.{stack, counter}
 use Rattle.macros.specs.Macro.Move.{still, before, after}
 use Rattle.macros.specs.Macro.Call.{insert, setTo, setIncrement}
 use Rattle.macros.specs.Formed.{numberFits, limit}
-use Rattle.macros.specs.Read.{Part, Place, Phase, callByte, isCommand, isSign, isStill, numberEnd as closing}
-use Rattle.macros.specs.Read.Part.{calling, callText}
-use Rattle.macros.specs.Read.Phase.{begun, signed, named, equals, increment, tagged}
-use Rattle.macros.specs.Read.Turn.{into, textOf, closed, wrong}
+use Rattle.macros.specs.Read.{Part, CallSite, Phase, callByte, isCommand, isSign, isStill, numberEnd as closing}
+use Rattle.macros.specs.ReadSoFar.Part.{calling, callText}
+use Rattle.macros.specs.ReadSoFar.Phase.{begun, signed, named, equals, increment, tagged}
+use Rattle.macros.specs.ReadCalls.Turn.{into, textOf, closed, wrong}
 use Rattle.form_table.specs.Form.{callItems, moveCode}
 use Rattle.read_scan.specs.Scan.{run, Here, Calls, faultOf, wrongCall}
 use Rattle.read_number.specs.Number.{Counts, Digits, Kept, most}

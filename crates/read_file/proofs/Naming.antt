@@ -12,10 +12,10 @@ use Rattle.macros.specs.Macro.{Macro, Move, Call, Sign, pick, lower, tags}
 use Rattle.macros.specs.Macro.Sign.{plus, minus}
 use Rattle.macros.specs.Macro.Move.{still, before, after}
 use Rattle.macros.specs.Formed.{numberFits}
-use Rattle.macros.specs.Read.{Part, Place, Phase, partByte, skips, turned, callByte, isCommand, frontOf, placed, isSign, signOf, isStill}
-use Rattle.macros.specs.Read.Part.{calling, callText}
-use Rattle.macros.specs.Read.Step.{on, stop}
-use Rattle.macros.specs.Read.Turn.{into, textOf, closed, wrong}
+use Rattle.macros.specs.Read.{Part, CallSite, Phase, partByte, skips, turned, callByte, isCommand, frontOf, behindCall, isSign, signOf, isStill}
+use Rattle.macros.specs.ReadSoFar.Part.{calling, callText}
+use Rattle.macros.specs.ReadSoFar.Step.{on, stop}
+use Rattle.macros.specs.ReadCalls.Turn.{into, textOf, closed, wrong}
 use Rattle.read_scan.specs.Scan.MacroRead.{refusedAt}
 use Rattle.form_table.specs.Form.{moveCode}
 use Rattle.read_scan.specs.Scan.{run, Here, Calls, faultOf, wrongCall}
@@ -30,29 +30,29 @@ use Rattle.read_file.proofs.Phases.{space-call, wrong-call}
 
 -- ONE BYTE OF A CALL
 
-pub turn-on : (pl : Place) (ph ph′ : Phase) (b : ℕ) → callByte (isCommand pl) ph b ≡ into ph′ → partByte (calling pl ph) b ≡ on (calling pl ph′)
+pub turn-on : (pl : CallSite) (ph ph′ : Phase) (b : ℕ) → callByte (isCommand pl) ph b ≡ into ph′ → partByte (calling pl ph) b ≡ on (calling pl ph′)
 unfolding partByte turned
 turn-on pl ph ph′ b e = rw e refl
 
-pub turn-text : (pl : Place) (ph : Phase) (i : ℕ) (v : Move) (b : ℕ) → callByte (isCommand pl) ph b ≡ textOf i v → partByte (calling pl ph) b ≡ on (callText pl i v [])
+pub turn-text : (pl : CallSite) (ph : Phase) (i : ℕ) (v : Move) (b : ℕ) → callByte (isCommand pl) ph b ≡ textOf i v → partByte (calling pl ph) b ≡ on (callText pl i v [])
 unfolding partByte turned
 turn-text pl ph i v b e = rw e refl
 
-pub turn-closed : (pl : Place) (ph : Phase) (c : Call) (b : ℕ) → callByte (isCommand pl) ph b ≡ closed c → numberFits (tags (frontOf pl .pieces)) c ≡ true
-    → partByte (calling pl ph) b ≡ on (placed pl c)
+pub turn-closed : (pl : CallSite) (ph : Phase) (c : Call) (b : ℕ) → callByte (isCommand pl) ph b ≡ closed c → numberFits (tags (frontOf pl .pieces)) c ≡ true
+    → partByte (calling pl ph) b ≡ on (behindCall pl c)
 unfolding partByte turned pick
 turn-closed pl ph c b e f = rw e (rw f refl)
 
-pub turn-unfit : (pl : Place) (ph : Phase) (c : Call) (b : ℕ) → callByte (isCommand pl) ph b ≡ closed c → numberFits (tags (frontOf pl .pieces)) c ≡ false
+pub turn-unfit : (pl : CallSite) (ph : Phase) (c : Call) (b : ℕ) → callByte (isCommand pl) ph b ≡ closed c → numberFits (tags (frontOf pl .pieces)) c ≡ false
     → partByte (calling pl ph) b ≡ stop badCall
 unfolding partByte turned pick
 turn-unfit pl ph c b e f = rw e (rw f refl)
 
-pub call-skips : (pl : Place) (ph : Phase) → skips (calling pl ph) ≡ true
+pub call-skips : (pl : CallSite) (ph : Phase) → skips (calling pl ph) ≡ true
 unfolding skips
 call-skips pl ph = refl
 
-module _ {s : List ℕ} {a p : ℕ} (pl : Place) (ph : Phase) (ms : List Macro) where
+module _ {s : List ℕ} {a p : ℕ} (pl : CallSite) (ph : Phase) (ms : List Macro) where
   -- to the next byte of a call
   pub call-next : {c q : ℕ} → Calls s a p (Byte c q) → run s a ms false p (calling pl ph) ≡ run s a ms false q (calling pl ph)
   call-next y = y .answer (calling pl ph) ms (call-skips pl ph) (space-call pl ph)
@@ -130,7 +130,7 @@ unstill-after x e y = absurd (true≢false (sym e))
 -- A LETTER BEHIND A SIGN
 
 module _ {s : List ℕ} {a p b : ℕ} (sg : Bool) (x : Here s a p b) (h : (isSign b && sg) ≡ true) {r : Next} (y : Calls s a (p + 1) r) where
-  lead : (pl : Place) (start : Phase) (sgn : Sign → Phase) (nam : ℕ → Move → Phase) → Names (isCommand pl) sg b start sgn nam → (ms : List Macro)
+  lead : (pl : CallSite) (start : Phase) (sgn : Sign → Phase) (nam : ℕ → Move → Phase) → Names (isCommand pl) sg b start sgn nam → (ms : List Macro)
       → run s a ms false p (calling pl start) ≡ run s a ms false (p + 1) (calling pl (sgn (signOf b)))
   unfolding pick
   lead pl start sgn nam g ms = here-into pl start ms x (sgn (signOf b)) (g .first ∙ rw h refl)
@@ -155,7 +155,7 @@ module _ {s : List ℕ} {a p b : ℕ} (sg : Bool) (x : Here s a p b) (h : (isSig
         )
 
     module _ (l : lower c ≡ true) {r′ : Next} (y′ : Calls s a (q + 1) r′) where
-      letter : (pl : Place) (start : Phase) (sgn : Sign → Phase) (nam : ℕ → Move → Phase) → Names (isCommand pl) sg b start sgn nam → (ms : List Macro)
+      letter : (pl : CallSite) (start : Phase) (sgn : Sign → Phase) (nam : ℕ → Move → Phase) → Names (isCommand pl) sg b start sgn nam → (ms : List Macro)
           → run s a ms false p (calling pl start) ≡ run s a ms false (q + 1) (calling pl (nam c (before (signOf b))))
       unfolding pick
       letter pl start sgn nam g ms =
@@ -191,7 +191,7 @@ module _ {s : List ℕ} {a p b : ℕ} (sg : Bool) (x : Here s a p b) (h : (isSig
       (omega (arith, t .there), λ pl start sgn nam g ms. here-wrong pl start ms x f k (g .first ∙ (rw h (rw l refl))) i)
 
   module _ (l : lower b ≡ true) {r : Next} (y : Calls s a (p + 1) r) where
-    named : (pl : Place) (start : Phase) (sgn : Sign → Phase) (nam : ℕ → Move → Phase) → Names (isCommand pl) sg b start sgn nam → (ms : List Macro)
+    named : (pl : CallSite) (start : Phase) (sgn : Sign → Phase) (nam : ℕ → Move → Phase) → Names (isCommand pl) sg b start sgn nam → (ms : List Macro)
         → run s a ms false p (calling pl start) ≡ run s a ms false (p + 1) (calling pl (nam b still))
     unfolding pick
     named pl start sgn nam g ms = here-into pl start ms x (nam b still) (g .first ∙ (rw h (rw l refl)))
@@ -205,7 +205,7 @@ module _ {s : List ℕ} {a p b : ℕ} (sg : Bool) (x : Here s a p b) (h : (isSig
       pub name-byte : Calls s a (p + 1) (Byte c q)
       name-byte = rw e at y
 
-      there : (pl : Place) (start : Phase) (sgn : Sign → Phase) (nam : ℕ → Move → Phase) → Names (isCommand pl) sg b start sgn nam → (ms : List Macro)
+      there : (pl : CallSite) (start : Phase) (sgn : Sign → Phase) (nam : ℕ → Move → Phase) → Names (isCommand pl) sg b start sgn nam → (ms : List Macro)
           → run s a ms false p (calling pl start) ≡ run s a ms false q (calling pl (nam b still))
       there pl start sgn nam g ms = named pl start sgn nam g ms ∙ call-next pl (nam b still) ms name-byte
 
@@ -222,7 +222,7 @@ module _ {s : List ℕ} {a p b : ℕ} (sg : Bool) (x : Here s a p b) (h : (isSig
           }
 
       module _ (j : (isSign c && sg) ≡ true) {r′ : Next} (y′ : Calls s a (q + 1) r′) where
-        moved : (pl : Place) (start : Phase) (sgn : Sign → Phase) (nam : ℕ → Move → Phase) → Names (isCommand pl) sg b start sgn nam → (ms : List Macro)
+        moved : (pl : CallSite) (start : Phase) (sgn : Sign → Phase) (nam : ℕ → Move → Phase) → Names (isCommand pl) sg b start sgn nam → (ms : List Macro)
             → run s a ms false p (calling pl start) ≡ run s a ms false (q + 1) (calling pl (nam b (after (signOf c))))
         moved pl start sgn nam g ms =
             there pl start sgn nam g ms ∙ here-into pl (nam b still) ms (name-byte .found .1) (nam b (after (signOf c))) (g .third b c j)

@@ -5,11 +5,11 @@ use mathlib.Core.Bool.{Bool}
 use Prim.Native.Nat.{ℕ}
 use Rattle.macros.specs.Macro.{Mark, pick, within, lower, digit}
 use Rattle.macros.specs.Macro.Mark.{stack, counter}
-use Rattle.macros.specs.Read.{Part, Place, Phase, partByte, isSign, turned, callByte, otherwise, isCommand}
-use Rattle.macros.specs.Read.Part.{calling}
-use Rattle.macros.specs.Read.Phase.{begun, signed, named, equals, increment, tagged, comma, tagSigned, tagNamed, texted}
-use Rattle.macros.specs.Read.Turn.{wrong}
-use Rattle.macros.specs.Read.Step.{on, stop}
+use Rattle.macros.specs.Read.{Part, CallSite, Phase, partByte, isSign, turned, callByte, otherwise, isCommand}
+use Rattle.macros.specs.ReadSoFar.Part.{calling}
+use Rattle.macros.specs.ReadSoFar.Phase.{begun, signed, named, equals, increment, tagged, comma, tagSigned, tagNamed, texted}
+use Rattle.macros.specs.ReadCalls.Turn.{wrong}
+use Rattle.macros.specs.ReadSoFar.Step.{on, stop}
 use Rattle.read_scan.specs.Scan.{wrongCall}
 use Rattle.read_scan.proofs.Laws.{otherwise-wrong}
 
@@ -28,10 +28,10 @@ space-wrong cmd (tagSigned n x) = refl
 space-wrong cmd (tagNamed n i h) = refl
 space-wrong cmd (texted i h t) = refl
 
-pub space-call : (pl : Place) (ph : Phase) → partByte (calling pl ph) 32 ≡ on (calling pl ph)
+pub space-call : (pl : CallSite) (ph : Phase) → partByte (calling pl ph) 32 ≡ on (calling pl ph)
 unfolding partByte turned otherwise pick
 space-call pl ph = rw (space-wrong (isCommand pl) ph) refl
 
-pub wrong-call : (pl : Place) (ph : Phase) (b : ℕ) → callByte (isCommand pl) ph b ≡ wrong → (b ≡ 32 → ⊥) → partByte (calling pl ph) b ≡ stop (wrongCall b)
+pub wrong-call : (pl : CallSite) (ph : Phase) (b : ℕ) → callByte (isCommand pl) ph b ≡ wrong → (b ≡ 32 → ⊥) → partByte (calling pl ph) b ≡ stop (wrongCall b)
 unfolding partByte turned
 wrong-call pl ph b e f = rw e (otherwise-wrong (calling pl ph) b f)

@@ -14,11 +14,11 @@ use Rattle.macros.specs.Refusals.FileRefusal.{incomplete, badCall}
 use Rattle.macros.specs.Macro.{Macro, Mark, Action, pick, among, within, digit, markByte, tags}
 use Rattle.macros.specs.Macro.Mark.{stack, counter}
 use Rattle.macros.specs.Macro.Action.{text, tag, call}
-use Rattle.macros.specs.Read.{Part, Step, Front, Place, partByte, skips, replacementByte, replacementFresh, tagByte, tagEnd, breaks, escaped, isCommand, frontOf, placed}
-use Rattle.macros.specs.Read.Part.{replacement, replacementEscape, tagNumber, calling, commands}
-use Rattle.macros.specs.Read.Place.{inReplacement}
-use Rattle.macros.specs.Read.Phase.{begun}
-use Rattle.macros.specs.Read.Step.{on, stop}
+use Rattle.macros.specs.Read.{Part, Step, Front, CallSite, partByte, skips, replacementByte, replacementFresh, tagByte, tagEnd, breaks, escaped, isCommand, frontOf, behindCall}
+use Rattle.macros.specs.ReadSoFar.Part.{replacement, replacementEscape, tagNumber, calling, commands}
+use Rattle.macros.specs.ReadSoFar.CallSite.{inReplacement}
+use Rattle.macros.specs.ReadSoFar.Phase.{begun}
+use Rattle.macros.specs.ReadSoFar.Step.{on, stop}
 use Rattle.read_scan.specs.Scan.MacroRead.{refusedAt}
 use Rattle.form_table.specs.Form.{replacementItems, actionItems}
 use Rattle.read_scan.specs.Scan.{run, At, Here, Passes, Stays, Reached, faultOf}
@@ -209,7 +209,7 @@ module _ {s : List ℕ} {a p : ℕ} (old out : List ℕ) (n k : ℕ) (c : Bool) 
     begins h f l ms = there f l ms ∙ here-on (marked-byte .found .1) ms (replacement (some (markOf c)) f l) (calling (inReplacement f l) (begun (markOf c))) (λ q o. refl) (mark-call (markOf c) f l b h)
 
     pub marked-call : b ≡ 40 → (w : Ended) → CalledFrom s a (q + 1) old out n (markOf c) false k w → ActionFrom s a p old out n k w
-    unfolding isCommand frontOf placed actionItems
+    unfolding isCommand frontOf behindCall actionItems
     marked-call h (Upto z e′) d = (
       omega (arith, d .further, marked-byte .found .0),
       acts-one (call (d .call)) (d .wrote) (d .used) (omega (arith, d .room, d .further, marked-byte .found .0)) (d .reached)

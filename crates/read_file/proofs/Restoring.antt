@@ -13,8 +13,8 @@ use Rattle.macros.specs.Refusals.{FileRefusal}
 use Rattle.macros.specs.Refusals.FileRefusal.{fileTooLong, zeroByte}
 use Rattle.macros.specs.Macro.{Table, pick}
 use Rattle.macros.specs.Read.{readFrom, readOnto, firstZero}
-use Rattle.macros.specs.Read.Reader.{between}
-use Rattle.macros.specs.Read.Read.{refusedAt, table}
+use Rattle.macros.specs.ReadFile.Reader.{between}
+use Rattle.macros.specs.ReadFile.Read.{refusedAt, table}
 use Rattle.macros.specs.Accepted.{Accepted}
 use Rattle.form_table.specs.Form.{slotBytes, tableBytes, slots, form}
 use Rattle.form_table.proofs.Tables.{slots-size, formSize}

@@ -13,8 +13,8 @@ use lib.Seq.{drop-cons}
 use borrow.Author.Tests.{eqb-true, ne-eqb, not-true}
 use Rattle.macros.specs.Macro.{Macro, pick}
 use Rattle.macros.specs.Read.{Next, step, readFrom, atEnd, firstZero}
-use Rattle.macros.specs.Read.Reader.{between}
-use Rattle.macros.specs.Read.Next.{go}
+use Rattle.macros.specs.ReadFile.Reader.{between}
+use Rattle.macros.specs.ReadFile.Next.{go}
 use Rattle.form_table.proofs.Basics.{and-left, and-right}
 use Rattle.read_file.specs.File.{opens, turned, Seeks, ZeroAt}
 use Rattle.read_file.specs.declared.Seek.the-variants.{Quote, Done, Skipping}

@@ -12,11 +12,11 @@ use Rattle.macros.specs.Refusals.FileRefusal.{incomplete, badCall}
 use Rattle.macros.specs.Macro.{Macro, Move, Call, pick, among}
 use Rattle.macros.specs.Macro.Call.{storeText}
 use Rattle.macros.specs.Formed.{numberFits}
-use Rattle.macros.specs.Read.{Part, Place, Phase, partByte, skips, textByte, callByte, breaks, escaped}
-use Rattle.macros.specs.Read.Part.{calling, callText, callTextEscape}
-use Rattle.macros.specs.Read.Phase.{texted}
-use Rattle.macros.specs.Read.Step.{on, stop}
-use Rattle.macros.specs.Read.Turn.{closed, wrong}
+use Rattle.macros.specs.Read.{Part, CallSite, Phase, partByte, skips, textByte, callByte, breaks, escaped}
+use Rattle.macros.specs.ReadSoFar.Part.{calling, callText, callTextEscape}
+use Rattle.macros.specs.ReadSoFar.Phase.{texted}
+use Rattle.macros.specs.ReadSoFar.Step.{on, stop}
+use Rattle.macros.specs.ReadCalls.Turn.{closed, wrong}
 use Rattle.read_scan.specs.Scan.MacroRead.{refusedAt}
 use Rattle.form_table.specs.Form.{callItems, moveCode, evened}
 use Rattle.read_scan.specs.Scan.{run, At, Here, Passes, Stays, Calls, Reached, faultOf, wrongCall}
@@ -36,15 +36,15 @@ use Rattle.read_file.proofs.Ending.{ends-none, ends-wrong, ends-closed}
 
 -- ONE BYTE
 
-text-skips : (pl : Place) (i : ℕ) (v : Move) (t : List ℕ) → skips (callText pl i v t) ≡ true
+text-skips : (pl : CallSite) (i : ℕ) (v : Move) (t : List ℕ) → skips (callText pl i v t) ≡ true
 unfolding skips
 text-skips pl i v t = refl
 
-text-colon : (pl : Place) (i : ℕ) (v : Move) (t : List ℕ) (b : ℕ) → b ≡ 58 → partByte (callText pl i v t) b ≡ on (calling pl (texted i v t))
+text-colon : (pl : CallSite) (i : ℕ) (v : Move) (t : List ℕ) (b : ℕ) → b ≡ 58 → partByte (callText pl i v t) b ≡ on (calling pl (texted i v t))
 unfolding partByte textByte pick
 text-colon pl i v t b e = simp e
 
-module _ (pl : Place) (i : ℕ) (v : Move) (t : List ℕ) (b : ℕ) (h : b ≡ 58 → ⊥) where
+module _ (pl : CallSite) (i : ℕ) (v : Move) (t : List ℕ) (b : ℕ) (h : b ≡ 58 → ⊥) where
   byte-break : breaks b ≡ true → partByte (callText pl i v t) b ≡ stop incomplete
   unfolding partByte textByte pick
   byte-break g = simp (ne-eqb _ _ h, g)
@@ -61,7 +61,7 @@ module _ (pl : Place) (i : ℕ) (v : Move) (t : List ℕ) (b : ℕ) (h : b ≡ 5
   unfolding partByte textByte pick
   byte-plain g l e = simp (ne-eqb _ _ h, g, lt-ltb _ _ l, ne-eqb _ _ e)
 
-byte-escaped : {s : List ℕ} {a p d : ℕ} → At s a p d → (pl : Place) (i : ℕ) (v : Move) (t : List ℕ) (ms : List Macro)
+byte-escaped : {s : List ℕ} {a p d : ℕ} → At s a p d → (pl : CallSite) (i : ℕ) (v : Move) (t : List ℕ) (ms : List Macro)
     → run s a ms false p (callTextEscape pl i v t) ≡ run s a ms false (p + 1) (callText pl i v (escaped d ∷ t))
 unfolding partByte skips
 byte-escaped {s} {a} {p} {d} x pl i v t ms = at-on x ms (callTextEscape pl i v t) (callText pl i v (escaped d ∷ t)) (λ q o. refl) refl refl
@@ -83,7 +83,7 @@ module _ {s : List ℕ} {a p b : ℕ} (x : Here s a p b) (h : b ≡ 58 → ⊥) 
         (omega arith, y .there, y .counted, j, λ pl i v t l ms. here-on x ms (callText pl i v t) (callText pl i v (b ∷ t)) (λ q o. refl) (byte-plain pl i v t b h g (omega (arith, l)) e))
 
     module _ (j : k < 50) (e : b ≡ 92) {r : Next} (y : Stays s a (p + 1) r) where
-      escape : (pl : Place) (i : ℕ) (v : Move) (t : List ℕ) → length t ≡ k → (ms : List Macro) → run s a ms false p (callText pl i v t) ≡ run s a ms false (p + 1) (callTextEscape pl i v t)
+      escape : (pl : CallSite) (i : ℕ) (v : Move) (t : List ℕ) → length t ≡ k → (ms : List Macro) → run s a ms false p (callText pl i v t) ≡ run s a ms false (p + 1) (callTextEscape pl i v t)
       escape pl i v t l ms = here-on x ms (callText pl i v t) (callTextEscape pl i v t) (λ q o. refl) (byte-escape pl i v t b h g (omega (arith, l)) e)
 
       pub text-none : {f : Fault} {q : ℕ} → r ≡ NoByte f q → Texting s a p k r
@@ -108,7 +108,7 @@ pub record Reading (s : List ℕ) (a p : ℕ) (old out : List ℕ) (n at k : ℕ
   pub room : p + k ≤ at
   pub reached : Reached s a at
   pub kept : length out ≡ length old
-  pub answer : (pl : Place) (i : ℕ) (v : Move) (ms : List Macro) → run s a ms false p (callText pl i v []) ≡ run s a ms false at (callText pl i v text)
+  pub answer : (pl : CallSite) (i : ℕ) (v : Move) (ms : List Macro) → run s a ms false p (callText pl i v []) ≡ run s a ms false at (callText pl i v text)
 
 pub reading-none : {s : List ℕ} {a p : ℕ} (old : List ℕ) (n : ℕ) → Reached s a p → Reading s a p old old n p 0
 reading-none old n h =
@@ -133,7 +133,7 @@ module _ {s : List ℕ} {a p : ℕ} {old out : List ℕ} {n at k : ℕ} (g : Rea
     pub reading-byte : Passes s a at (Byte b q)
     reading-byte = rw e at y
 
-    there : (pl : Place) (i : ℕ) (v : Move) (ms : List Macro) → run s a ms false p (callText pl i v []) ≡ run s a ms false q (callText pl i v (g .text))
+    there : (pl : CallSite) (i : ℕ) (v : Move) (ms : List Macro) → run s a ms false p (callText pl i v []) ≡ run s a ms false q (callText pl i v (g .text))
     there pl i v ms = g .answer pl i v ms ∙ reading-byte .answer (callText pl i v (g .text)) ms (text-skips pl i v (g .text))
 
     pub reading-done : b ≡ 58 → TextFrom s a p old out n (Upto (q + 1) (n + k))

@@ -12,8 +12,8 @@ use borrow.Author.Tests.{ne-eqb}
 use Rattle.macros.specs.Refusals.FileRefusal.{incomplete}
 use Rattle.macros.specs.Macro.{Macro, Piece, pick}
 use Rattle.macros.specs.Read.{Part, Front, partByte, skips, symbolByte, quoteByte}
-use Rattle.macros.specs.Read.Part.{awaitSymbol, awaitQuote, replacement}
-use Rattle.macros.specs.Read.Step.{on, stop}
+use Rattle.macros.specs.ReadSoFar.Part.{awaitSymbol, awaitQuote, replacement}
+use Rattle.macros.specs.ReadSoFar.Step.{on, stop}
 use Rattle.read_scan.specs.Scan.{run, Here, Passes}
 use Rattle.read_file.specs.Action.{SymbolAt, QuoteAt, symbolOf}
 use Rattle.read_scan.specs.declared.Fault.{Fault}

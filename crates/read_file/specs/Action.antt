@@ -11,7 +11,7 @@ use Rattle.macros.specs.Refusals.FileRefusal.{incomplete, badCall}
 use Rattle.macros.specs.Macro.{Macro, Piece, Call, Action, Symbol, pick, tags, markByte}
 use Rattle.macros.specs.Macro.Symbol.{equal, less}
 use Rattle.macros.specs.Read.{Part, Front}
-use Rattle.macros.specs.Read.Part.{awaitSymbol, awaitQuote, replacement, commands}
+use Rattle.macros.specs.ReadSoFar.Part.{awaitSymbol, awaitQuote, replacement, commands}
 use Rattle.read_scan.specs.Scan.MacroRead.{refusedAt}
 use Rattle.form_table.specs.Form.{replacementItems, callsItems}
 use Rattle.read_scan.specs.Scan.{faultOf, run, Reached, Here}

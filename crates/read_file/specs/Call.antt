@@ -12,10 +12,10 @@ use Rattle.macros.specs.Macro.Mark.{stack, counter}
 use Rattle.macros.specs.Macro.Move.{still, before, after}
 use Rattle.macros.specs.Macro.Call.{insert}
 use Rattle.macros.specs.Formed.{numberFits}
-use Rattle.macros.specs.Read.{Part, Place, Phase, Turn, callByte, isCommand, frontOf, placed, isSign, signOf, isStill, numberEnd as closing}
-use Rattle.macros.specs.Read.Part.{calling, callText}
-use Rattle.macros.specs.Read.Phase.{begun, named, tagged, tagNamed, texted}
-use Rattle.macros.specs.Read.Turn.{into, textOf, closed, wrong}
+use Rattle.macros.specs.Read.{Part, CallSite, Phase, Turn, callByte, isCommand, frontOf, behindCall, isSign, signOf, isStill, numberEnd as closing}
+use Rattle.macros.specs.ReadSoFar.Part.{calling, callText}
+use Rattle.macros.specs.ReadSoFar.Phase.{begun, named, tagged, tagNamed, texted}
+use Rattle.macros.specs.ReadCalls.Turn.{into, textOf, closed, wrong}
 use Rattle.read_scan.specs.Scan.MacroRead.{refusedAt}
 use Rattle.form_bytes.specs.Fours.{four}
 use Rattle.form_table.specs.Form.{callItems, moveCode}
@@ -61,13 +61,13 @@ pub record Letter (s : List ℕ) (a p b : ℕ) (sg : Bool) (i m c q : ℕ) : Typ
   pub further : p < q
   -- no sign that could still join
   pub last : isStill move ≡ true → (isSign c && sg) ≡ false
-  pub answer : (pl : Place) (start : Phase) (sgn : Sign → Phase) (nam : ℕ → Move → Phase) → Names (isCommand pl) sg b start sgn nam → (ms : List Macro)
+  pub answer : (pl : CallSite) (start : Phase) (sgn : Sign → Phase) (nam : ℕ → Move → Phase) → Names (isCommand pl) sg b start sgn nam → (ms : List Macro)
       → run s a ms false p (calling pl start) ≡ run s a ms false q (calling pl (nam i move))
 
 -- what reading a letter says
 abbrev pub Naming : List ℕ → ℕ → ℕ → ℕ → Bool → Name → Type 0
 Naming s a p b sg (GotName i m c q) = Letter s a p b sg i m c q
-Naming s a p b sg (NoName f q) = (q ≤ length s) × ((pl : Place) (start : Phase) (sgn : Sign → Phase) (nam : ℕ → Move → Phase) → Names (isCommand pl) sg b start sgn nam → (ms : List Macro) → run s a ms false p (calling pl start) ≡ refusedAt (faultOf f) q)
+Naming s a p b sg (NoName f q) = (q ≤ length s) × ((pl : CallSite) (start : Phase) (sgn : Sign → Phase) (nam : ℕ → Move → Phase) → Names (isCommand pl) sg b start sgn nam → (ms : List Macro) → run s a ms false p (calling pl start) ≡ refusedAt (faultOf f) q)
 
 -- whether a letter may have a sign: not as a command of a counter
 abbrev pub signsIn : Bool → Bool → Bool
@@ -82,33 +82,33 @@ pub record TagLetter (s : List ℕ) (a p i m d q : ℕ) : Type 0 where
   pub solid : d ≡ 32 → ⊥
   pub further : p + 1 < q
   pub last : isStill move ≡ true → (isSign d && true) ≡ false
-  pub answer : (w : ℕ) (pl : Place) (ms : List Macro) → run s a ms false p (calling pl (tagged w)) ≡ run s a ms false q (calling pl (tagNamed w i move))
+  pub answer : (w : ℕ) (pl : CallSite) (ms : List Macro) → run s a ms false p (calling pl (tagged w)) ≡ run s a ms false q (calling pl (tagNamed w i move))
 
 -- what reading them says
 abbrev pub TagNaming : List ℕ → ℕ → ℕ → Name → Type 0
 TagNaming s a p (GotName i m d q) = TagLetter s a p i m d q
-TagNaming s a p (NoName f q) = (q ≤ length s) × ((w : ℕ) (pl : Place) (ms : List Macro) → run s a ms false p (calling pl (tagged w)) ≡ refusedAt (faultOf f) q)
+TagNaming s a p (NoName f q) = (q ≤ length s) × ((w : ℕ) (pl : CallSite) (ms : List Macro) → run s a ms false p (calling pl (tagged w)) ≡ refusedAt (faultOf f) q)
 
 -- THE ENDS OF CALLS
 
 -- the machine comes from p in the state F to q in the state G, at every place of a replacement or, if cmd, of a command, behind a pattern of k tags
-abbrev pub Comes : List ℕ → ℕ → Bool → ℕ → (Place → Part) → ℕ → (Place → Part) → ℕ → Type 0
-Comes s a cmd k F p G q = (pl : Place) → isCommand pl ≡ cmd → tags (frontOf pl .pieces) ≡ k → (ms : List Macro) → run s a ms false p (F pl) ≡ run s a ms false q (G pl)
+abbrev pub Comes : List ℕ → ℕ → Bool → ℕ → (CallSite → Part) → ℕ → (CallSite → Part) → ℕ → Type 0
+Comes s a cmd k F p G q = (pl : CallSite) → isCommand pl ≡ cmd → tags (frontOf pl .pieces) ≡ k → (ms : List Macro) → run s a ms false p (F pl) ≡ run s a ms false q (G pl)
 
 -- the call read from p up to q, from the state F on, and its items written from n up to e; x bytes of room come from what was read before p
-pub record Called (s : List ℕ) (a p : ℕ) (old out : List ℕ) (n x : ℕ) (cmd : Bool) (k : ℕ) (F : Place → Part) (q e : ℕ) : Type 0 where
+pub record Called (s : List ℕ) (a p : ℕ) (old out : List ℕ) (n x : ℕ) (cmd : Bool) (k : ℕ) (F : CallSite → Part) (q e : ℕ) : Type 0 where
   pub call : Call
   pub wrote : Wrote old out n (callItems call)
   pub used : e ≡ n + length (callItems call)
   pub room : e ≤ n + x + 2 * (q - p)
   pub further : p < q
   pub reached : Reached s a q
-  pub answer : Comes s a cmd k F p (λ pl. placed pl call) q
+  pub answer : Comes s a cmd k F p (λ pl. behindCall pl call) q
 
 -- what reading to the end of a call says
-abbrev pub Ends : List ℕ → ℕ → ℕ → List ℕ → List ℕ → ℕ → ℕ → Bool → ℕ → (Place → Part) → Ended → Type 0
+abbrev pub Ends : List ℕ → ℕ → ℕ → List ℕ → List ℕ → ℕ → ℕ → Bool → ℕ → (CallSite → Part) → Ended → Type 0
 Ends s a p old out n x cmd k F (Upto q e) = Called s a p old out n x cmd k F q e
-Ends s a p old out n x cmd k F (NoEnd f q) = (q ≤ length s) × ((pl : Place) → isCommand pl ≡ cmd → tags (frontOf pl .pieces) ≡ k → (ms : List Macro) → run s a ms false p (F pl) ≡ refusedAt (faultOf f) q)
+Ends s a p old out n x cmd k F (NoEnd f q) = (q ≤ length s) × ((pl : CallSite) → isCommand pl ≡ cmd → tags (frontOf pl .pieces) ≡ k → (ms : List Macro) → run s a ms false p (F pl) ≡ refusedAt (faultOf f) q)
 
 -- a whole call, in a pattern of k tags
 abbrev pub CalledFrom : List ℕ → ℕ → ℕ → List ℕ → List ℕ → ℕ → Mark → Bool → ℕ → Ended → Type 0
@@ -124,7 +124,7 @@ Starts c b = c ≡ false → digit b ≡ false
 
 -- phases that take a number of at most top and a `)`: their calls
 pub record Sets (code i top : ℕ) (ph : Option ℕ → Phase) (c : ℕ → Call) : Type 0 where
-  pub eats : (pl : Place) → Eats true (λ o. calling pl (ph o))
+  pub eats : (pl : CallSite) → Eats true (λ o. calling pl (ph o))
   pub others : (cmd : Bool) (o : Option ℕ) (b : ℕ) → digit b ≡ false → (b ≡ 41 → ⊥) → callByte cmd (ph o) b ≡ wrong
   pub closes : (cmd : Bool) (o : Option ℕ) → callByte cmd (ph o) 41 ≡ closing c o
   pub fits : (k v : ℕ) → numberFits k (c v) ≡ within 1 top v
@@ -153,8 +153,8 @@ TagFrom s a p old out n v k r = (w : ℕ) → v ≡ most w → (cmd : Bool) → 
 
 -- what a byte of a text of k bytes says, spelled from p up to q
 abbrev pub Texting : List ℕ → ℕ → ℕ → ℕ → Next → Type 0
-Texting s a p k (Byte b q) = (p ≤ q) × (q < length s) × (q ≤ a + 512) × (k < 50) × ((pl : Place) (i : ℕ) (v : Move) (t : List ℕ) → length t ≡ k → (ms : List Macro) → run s a ms false p (callText pl i v t) ≡ run s a ms false (q + 1) (callText pl i v (b ∷ t)))
-Texting s a p k (NoByte f q) = (q ≤ length s) × ((pl : Place) (i : ℕ) (v : Move) (t : List ℕ) → length t ≡ k → (ms : List Macro) → run s a ms false p (callText pl i v t) ≡ refusedAt (faultOf f) q)
+Texting s a p k (Byte b q) = (p ≤ q) × (q < length s) × (q ≤ a + 512) × (k < 50) × ((pl : CallSite) (i : ℕ) (v : Move) (t : List ℕ) → length t ≡ k → (ms : List Macro) → run s a ms false p (callText pl i v t) ≡ run s a ms false (q + 1) (callText pl i v (b ∷ t)))
+Texting s a p k (NoByte f q) = (q ≤ length s) × ((pl : CallSite) (i : ℕ) (v : Move) (t : List ℕ) → length t ≡ k → (ms : List Macro) → run s a ms false p (callText pl i v t) ≡ refusedAt (faultOf f) q)
 
 -- the text t, newest byte first, read from p up to q and written from n up to e
 pub record TextRead (s : List ℕ) (a p : ℕ) (old out : List ℕ) (n q e : ℕ) : Type 0 where
@@ -164,11 +164,11 @@ pub record TextRead (s : List ℕ) (a p : ℕ) (old out : List ℕ) (n q e : ℕ
   pub short : length text ≤ 50
   pub room : length text < q - p
   pub reached : Reached s a q
-  pub answer : (pl : Place) (i : ℕ) (v : Move) (ms : List Macro) → run s a ms false p (callText pl i v []) ≡ run s a ms false q (calling pl (texted i v text))
+  pub answer : (pl : CallSite) (i : ℕ) (v : Move) (ms : List Macro) → run s a ms false p (callText pl i v []) ≡ run s a ms false q (calling pl (texted i v text))
 
 abbrev pub TextFrom : List ℕ → ℕ → ℕ → List ℕ → List ℕ → ℕ → Ended → Type 0
 TextFrom s a p old out n (Upto q e) = TextRead s a p old out n q e
-TextFrom s a p old out n (NoEnd f q) = (q ≤ length s) × ((pl : Place) (i : ℕ) (v : Move) (ms : List Macro) → run s a ms false p (callText pl i v []) ≡ refusedAt (faultOf f) q)
+TextFrom s a p old out n (NoEnd f q) = (q ≤ length s) × ((pl : CallSite) (i : ℕ) (v : Move) (ms : List Macro) → run s a ms false p (callText pl i v []) ≡ refusedAt (faultOf f) q)
 
 -- behind a text of k bytes
 unfoldable pub padding : ℕ → List ℕ

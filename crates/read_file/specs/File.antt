@@ -10,10 +10,10 @@ use Rattle.macros.specs.Bounds.{mostMacros, mostTags}
 use Rattle.macros.specs.Refusals.FileRefusal.{incomplete}
 use Rattle.macros.specs.Macro.{Macro, Table, Action, Call, pick, tags}
 use Rattle.macros.specs.Read.{Read, Front, readFrom, firstZero, readOnto}
-use Rattle.macros.specs.Read.Held.{nothing}
-use Rattle.macros.specs.Read.Part.{pattern as patterning, replacement as parting}
-use Rattle.macros.specs.Read.Reader.{between}
-use Rattle.macros.specs.Read.Read.{refusedAt, table}
+use Rattle.macros.specs.ReadSoFar.Joinable.{nothing}
+use Rattle.macros.specs.ReadSoFar.Part.{pattern as patterning, replacement as parting}
+use Rattle.macros.specs.ReadFile.Reader.{between}
+use Rattle.macros.specs.ReadFile.Read.{refusedAt, table}
 use Rattle.macros.specs.Accepted.{Accepted}
 use Rattle.form_table.specs.Form.{slotBytes, bodyBytes, two, symbolCode, replacementItems, callsItems, header, body, slots, form}
 use Rattle.read_scan.specs.Scan.{MacroRead, faultOf, run}

@@ -10,10 +10,10 @@ use lib.Dec.{ltb, leb}
 use borrow.Author.Tests.{ne-eqb, lt-ltb, le-ltb, ltb-true, ltb-false, leb-true}
 use Rattle.macros.specs.Macro.{Macro, Mark, Action, pick, within, lower, digit}
 use Rattle.macros.specs.Macro.Mark.{stack}
-use Rattle.macros.specs.Read.{Part, Front, Place, partByte, skips, andDigit, tagByte, turned, callByte, otherwise, isSign}
-use Rattle.macros.specs.Read.Step.{on}
-use Rattle.macros.specs.Read.Part.{tagNumber, calling}
-use Rattle.macros.specs.Read.Phase.{equals, increment, begun, tagged}
+use Rattle.macros.specs.Read.{Part, Front, CallSite, partByte, skips, andDigit, tagByte, turned, callByte, otherwise, isSign}
+use Rattle.macros.specs.ReadSoFar.Step.{on}
+use Rattle.macros.specs.ReadSoFar.Part.{tagNumber, calling}
+use Rattle.macros.specs.ReadSoFar.Phase.{equals, increment, begun, tagged}
 use Rattle.read_scan.specs.Bytes.{Placed, with?, seen, nextByte, spaceless}
 use Rattle.read_scan.specs.Bytes.Placed.{byteAt}
 use Rattle.read_scan.specs.Scan.{MacroRead, noted, run, Passes}
@@ -70,20 +70,20 @@ pub eats-tag : (f : Front) (xs : List Action) → Eats false (λ o. tagNumber o 
 unfolding partByte skips tagByte pick
 eats-tag f xs = record { skipping = λ o. refl; digits = λ o b e. simp e; spaces = λ o e. absurd (true≢false (sym e)); within = λ o u q r. refl }
 
-pub eats-equals : (pl : Place) (m : Mark) (i : ℕ) → Eats true (λ o. calling pl (equals m i o))
+pub eats-equals : (pl : CallSite) (m : Mark) (i : ℕ) → Eats true (λ o. calling pl (equals m i o))
 unfolding partByte skips pick turned callByte otherwise digit within
 eats-equals pl m i = record { skipping = λ o. refl; digits = λ o b e. simp e; spaces = λ o e. refl; within = λ o u q r. refl }
 
-pub eats-increment : (pl : Place) (i : ℕ) → Eats true (λ o. calling pl (increment i o))
+pub eats-increment : (pl : CallSite) (i : ℕ) → Eats true (λ o. calling pl (increment i o))
 unfolding partByte skips pick turned callByte otherwise digit within
 eats-increment pl i = record { skipping = λ o. refl; digits = λ o b e. simp e; spaces = λ o e. refl; within = λ o u q r. refl }
 
 -- behind `&(`, the number of a tag
-abbrev pub tagState : Place → Option ℕ → Part
+abbrev pub tagState : CallSite → Option ℕ → Part
 tagState pl none = calling pl (begun stack)
 tagState pl (some n) = calling pl (tagged n)
 
-pub eats-tagged : (pl : Place) → Eats true (tagState pl)
+pub eats-tagged : (pl : CallSite) → Eats true (tagState pl)
 unfolding partByte skips pick turned callByte otherwise digit within isSign lower andDigit
 eats-tagged pl = record { skipping = skipped; digits = took; spaces = spaced; within = inner }
   where

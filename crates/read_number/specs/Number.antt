@@ -9,7 +9,7 @@ use lib.ListN.{length}
 use Rattle.macros.specs.Bounds.{mostCounter}
 use Rattle.macros.specs.Macro.{Macro, pick, digit}
 use Rattle.macros.specs.Read.{Part, partByte, skips, andDigit}
-use Rattle.macros.specs.Read.Step.{on}
+use Rattle.macros.specs.ReadSoFar.Step.{on}
 use Rattle.read_scan.specs.Bytes.{Placed, seen, spaceless, unended}
 use Rattle.read_scan.specs.Bytes.Placed.{byteAt}
 use Rattle.read_scan.specs.Scan.{MacroRead, faultOf, noted, run, Here}

@@ -13,11 +13,11 @@ use Rattle.macros.specs.Refusals.FileRefusal.{incomplete, badClass}
 use Rattle.macros.specs.Macro.{Member, Piece, Macro, pick, among, isRange}
 use Rattle.macros.specs.Macro.Member.{single, range}
 use Rattle.macros.specs.Macro.PatternUnit.{class}
-use Rattle.macros.specs.Read.{Part, Last, partByte, skips, newMember, membersByte, breaks, escaped, dashes, dashed, kept, classEnd}
-use Rattle.macros.specs.Read.Held.{unit}
-use Rattle.macros.specs.Read.Last.{free, member, dash}
-use Rattle.macros.specs.Read.Part.{pattern, members, membersEscape}
-use Rattle.macros.specs.Read.Step.{on, stop}
+use Rattle.macros.specs.Read.{Part, Last, partByte, skips, newMember, membersByte, breaks, escaped, dashes, dashed, membersAtEnd, classEnd}
+use Rattle.macros.specs.ReadSoFar.Joinable.{unit}
+use Rattle.macros.specs.ReadSoFar.Last.{free, member, dash}
+use Rattle.macros.specs.ReadSoFar.Part.{pattern, members, membersEscape}
+use Rattle.macros.specs.ReadSoFar.Step.{on, stop}
 use Rattle.read_scan.specs.Scan.MacroRead.{refusedAt}
 use Rattle.form_table.specs.Form.{memberItems, membersItems}
 use Rattle.read_scan.specs.Scan.{run, At, Reached, Stays}
@@ -206,8 +206,8 @@ bodies-end (x ∷ xs) = rw (bodies-end xs) (sym (append-assoc (memberItems x) (b
 members-items : (xs : List Member) → membersItems (reverse xs) ≡ memberBytes xs ++ (35 ∷ 0 ∷ [])
 members-items xs = bodies-end (reverse xs) ∙ rw (bodies-reverse xs) refl
 
-kept-items : (l : CodeLast) (xs : List Member) → memberBytes (kept (lastOf l) xs) ≡ memberBytes xs ++ lastItems l
-unfolding kept memberBytes memberItems
+kept-items : (l : CodeLast) (xs : List Member) → memberBytes (membersAtEnd (lastOf l) xs) ≡ memberBytes xs ++ lastItems l
+unfolding membersAtEnd memberBytes memberItems
 kept-items Free xs = sym (append-nil (memberBytes xs))
 kept-items (AMember c) xs = refl
 kept-items (Dash c) xs = append-assoc (memberBytes xs) (32 ∷ c ∷ []) (32 ∷ 45 ∷ [])
@@ -271,14 +271,14 @@ module _ {s : List ℕ} {a p v : ℕ} {old y : List ℕ} {i j : ℕ} {l : CodeLa
 
     -- the `]`
     module _ (t : raw ≡ true) (f : c ≡ 93) {z : List ℕ} {n : ℕ} (w : Wrote y z j (lastItems l)) (u : n ≡ j + pending l) where
-      closes : (ps : List Piece) (neg : Bool) → classTurn raw ps neg (lastOf l) (g .xs) c ≡ classEnd ps neg (kept (lastOf l) (g .xs))
+      closes : (ps : List Piece) (neg : Bool) → classTurn raw ps neg (lastOf l) (g .xs) c ≡ classEnd ps neg (membersAtEnd (lastOf l) (g .xs))
       unfolding membersByte pick
       closes ps neg = rw (t, f) refl
 
-      wrote-all : Wrote old z i (memberBytes (kept (lastOf l) (g .xs)))
+      wrote-all : Wrote old z i (memberBytes (membersAtEnd (lastOf l) (g .xs)))
       wrote-all = rw (kept-items l (g .xs)) (wrote-more (g .wrote) (rw (g .used) at w))
 
-      counted : n ≡ i + length (memberBytes (kept (lastOf l) (g .xs)))
+      counted : n ≡ i + length (memberBytes (membersAtEnd (lastOf l) (g .xs)))
       counted = rw (kept-items l (g .xs), length-append, pending-items l) (omega (arith, g .used))
 
       pub classing-empty : (out : List ℕ) → n ≡ i → Classing s a p old out i (NoPut BadClass q)
@@ -295,13 +295,13 @@ module _ {s : List ℕ} {a p v : ℕ} {old y : List ℕ} {i j : ℕ} {l : CodeLa
       classing-end {out} k m =
           record {
             is = record {
-              xs = reverse (kept (lastOf l) (g .xs));
+              xs = reverse (membersAtEnd (lastOf l) (g .xs));
               further = omega (arith, met .further);
               reached = met-reached;
               room = omega (arith, g .room, met .further);
               answer = λ ps neg ms. g .answer ps neg ms
                   ∙ met .taken ps neg (lastOf l) (g .xs) ms _ (closes ps neg ∙ class-full ps neg _ (λ b. k (omega (arith, counted))));
-              wrote = rw (members-items (kept (lastOf l) (g .xs))) (wrote-more wrote-all (rw counted at m));
-              used = rw (members-items (kept (lastOf l) (g .xs)), length-append) (omega (arith, counted));
+              wrote = rw (members-items (membersAtEnd (lastOf l) (g .xs))) (wrote-more wrote-all (rw counted at m));
+              used = rw (members-items (membersAtEnd (lastOf l) (g .xs)), length-append) (omega (arith, counted));
             };
           }

@@ -14,8 +14,8 @@ use Rattle.macros.specs.Macro.Closure.{once, oneOrMore, zeroOrMore}
 use Rattle.macros.specs.Macro.PatternUnit.{literal, kind, class, callOf}
 use Rattle.macros.specs.Macro.Piece.{element, start, end}
 use Rattle.macros.specs.Read.{Part, skips, breaks, escaped, signs, kindDigit}
-use Rattle.macros.specs.Read.Held.{unit, starred}
-use Rattle.macros.specs.Read.Part.{pattern, patternEscape, opened, patternCalled}
+use Rattle.macros.specs.ReadSoFar.Joinable.{unit, starred}
+use Rattle.macros.specs.ReadSoFar.Part.{pattern, patternEscape, opened, patternCalled}
 use Rattle.form_table.specs.Form.{unitRest, membersItems, pieceItems}
 use Rattle.form_element.specs.Element.{unitOf, elementOf, itemOf}
 use Rattle.form_element.proofs.Items.{unit-item}

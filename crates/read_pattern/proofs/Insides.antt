@@ -12,9 +12,9 @@ use borrow.Author.Tests.{lt-ltb}
 use Rattle.macros.specs.Macro.{Piece, Macro, pick, tags, depth, elements}
 use Rattle.macros.specs.Macro.Piece.{element, start, end, left, right}
 use Rattle.macros.specs.Read.{Part, readFrom, step, skips}
-use Rattle.macros.specs.Read.Held.{nothing}
-use Rattle.macros.specs.Read.Part.{pattern}
-use Rattle.macros.specs.Read.Reader.{between, inside}
+use Rattle.macros.specs.ReadSoFar.Joinable.{nothing}
+use Rattle.macros.specs.ReadSoFar.Part.{pattern}
+use Rattle.macros.specs.ReadFile.Reader.{between, inside}
 use Rattle.form_table.specs.Form.{pieceItems, patternItems}
 use Rattle.read_scan.specs.Scan.{after, run, Here, Passes}
 use Rattle.form_items.specs.Items.{Wrote, itemsOf}

@@ -13,10 +13,10 @@ use Rattle.macros.specs.Macro.Closure.{once, oneOrMore, zeroOrMore}
 use Rattle.macros.specs.Macro.PatternUnit.{literal, kind, callOf}
 use Rattle.macros.specs.Macro.Piece.{element, start, end, left, right}
 use Rattle.macros.specs.Read.{partByte, skips, breaks, escaped, signs, kindDigit, hold, patternEnd, sign, fresh, closes, patternByte, openedByte, otherwise}
-use Rattle.macros.specs.Read.Held.{nothing, unit, starred, query, marked}
-use Rattle.macros.specs.Read.Last.{free}
-use Rattle.macros.specs.Read.Part.{pattern, patternEscape, opened, members, patternCall, patternCalled, awaitSymbol}
-use Rattle.macros.specs.Read.Step.{on}
+use Rattle.macros.specs.ReadSoFar.Joinable.{nothing, unit, starred, query, marked}
+use Rattle.macros.specs.ReadSoFar.Last.{free}
+use Rattle.macros.specs.ReadSoFar.Part.{pattern, patternEscape, opened, members, patternCall, patternCalled, awaitSymbol}
+use Rattle.macros.specs.ReadSoFar.Step.{on}
 use Rattle.read_scan.specs.Scan.MacroRead.{refusedAt, patternTo}
 use Rattle.read_scan.specs.Scan.{run, At, Here, wrongCall}
 use Rattle.read_pattern.specs.Pattern.{markAt}

@@ -10,10 +10,10 @@ use Rattle.macros.specs.Refusals.FileRefusal.{badClass}
 use Rattle.macros.specs.Macro.{Member, Piece, Macro}
 use Rattle.macros.specs.Macro.PatternUnit.{class}
 use Rattle.macros.specs.Read.{Part, Step, Last, newMember, membersByte, breaks}
-use Rattle.macros.specs.Read.Held.{unit}
-use Rattle.macros.specs.Read.Last.{free, member, dash}
-use Rattle.macros.specs.Read.Part.{pattern, members}
-use Rattle.macros.specs.Read.Step.{on, stop}
+use Rattle.macros.specs.ReadSoFar.Joinable.{unit}
+use Rattle.macros.specs.ReadSoFar.Last.{free, member, dash}
+use Rattle.macros.specs.ReadSoFar.Part.{pattern, members}
+use Rattle.macros.specs.ReadSoFar.Step.{on, stop}
 use Rattle.read_scan.specs.Scan.MacroRead.{refusedAt}
 use Rattle.form_table.specs.Form.{membersItems}
 use Rattle.read_scan.specs.Scan.{faultOf, run, Reached}

@@ -11,9 +11,9 @@ use Rattle.macros.specs.Macro.Mark.{stack, counter}
 use Rattle.macros.specs.Macro.PatternUnit.{class}
 use Rattle.macros.specs.Macro.Piece.{element, start, end, left, right}
 use Rattle.macros.specs.Read.{Part}
-use Rattle.macros.specs.Read.Held.{nothing, unit, query, marked}
-use Rattle.macros.specs.Read.Last.{free}
-use Rattle.macros.specs.Read.Part.{pattern, members, patternCall, awaitSymbol}
+use Rattle.macros.specs.ReadSoFar.Joinable.{nothing, unit, query, marked}
+use Rattle.macros.specs.ReadSoFar.Last.{free}
+use Rattle.macros.specs.ReadSoFar.Part.{pattern, members, patternCall, awaitSymbol}
 use Rattle.read_scan.specs.Scan.MacroRead.{refusedAt, patternTo}
 use Rattle.form_table.specs.Form.{unitRest, pieceItems, patternItems}
 use Rattle.form_element.specs.Element.{unitOf, codeClosure, elementOf}

@@ -38,7 +38,7 @@ ghost use Rattle.macros.specs.Macro.{upper, isRange, markByte};
 ghost use Rattle.macros.specs.Macro.PatternUnit.{callOf};
 ghost use Rattle.macros.specs.Macro.Piece.{left, right};
 ghost use Rattle.macros.specs.Read.{kindDigit};
-ghost use Rattle.macros.specs.Read.Part.{patternEscape, opened};
+ghost use Rattle.macros.specs.ReadSoFar.Part.{patternEscape, opened};
 ghost use Rattle.form_table.specs.Form.{slotBytes, pieceItems};
 ghost use Rattle.form_element.specs.Element.{unitOf};
 ghost use Rattle.form_element.specs.declared.Closure.the-variants.{Once};

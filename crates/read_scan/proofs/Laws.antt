@@ -14,11 +14,11 @@ use Rattle.macros.specs.Refusals.{FileRefusal}
 use Rattle.macros.specs.Refusals.FileRefusal.{incomplete, badCall, macroTooLong}
 use Rattle.macros.specs.Macro.{Macro, pick}
 use Rattle.macros.specs.Read.{Part, Step, Reader, Next as Stepped, readFrom, step, partByte, taken, count, skips, atEnd, breaks, otherwise}
-use Rattle.macros.specs.Read.Part.{pattern, patternEscape, opened, members, membersEscape, patternCall, patternCalled, awaitSymbol, awaitQuote, replacement, replacementEscape, tagNumber, calling, callText, callTextEscape, commands}
-use Rattle.macros.specs.Read.Step.{on, done, stop}
-use Rattle.macros.specs.Read.Reader.{between, inside}
-use Rattle.macros.specs.Read.Next.{go, refuse}
-use Rattle.macros.specs.Read.Read.{refusedAt as fileRefusedAt}
+use Rattle.macros.specs.ReadSoFar.Part.{pattern, patternEscape, opened, members, membersEscape, patternCall, patternCalled, awaitSymbol, awaitQuote, replacement, replacementEscape, tagNumber, calling, callText, callTextEscape, commands}
+use Rattle.macros.specs.ReadSoFar.Step.{on, done, stop}
+use Rattle.macros.specs.ReadFile.Reader.{between, inside}
+use Rattle.macros.specs.ReadFile.Next.{go, refuse}
+use Rattle.macros.specs.ReadFile.Read.{refusedAt as fileRefusedAt}
 use Rattle.read_scan.specs.Bytes.{seen, spaceless}
 use Rattle.read_scan.proofs.Bytes.{in-call-none, in-call-here, in-call-space}
 use Rattle.read_scan.specs.Scan.{MacroRead, atSymbol, noted, goOn, readMacro, after, run, At, Here, Reached, Passes, Calls, wrongCall}

@@ -10,11 +10,11 @@ use Rattle.macros.specs.Refusals.{FileRefusal}
 use Rattle.macros.specs.Refusals.FileRefusal.{fileTooLong, zeroByte, incomplete, badClass, noUnit, badBrace, badCall, noElement, macroTooLong, tooManyMacros}
 use Rattle.macros.specs.Macro.{Piece, Macro, pick}
 use Rattle.macros.specs.Read.{Part, Read, Next as Stepped, readFrom, step, skips, breaks, partByte}
-use Rattle.macros.specs.Read.Part.{pattern, patternEscape, opened, members, membersEscape, patternCall, patternCalled, awaitSymbol, awaitQuote, replacement, replacementEscape, tagNumber, calling, callText, callTextEscape, commands}
-use Rattle.macros.specs.Read.Reader.{between, inside}
-use Rattle.macros.specs.Read.Next.{go, refuse}
-use Rattle.macros.specs.Read.Step.{on}
-use Rattle.macros.specs.Read.Read.{refusedAt as fileRefusedAt}
+use Rattle.macros.specs.ReadSoFar.Part.{pattern, patternEscape, opened, members, membersEscape, patternCall, patternCalled, awaitSymbol, awaitQuote, replacement, replacementEscape, tagNumber, calling, callText, callTextEscape, commands}
+use Rattle.macros.specs.ReadFile.Reader.{between, inside}
+use Rattle.macros.specs.ReadFile.Next.{go, refuse}
+use Rattle.macros.specs.ReadSoFar.Step.{on}
+use Rattle.macros.specs.ReadFile.Read.{refusedAt as fileRefusedAt}
 use Rattle.read_scan.specs.Bytes.{byteHere, nextByte, nextInCall}
 use Rattle.read_scan.specs.declared.Fault.{Fault}
 use Rattle.read_scan.specs.declared.Fault.the-variants.{FileTooLong, ZeroByte, Incomplete, BadClass, NoUnit, BadBrace, BadCall, NoElement, MacroTooLong, TooManyMacros}

@@ -15,11 +15,11 @@ use Rattle.macros.specs.Macro.PatternUnit.{literal, kind, class, callOf}
 use Rattle.macros.specs.Macro.Piece.{element, start, end, left, right}
 use Rattle.macros.specs.Macro.Call.{insert, storeTag, setTo, storeText, setIncrement}
 use Rattle.macros.specs.Macro.Action.{text, tag, call}
-use Rattle.macros.specs.Read.{Held}
+use Rattle.macros.specs.Read.{Joinable}
 use Rattle.macros.specs.Write.{byte, digits, closureBytes, nameBytes, innerBytes, callBytes, commandsBytes, symbolSign, markOf}
 use Rattle.macros.specs.Spell.{Before, needs, needsClass, needsText, none?, behind, leaves, leavesMark, spellMember, spellMembers, spellUnit, spellPiece, spellPattern, spellText, spellAction, spellReplacement, shortest}
 use Rattle.macros.specs.Spell.Before.{bracket, tilde}
-use Rattle.macros.specs.Read.Held.{nothing}
+use Rattle.macros.specs.ReadSoFar.Joinable.{nothing}
 use Rattle.form_bytes.specs.Fours.{four}
 use Rattle.form_table.specs.Form.{memberItems, membersItems, unitRest, pieceItems, patternItems, evened, callItems, callsItems, actionItems, replacementItems, body, bodyBytes}
 use Rattle.form_table.proofs.Actions.{even-length}
@@ -44,7 +44,7 @@ members-room f (m ∷ ms) =
     let y = members-room (behind m) ms in
     omega arith
 
-unit-room : (h : Held) (u : PatternUnit) → 2 + length (unitRest u) ≤ 2 * length (spellUnit h u)
+unit-room : (h : Joinable) (u : PatternUnit) → 2 + length (unitRest u) ≤ 2 * length (spellUnit h u)
 unfolding unitRest spellUnit
 unit-room h (literal b) = let x = byte-some (needs h b) b in omega arith
 unit-room h (kind n) = omega arith
@@ -52,7 +52,7 @@ unit-room h (class true ms) = let x = members-room tilde ms in omega arith
 unit-room h (class false ms) = let x = members-room bracket ms in omega arith
 unit-room h (callOf m i) = omega arith
 
-piece-room : (h : Held) (p : Piece) → length (pieceItems p) ≤ 2 * length (spellPiece h p)
+piece-room : (h : Joinable) (p : Piece) → length (pieceItems p) ≤ 2 * length (spellPiece h p)
 unfolding pieceItems spellPiece
 piece-room h (element u c) = let x = unit-room h u in let a = length-append (spellUnit h u) (closureBytes c) in omega arith
 piece-room h start = omega arith
@@ -60,7 +60,7 @@ piece-room h end = omega arith
 piece-room h left = omega arith
 piece-room h right = omega arith
 
-pattern-room : (h : Held) (ps : List Piece) → length (patternItems ps) ≤ 2 * length (spellPattern h ps)
+pattern-room : (h : Joinable) (ps : List Piece) → length (patternItems ps) ≤ 2 * length (spellPattern h ps)
 unfolding patternItems spellPattern
 pattern-room h [] = omega arith
 pattern-room h (p ∷ ps) =

@@ -3,7 +3,7 @@ use mathlib.Core.Path.{refl}
 use Prim.Native.Nat.{_≤_, _-_}
 use native.Mathlib.Omega.{arith}
 use lib.ListN.{length}
-use Rattle.macros.specs.Read.Part.{awaitQuote}
+use Rattle.macros.specs.ReadSoFar.Part.{awaitQuote}
 use Rattle.read_scan.specs.Scan.{Reached}
 use Rattle.read_scan.proofs.Laws.{reached-behind}
 use Rattle.read_file.proofs.Waiting.{Waits, quote-none, quote-byte, quote-39, quote-59, quote-on}

@@ -3,7 +3,7 @@ use mathlib.Core.Path.{refl}
 use Prim.Native.Nat.{_≤_, _-_}
 use native.Mathlib.Omega.{arith}
 use lib.ListN.{length}
-use Rattle.macros.specs.Read.Part.{awaitSymbol}
+use Rattle.macros.specs.ReadSoFar.Part.{awaitSymbol}
 use Rattle.read_scan.specs.Scan.{Reached}
 use Rattle.read_scan.proofs.Laws.{reached-behind}
 use Rattle.read_file.proofs.Waiting.{Waits, symbol-none, symbol-byte, symbol-61, symbol-60, symbol-39, symbol-59, symbol-on}

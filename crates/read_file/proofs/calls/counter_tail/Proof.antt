@@ -3,7 +3,7 @@ use mathlib.Core.List.{[], _∷_}
 use Prim.Native.Nat.{_+_}
 use Rattle.macros.specs.Macro.Mark.{counter}
 use Rattle.macros.specs.Macro.Call.{setTo, setIncrement}
-use Rattle.macros.specs.Read.Phase.{equals, increment}
+use Rattle.macros.specs.ReadSoFar.Phase.{equals, increment}
 use Rattle.read_file.proofs.Marks.{counter-comma, counter-uncomma, counter-equal, counter-unequal, counter-command, counter-close, counter-strange, sets-counter, sets-increment, insert-counter}
 use native.Mathlib.Omega.{arith}
 use borrow.Author.Needs.{needs}

@@ -3,7 +3,7 @@ use mathlib.Core.List.{[], _∷_}
 use Prim.Native.Nat.{_+_}
 use Rattle.macros.specs.Macro.Mark.{stack}
 use Rattle.macros.specs.Macro.Call.{setTo}
-use Rattle.macros.specs.Read.Phase.{equals}
+use Rattle.macros.specs.ReadSoFar.Phase.{equals}
 use Rattle.read_file.proofs.Marks.{stack-colon, stack-equal, stack-unequal, stack-command, stack-close, stack-strange, sets-stack, insert-stack}
 use native.Mathlib.Omega.{arith}
 use borrow.Author.Needs.{needs}

@@ -9,7 +9,7 @@ use denote.Enum.Declared.{tagOf}
 use types.Run.{OneOf}
 use lib.ListN.{length, drop}
 use Rattle.macros.specs.Read.{readFrom}
-use Rattle.macros.specs.Read.Reader.{between}
+use Rattle.macros.specs.ReadFile.Reader.{between}
 use Rattle.read_file.specs.File.{Adds}
 use Rattle.read_file.specs.declared.Seek.{Seek}
 use Rattle.read_file.specs.declared.Seek.the-variants.{Quote, Done, Skipping}

@@ -7,7 +7,7 @@ use lib.ListN.{length, drop}
 use denote.Ref.{now}
 use Rattle.macros.specs.Macro.{Macro}
 use Rattle.macros.specs.Read.{readFrom}
-use Rattle.macros.specs.Read.Reader.{between}
+use Rattle.macros.specs.ReadFile.Reader.{between}
 use Rattle.read_file.proofs.Seeking.{seek-on, seek-quote, seek-done, seek-skipping}
 use Rattle.read_file.proofs.file.next_quote.Statement.{statement}
 use Rattle.read_file.proofs.file.next_quote.Tie as tie

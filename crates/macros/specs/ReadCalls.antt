@@ -1,0 +1,130 @@
+-- 01, part 2: reading a call of a replacement or a command, behind `&(` or `#(`.
+use Prim.Native.Nat.{ℕ, _+_, _-_, _*_}
+use mathlib.Core.Bool.{Bool, true, false, not, _&&_, _||_}
+use mathlib.Core.List.{List, [], _∷_, reverse}
+use mathlib.Core.Option.{Option, none, some}
+use lib.Dec.{ltb, eqb}
+use lib.ListN.{length}
+use Prim.Native.Char.{code}
+use Rattle.macros.specs.Quoted.{_is_}
+use Rattle.macros.specs.Bounds.{mostEntryBytes}
+use Rattle.macros.specs.Refusals.FileRefusal.{incomplete, badCall}
+use Rattle.macros.specs.Macro.{Mark, Sign, Move, Call, pick, lower, digit, tags}
+use Rattle.macros.specs.Macro.Mark.{stack, counter}
+use Rattle.macros.specs.Macro.Sign.{plus, minus}
+use Rattle.macros.specs.Macro.Move.{still, before, after}
+use Rattle.macros.specs.Macro.Call.{insert, storeTag, setTo, storeText, setIncrement}
+use Rattle.macros.specs.Macro.Action.{call}
+use Rattle.macros.specs.Formed.{numberFits}
+use Rattle.macros.specs.ReadSoFar.{Front, CallSite, Phase, Part, Step, breaks}
+use Rattle.macros.specs.ReadSoFar.CallSite.{inReplacement, asCommand}
+use Rattle.macros.specs.ReadSoFar.Phase.{begun, signed, named, equals, increment, tagged, comma, tagSigned, tagNamed, texted}
+use Rattle.macros.specs.ReadSoFar.Part.{replacement, calling, callText, callTextEscape, commands}
+use Rattle.macros.specs.ReadSoFar.Step.{on, stop}
+
+-- "Spaces in calls are ignored"; else 12 in an open call, or 16 at the first byte that cannot be
+unfoldable pub otherwise : Part → ℕ → Step
+otherwise st b = pick (b is " ") (on st) (pick (breaks b) (stop incomplete) (stop badCall))
+
+-- "A number is one or more digits, taken by its value."
+unfoldable pub andDigit : Option ℕ → ℕ → ℕ
+andDigit none b = b - code "0"
+andDigit (some n) b = n * 10 + (b - code "0")
+
+-- a `+` or `-`
+unfoldable pub isSign : ℕ → Bool
+isSign b = b is "+" || b is "-"
+
+-- which of the two
+unfoldable pub signOf : ℕ → Sign
+signOf b = pick (b is "+") plus minus
+
+-- "one `+` or `-`": there is none yet
+unfoldable pub isStill : Move → Bool
+isStill still = true
+isStill (before s) = false
+isStill (after s) = false
+
+-- what a byte does in a call: it goes on, begins the text, ends the call, or cannot be
+pub data Turn : Type 0 where
+  into : Phase → Turn
+  textOf : ℕ → Move → Turn
+  closed : Call → Turn
+  wrong : Turn
+
+-- the `)` behind a number: there must be one
+unfoldable pub numberEnd : (ℕ → Call) → Option ℕ → Turn
+numberEnd c none = wrong
+numberEnd c (some n) = closed (c n)
+
+-- a byte of `&(i)`, `&(n,i)`, `&(i=n)`, `&(i:text:)`, `#(i)`, `#(i=n)`, `#(i,n)`, with signs where 01 has them; cmd: as a command.
+-- A command has no `)` behind the letter, and no sign in a counter's call
+unfoldable pub callByte : (cmd : Bool) → Phase → ℕ → Turn
+-- behind `&(` here may stand a digit, a sign or a letter
+callByte cmd (begun stack) b =
+    pick (digit b) (into (tagged (b - code "0")))
+    (pick (isSign b) (into (signed stack (signOf b))) (pick (lower b) (into (named stack b still)) wrong))
+-- behind `#(` here may stand a sign, but not in a command, or a letter
+callByte cmd (begun counter) b =
+    pick (isSign b && not cmd) (into (signed counter (signOf b))) (pick (lower b) (into (named counter b still)) wrong)
+-- behind a sign here may stand a letter
+callByte cmd (signed m s) b = pick (lower b) (into (named m b (before s))) wrong
+-- behind `&(i` here may stand `)`, but not in a command, or `:`; without a sign also `=` or a sign
+callByte cmd (named stack i v) b =
+    pick (b is ")" && not cmd) (closed (insert stack i v))
+    (pick (b is ":") (textOf i v)
+    (pick (b is "=" && isStill v) (into (equals stack i none))
+    (pick (isSign b && isStill v) (into (named stack i (after (signOf b)))) wrong)))
+-- behind `#(i` here may stand `)`, but not in a command; without a sign also `,`, `=` or, but not in a command, a sign
+callByte cmd (named counter i v) b =
+    pick (b is ")" && not cmd) (closed (insert counter i v))
+    (pick (b is "," && isStill v) (into (increment i none))
+    (pick (b is "=" && isStill v) (into (equals counter i none))
+    (pick (isSign b && (isStill v && not cmd)) (into (named counter i (after (signOf b)))) wrong)))
+-- behind `i=` here may stand a digit or, behind one, `)`
+callByte cmd (equals m i o) b =
+    pick (digit b) (into (equals m i (some (andDigit o b)))) (pick (b is ")") (numberEnd (setTo m i) o) wrong)
+-- behind `#(i,` here may stand a digit or, behind one, `)`
+callByte cmd (increment i o) b =
+    pick (digit b) (into (increment i (some (andDigit o b)))) (pick (b is ")") (numberEnd (setIncrement i) o) wrong)
+-- behind `&(n` here may stand a digit or `,`
+callByte cmd (tagged n) b = pick (digit b) (into (tagged (andDigit (some n) b))) (pick (b is ",") (into (comma n)) wrong)
+-- behind `&(n,` here may stand a sign or a letter
+callByte cmd (comma n) b = pick (isSign b) (into (tagSigned n (signOf b))) (pick (lower b) (into (tagNamed n b still)) wrong)
+-- behind `&(n,` and a sign here may stand a letter
+callByte cmd (tagSigned n s) b = pick (lower b) (into (tagNamed n b (before s))) wrong
+-- behind `&(n,i` here may stand `)` or, without a sign, a sign
+callByte cmd (tagNamed n i v) b =
+    pick (b is ")") (closed (storeTag n i v)) (pick (isSign b && isStill v) (into (tagNamed n i (after (signOf b)))) wrong)
+-- behind `&(i:text:` here may stand `)`
+callByte cmd (texted i v t) b = pick (b is ")") (closed (storeText i v (reverse t))) wrong
+
+-- whether a call is a command
+unfoldable pub isCommand : CallSite → Bool
+isCommand (inReplacement f as₁) = false
+isCommand (asCommand f as₁ cs) = true
+
+-- the pattern and symbol of a call's macro
+unfoldable pub frontOf : CallSite → Front
+frontOf (inReplacement f as₁) = f
+frontOf (asCommand f as₁ cs) = f
+
+-- behind a call
+unfoldable pub behindCall : CallSite → Call → Part
+behindCall (inReplacement f as₁) c = replacement none f (call c ∷ as₁)
+behindCall (asCommand f as₁ cs) c = commands none f as₁ (c ∷ cs)
+
+-- what a byte of a call comes to: 16 at the `)` if a number is out of range
+unfoldable pub turned : CallSite → Phase → ℕ → Turn → Step
+turned pl ph b (into ph′) = on (calling pl ph′)
+turned pl ph b (textOf i v) = on (callText pl i v [])
+turned pl ph b (closed c) = pick (numberFits (tags (frontOf pl .pieces)) c) (on (behindCall pl c)) (stop badCall)
+turned pl ph b wrong = otherwise (calling pl ph) b
+
+-- "`&(i:text:)` stores text, at most 50 bytes, ended by the first `:` without `\`";
+-- 12 at a raw quote, `;` or line feed, 16 at the 51st byte
+unfoldable pub textByte : CallSite → ℕ → Move → List ℕ → ℕ → Step
+textByte pl i v t b =
+    pick (b is ":") (on (calling pl (texted i v t)))
+    (pick (breaks b) (stop incomplete)
+    (pick (ltb (length t) mostEntryBytes) (pick (b is "\\") (on (callTextEscape pl i v t)) (on (callText pl i v (b ∷ t)))) (stop badCall)))

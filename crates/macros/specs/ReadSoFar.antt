@@ -1,0 +1,105 @@
+-- 01, part 2: what has been read so far of a macro. Lists are newest first.
+use Prim.Native.Nat.{ℕ}
+use mathlib.Core.Bool.{Bool}
+use mathlib.Core.List.{List}
+use mathlib.Core.Option.{Option}
+use Prim.Native.Char.{code}
+use Rattle.macros.specs.Quoted.{bytes, _is_}
+use Rattle.macros.specs.Refusals.{FileRefusal}
+use Rattle.macros.specs.Macro.{Member, Mark, PatternUnit, Piece, Sign, Move, Call, Action, Symbol, Macro, pick, among}
+
+-- what the next byte may still join: nothing; a unit, by `*`; a `*`, by `-`; a `?`, by a digit; a `&` or `#`, by `(`
+pub data Joinable : Type 0 where
+  nothing : Joinable
+  unit : PatternUnit → Joinable
+  starred : PatternUnit → Joinable
+  query : Joinable
+  marked : Mark → Joinable
+
+-- in a class: the last member, if it may still begin a range, and a dash behind it
+pub data Last : Type 0 where
+  free : Last
+  member : ℕ → Last
+  dash : ℕ → Last
+
+-- a pattern and its symbol
+pub record Front : Type 0 where
+  pub pieces : List Piece
+  pub symbol : Symbol
+
+-- where a call other than a pattern's stands
+pub data CallSite : Type 0 where
+  inReplacement : Front → List Action → CallSite
+  asCommand : Front → List Action → List Call → CallSite
+
+-- how far a call is, behind `&(` or `#(`
+pub data Phase : Type 0 where
+  -- `&(` or `#(`
+  begun : Mark → Phase
+  -- a sign
+  signed : Mark → Sign → Phase
+  -- a letter with its sign
+  named : Mark → ℕ → Move → Phase
+  -- `i=` and the number so far
+  equals : Mark → ℕ → Option ℕ → Phase
+  -- `i,` and the number so far
+  increment : ℕ → Option ℕ → Phase
+  -- a tag's number
+  tagged : ℕ → Phase
+  -- a tag's number and its comma
+  comma : ℕ → Phase
+  -- behind the comma, a sign
+  tagSigned : ℕ → Sign → Phase
+  -- behind the comma, a letter with its sign
+  tagNamed : ℕ → ℕ → Move → Phase
+  -- a letter and the whole text
+  texted : ℕ → Move → List ℕ → Phase
+
+-- the open part of a macro
+pub data Part : Type 0 where
+  -- a pattern
+  pattern : Joinable → List Piece → Part
+  -- behind `\` in a pattern
+  patternEscape : List Piece → Part
+  -- behind `[`
+  opened : List Piece → Part
+  -- in a class, true if it is the complement
+  members : List Piece → Bool → Last → List Member → Part
+  -- behind `\` in a class
+  membersEscape : List Piece → Bool → Last → List Member → Part
+  -- behind `&(` or `#(` in a pattern
+  patternCall : Mark → List Piece → Part
+  -- behind the letter of a pattern's call
+  patternCalled : Mark → List Piece → ℕ → Part
+  -- before the symbol
+  awaitSymbol : List Piece → Part
+  -- before the replacement
+  awaitQuote : Front → Part
+  -- a replacement, with a `&` or `#` that `(` may join
+  replacement : Option Mark → Front → List Action → Part
+  -- behind `\` in a replacement
+  replacementEscape : Front → List Action → Part
+  -- in `{n}`, with the number so far
+  tagNumber : Option ℕ → Front → List Action → Part
+  -- in a call of a replacement or a command
+  calling : CallSite → Phase → Part
+  -- in a call's text
+  callText : CallSite → ℕ → Move → List ℕ → Part
+  -- behind `\` in a call's text
+  callTextEscape : CallSite → ℕ → Move → List ℕ → Part
+  -- the commands, with a `&` or `#` that `(` may join
+  commands : Option Mark → Front → List Action → List Call → Part
+
+-- what a byte does in a macro: it goes on, ends the macro, or shows a fault
+pub data Step : Type 0 where
+  on : Part → Step
+  done : Macro → Step
+  stop : FileRefusal → Step
+
+-- "A raw `;` or line feed may not stand there", nor a quote: 12
+unfoldable pub breaks : ℕ → Bool
+breaks = among (bytes "';\n")
+
+-- "`\` .. makes the next byte literal, but `\n` is line feed and `\t` tab"
+unfoldable pub escaped : ℕ → ℕ
+escaped b = pick (b is "n") (code "\n") (pick (b is "t") (code "\t") b)
