@@ -167,6 +167,23 @@ struct step {
     size_t new_size;
 };
 
+/* steps.c */
+
+struct steps {
+    const uint8_t *at, *end; /* what is left of the trace */
+    size_t macros;           /* of the table */
+    struct step step;        /* the last one */
+};
+
+/* Begins with the trace of a line, of a table with so many macros. */
+void start_steps(struct steps *steps, const uint8_t *trace, size_t macros, const struct line *line);
+/* Takes the three lines of a pass that follows the last one; 0 if there are none. */
+int take_step(struct steps *steps);
+/* Whether the lines of a trace are those of its passes: no text in it holds a line
+   feed. The line was taken, with this answer and this output. */
+int is_plain(const uint8_t *trace, size_t macros, const struct line *line, const m7_answer *answer,
+             const uint8_t *output);
+
 /* changes.c */
 
 struct change {
@@ -184,13 +201,15 @@ struct replay {
     uint8_t closed[M7_MOST_MACROS], passed[M7_MOST_MACROS];
     uint8_t state[M7_STATE_BYTES];
     size_t size; /* of the text */
+    int feeds;   /* the text holds line feeds */
     uint8_t text[M7_MOST_LINE_BYTES], before[M7_MOST_LINE_BYTES];
     struct step step;  /* the last pass */
     m7_answer answer; /* its answer, as a line of its own */
 };
 
-/* A pass had no occurrence or one; it was refused or made a control line; the text
-   holds a line feed and cannot be fed; no pass is due. */
+/* A pass had no occurrence or one; it was refused or made a control line, which the
+   last pass then has; the text holds a line feed and every byte that could be sent in
+   its stead; no pass is due. */
 enum replayed { PASSED, OCCURRED, ENDED, UNKNOWN, NONE_DUE };
 
 /* How many macros the bytes of a table hold. */

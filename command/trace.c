@@ -63,44 +63,12 @@ static void show_step(const struct step *step)
 
 /* THE TRACE OF A LINE THAT WAS TAKEN */
 
-static int begins(const uint8_t *at, const uint8_t *end, const void *text, size_t size)
-{
-    return (size_t)(end - at) >= size && memcmp(at, text, size) == 0;
-}
-
-/* Where a new text ends: at the end of the trace, or where it is the old text of
-   the next pass. It may hold line feeds. */
-static const uint8_t *text_end(const uint8_t *text, const uint8_t *end)
-{
-    static const char next[] = "\noldline:";
-    const uint8_t *at = text;
-    while (at + 1 < end) {
-        size_t size = (size_t)(at - text);
-        if (begins(at, end, next, strlen(next)) && begins(at + strlen(next), end, text, size)
-            && begins(at + strlen(next) + size, end, "\nmacro #:", 9))
-            break;
-        at++;
-    }
-    return at;
-}
-
 static void show_trace(const struct line *line)
 {
-    const uint8_t *at = trace, *end = memchr(trace, 0, sizeof trace);
-    struct step step = {0, NULL, 0, NULL, line->size};
-    end = end == NULL ? trace + sizeof trace : end;
-    while (at < end) {
-        step.old = at + strlen("oldline:");
-        step.old_size = step.new_size;
-        at = step.old + step.old_size + strlen("\nmacro #:");
-        for (step.number = 0; *at != '\n'; at++)
-            step.number = 10 * step.number + (size_t)(*at - '0');
-        step.new = at + strlen("\nnewline:");
-        at = text_end(step.new, end);
-        step.new_size = (size_t)(at - step.new);
-        at++;
-        show_step(&step);
-    }
+    static struct steps steps;
+    start_steps(&steps, trace, macros_in(old_macros), line);
+    while (take_step(&steps))
+        show_step(&steps.step);
 }
 
 /* Feeds the line once more, to copies and with TRACE 1; 0 if the trace is too long. */
@@ -114,7 +82,7 @@ static int has_trace(const struct job *job, const struct line *line)
                    job->budget, unused, sizeof unused, trace, sizeof trace).number == 0;
 }
 
-/* THE PASSES OF A LINE WITHOUT A TRACE, one at a time */
+/* THE PASSES OF A LINE ONE AT A TIME, where its trace has line feeds or there is none */
 
 static struct replay replay;
 
@@ -137,21 +105,27 @@ static size_t count_steps(const struct line *line, uint32_t passes)
 }
 
 /* What became of the pass after the last one with an occurrence. */
-static void show_last(enum replayed last)
+static void show_last(enum replayed last, const m7_answer *answer)
 {
     if (last == UNKNOWN)
-        puts("    the text now holds a line feed; what follows cannot be shown");
+        puts("    the text now holds a line feed, and every byte that could be sent in its stead;\n"
+             "    later passes cannot be shown");
     if (last != ENDED)
         return;
+    if (answer->number == 0) {
+        show_step(&replay.step);
+        return;
+    }
     show_macro(replay.step.number);
     puts(replay.answer.number >= M7_NEW_LINE_TOO_LONG && replay.answer.number <= M7_COUNTER_TOO_HIGH
              ? "    the line is refused in this pass"
              : "    makes a line that begins with $");
 }
 
-static void show_passes(const struct line *line, const m7_answer *answer)
+/* Shows all passes with an occurrence, or the first and the last. */
+static void show_passes(const struct line *line, const m7_answer *answer, int all)
 {
-    size_t steps = count_steps(line, answer->passes);
+    size_t steps = all ? 0 : count_steps(line, answer->passes);
     size_t hidden = steps > SHOWN_FIRST + SHOWN_LAST ? steps - SHOWN_FIRST - SHOWN_LAST : 0;
     uint32_t left = answer->passes;
     enum replayed last;
@@ -162,7 +136,7 @@ static void show_passes(const struct line *line, const m7_answer *answer)
         else if (i == SHOWN_FIRST)
             printf("  .. %zu more such passes ..\n", hidden);
     }
-    show_last(last);
+    show_last(last, answer);
 }
 
 /* LINES */
@@ -207,10 +181,10 @@ static void show(const struct job *job, const struct line *line, const m7_answer
         show_refused(line, answer);
     if (line->size <= M7_MOST_LINE_BYTES && !(of_reading(answer) && answer->passes == 0))
         show_row("  line     ", line->bytes, line->size);
-    if (traced)
+    if (traced && is_plain(trace, macros_in(old_macros), line, answer, output))
         show_trace(line);
-    else
-        show_passes(line, answer);
+    else if (answer->passes > 0)
+        show_passes(line, answer, traced);
     if (answer->kind == M7_OUT && occurred)
         show_row("  out      ", output, answer->length);
 }
