@@ -299,9 +299,13 @@ m7_answer m7_fresh(uint8_t *state, size_t state_size);
        macro #:1
        newline:my color
 
-   A line feed ends each of the three. Line feeds in a text stand as they are;
-   the text after a pass is also the text before the next one in the trace, so
-   the texts can still be told apart. If no macro occurred, all bytes are zero.
+   A line feed ends each of the three. Line feeds in a text stand as they are,
+   and a replacement may also make what looks like lines of a trace: the table
+   'a'<'x\noldline:x\nmacro \#:2\nnewline:y'; gives the line a the same trace
+   as 'a'<'x';'x'<'y'; does. So a trace alone does not tell where its texts
+   end, unless no macro and no stack holds a line feed. A program that reads
+   one has to check each number in it; docs/DECISIONS.md says how `m7 trace`
+   finds the passes of every line. If no macro occurred, all bytes are zero.
    Answer, output, table and state are the same with the flag on or off, but
    for the flag itself and unless 36 comes.
 
