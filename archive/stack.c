@@ -17,11 +17,12 @@ static uint8_t written[M7_FILE_BYTES];
 static uint8_t file[M7_FILE_BYTES];
 static uint8_t state[M7_STATE_BYTES];
 static uint8_t output[M7_OUTPUT_BYTES];
+static uint8_t trace[M7_TRACE_BYTES];
 static uint8_t line[M7_MOST_LINE_BYTES];
 static size_t line_size;
 static size_t file_size;
 static m7_answer answer;
-static int plain;
+static int plain, traced;
 
 static void *nothing(void *unused) { return unused; }
 
@@ -40,7 +41,7 @@ static void *writes(void *unused)
 static void *feeds(void *unused)
 {
     answer = m7_feed(table, sizeof table, state, sizeof state, line, line_size,
-                     10000, output, sizeof output);
+                     10000, output, sizeof output, trace, sizeof trace);
     return unused;
 }
 
@@ -96,9 +97,11 @@ static void mixed(const char *first, const char *unit, int times, const char *la
     add("'<'';");
     m7_read(file, file_size, table, sizeof table);
     m7_fresh(state, sizeof state);
+    state[M7_STATE_TRACE] = (uint8_t)traced;
     memset(line, 'a', sizeof line);
     line_size = sizeof line;
-    snprintf(name, sizeof name, "m7_feed, %s, %d times %s, %s", first, times, unit, last);
+    snprintf(name, sizeof name, "m7_feed%s, %s, %d times %s, %s", traced ? " (TRACE 1)" : "", first,
+             times, unit, last);
     show(name, feeds);
 }
 
@@ -293,5 +296,9 @@ int main(int count, char **words)
     memcpy(line, "$MACRO 'a'='b';", 15);
     line_size = 15;
     show("m7_feed, $MACRO", feeds);
+    traced = 1;
+    worst("a*-^", 126, "b");
+    worst("a*-^", 126, "a*");
+    worst("a*", 253, "");
     return 0;
 }

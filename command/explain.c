@@ -27,8 +27,8 @@ static const struct number numbers[] = {
      "bytes, or begin with m7_fresh. With m7 run: the file of --state is damaged.\n",
      NULL, NULL, NULL, "a state whose first byte, a flag, was set to 2"},
     {M7_BAD_MEMORY, host,
-     "A table, a state, an output or a file to write to has another size than m7.h\n"
-     "states. Take the sizes M7_TABLE_BYTES and so on from there.\n",
+     "A table, a state, an output, a trace or a file to write to has another size than\n"
+     "m7.h states. Take the sizes M7_TABLE_BYTES and so on from there.\n",
      NULL, NULL, NULL, "m7_fresh with a memory of 100 bytes"},
     {M7_BUDGET_TOO_LARGE, host,
      "A line may have 1,000,000 passes at most. m7 run takes no larger number.\n",
@@ -100,12 +100,12 @@ static const struct number numbers[] = {
      "After each change the line is looked at again from the newest macro on. Here\n"
      "that did not end within the budget: mostly a replacement that its own pattern,\n"
      "or that of another macro, finds again. Write < where once is enough, or take a\n"
-     "larger budget.\n",
+     "larger budget. m7 trace shows the passes.\n",
      "'int'='integer';", "print", "262", NULL},
     {M7_NEW_LINE_TOO_LONG, work,
      "A pass makes a line of at most 1,054 bytes. Mostly a replacement holds what its\n"
      "own pattern finds, so that the line grows with each pass. Write < where once is\n"
-     "enough.\n",
+     "enough. m7 trace shows the passes.\n",
      "'int'='integer';", "print", NULL, NULL},
     {M7_TAG_TOO_LONG, work,
      "&(n,i) stores tag n in an entry of a stack, which has 50 bytes. Let the tag\n"
@@ -119,6 +119,12 @@ static const struct number numbers[] = {
      "A counter goes from 1 to 999,999,999, and a + adds its increment. Set it back\n"
      "with #(i=n).\n",
      "'d'<'#(n=999999999)#(+n)';", "d", NULL, NULL},
+    {M7_TRACE_TOO_LONG, work,
+     "While TRACE is 1, each pass in which a macro occurred writes three lines to the\n"
+     "trace, which has 65,536 bytes in all. Here they do not fit: mostly a replacement\n"
+     "holds what its own pattern finds, so that there are many passes. Write < where\n"
+     "once is enough, or feed the line while TRACE is 0. m7 trace shows the passes.\n",
+     NULL, NULL, NULL, "$TRACE 1, and then print under 'int'='integer';"},
     {M7_BAD_WORD_PATTERN, reader,
      "A word-pattern is letters, digits and dashes, without two dashes in a row; it\n"
      "has no spaces, dots or stars. One dash already stands for any run of letters and\n"

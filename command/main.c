@@ -3,7 +3,7 @@
 #include <string.h>
 
 static const struct command *const commands[] = {
-    &run_command, &check_command, &write_command, &words_command, &explain_command};
+    &run_command, &trace_command, &check_command, &write_command, &words_command, &explain_command};
 
 enum { COMMANDS = sizeof commands / sizeof commands[0] };
 

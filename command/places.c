@@ -1,5 +1,6 @@
 /* Lines and columns of a byte, and the line printed with a caret below it. */
 #include "command.h"
+#include <string.h>
 
 /* Of a long line so many bytes are shown before and after the caret. */
 enum { SHOWN_BEFORE = 60, SHOWN_AFTER = 40 };
@@ -89,4 +90,56 @@ void show_line(FILE *out, const uint8_t *bytes, size_t size, size_t at)
     fputs(before ? "      " : "    ", out);
     show_room(out, bytes, from, at, to);
     fputs("^\n", out);
+}
+
+/* As show_letter, with \n and \t for line feed and tab, as macros have them. */
+static size_t show_spelled(FILE *out, const uint8_t *bytes, size_t size, size_t *columns)
+{
+    if (bytes[0] != '\n' && bytes[0] != '\t')
+        return show_letter(out, bytes, size, columns);
+    if (out != NULL)
+        fputs(bytes[0] == '\n' ? "\\n" : "\\t", out);
+    *columns = 2;
+    return 1;
+}
+
+void show_text(FILE *out, const uint8_t *bytes, size_t size)
+{
+    size_t columns;
+    if (size == 0)
+        fputs("(empty)", out);
+    for (size_t i = 0; i < size;)
+        i += show_spelled(out, bytes + i, size - i, &columns);
+}
+
+/* Carets below the letters with a marked byte, after some room. */
+static void show_carets(FILE *out, size_t room, const uint8_t *bytes, const uint8_t *marks,
+                        size_t from, size_t to)
+{
+    size_t columns;
+    if (memchr(marks + from, 1, to - from) == NULL)
+        return;
+    for (size_t length; from < to; from += length) {
+        length = show_spelled(NULL, bytes + from, to - from, &columns);
+        if (memchr(marks + from, 1, length) == NULL) {
+            room += columns;
+            continue;
+        }
+        fprintf(out, "%*s", (int)room, "");
+        for (room = 0; columns > 0; columns--)
+            fputc('^', out);
+    }
+    fputc('\n', out);
+}
+
+void show_marked(FILE *out, const char *label, const uint8_t *bytes, size_t size,
+                 const uint8_t *marks, size_t from, size_t to)
+{
+    int before = from > SHOWN_BEFORE, after = size - to > SHOWN_AFTER;
+    from = before ? whole_letter(bytes, 0, from - SHOWN_BEFORE, size) : 0;
+    to = after ? whole_letter(bytes, to, to + SHOWN_AFTER, size) : size;
+    fprintf(out, "%s%s", label, before ? ".." : "");
+    show_text(out, bytes + from, to - from);
+    fputs(after ? "..\n" : "\n", out);
+    show_carets(out, strlen(label) + (before ? 2 : 0), bytes, marks, from, to);
 }

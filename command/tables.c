@@ -14,6 +14,15 @@ int load_table(const char *name, struct table *table)
     return table->answer.number == 0 ? FINE : REFUSED;
 }
 
+size_t macro_start(const struct table *table, size_t number)
+{
+    scan_file(&scan, table->file, table->size);
+    for (size_t i = 0; i < scan.count; i++)
+        if (scan.parts[i].kind == MACRO && number-- == 0)
+            return scan.parts[i].from;
+    return table->size;
+}
+
 static void show_head(FILE *out, const struct table *table, size_t at)
 {
     struct place place = place_of(table->file, table->size, at);

@@ -10,12 +10,6 @@ struct pattern {
     size_t size;
 };
 
-struct line {
-    const char *name; /* of its file */
-    size_t number, size;
-    uint8_t bytes[M7_MOST_LINE_BYTES + 1];
-};
-
 /* Whether a byte of the pattern is beyond ASCII. */
 static int beyond_ascii(const struct pattern *pattern)
 {

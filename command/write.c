@@ -2,10 +2,7 @@
 #include "command.h"
 #include <string.h>
 
-enum { SLOT_BYTES = M7_TABLE_BYTES / M7_MOST_MACROS };
-
 static struct table table;
-static struct scan scan;
 static uint8_t file[M7_FILE_BYTES];
 
 /* The first macro that alone is refused, counted from 0. */
@@ -14,21 +11,11 @@ static size_t refused_macro(void)
     static uint8_t alone[M7_TABLE_BYTES];
     size_t i;
     for (i = 0; i < table.answer.length; i++) {
-        memcpy(alone, table.macros + SLOT_BYTES * i, SLOT_BYTES);
+        memcpy(alone, table.macros + M7_SLOT_BYTES * i, M7_SLOT_BYTES);
         if (m7_write(alone, sizeof alone, file, sizeof file).number != 0)
             break;
     }
     return i;
-}
-
-/* Where a macro begins in the file that was read. */
-static size_t macro_start(size_t number)
-{
-    scan_file(&scan, table.file, table.size);
-    for (size_t i = 0; i < scan.count; i++)
-        if (scan.parts[i].kind == MACRO && number-- == 0)
-            return scan.parts[i].from;
-    return 0;
 }
 
 static void show_refused(const m7_answer *answer)
@@ -37,7 +24,7 @@ static void show_refused(const m7_answer *answer)
     snprintf(kind, sizeof kind, "%u: %s as it is written out", (unsigned)answer->number,
              m7_meaning(answer->number));
     if (answer->number == M7_MACRO_TOO_LONG)
-        show_place(stderr, &table, macro_start(refused_macro()), kind);
+        show_place(stderr, &table, macro_start(&table, refused_macro()), kind);
     else
         fprintf(stderr, "%s: %s\n", table.name, kind);
 }

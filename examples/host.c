@@ -8,6 +8,7 @@
 static uint8_t table[M7_TABLE_BYTES];
 static uint8_t state[M7_STATE_BYTES];
 static uint8_t output[M7_OUTPUT_BYTES];
+static uint8_t trace[M7_TRACE_BYTES];
 
 /* Reads a file whole, or one byte more than the engine takes of it. */
 static int load(const char *name, uint8_t *bytes, size_t most, size_t *size)
@@ -39,7 +40,7 @@ static int next_line(uint8_t *line, size_t most, size_t *size)
 static void feed(const uint8_t *line, size_t size)
 {
     m7_answer a = m7_feed(table, sizeof table, state, sizeof state, line, size,
-                          10000, output, sizeof output);
+                          10000, output, sizeof output, trace, sizeof trace);
     if (a.number != 0) {
         printf("refused with %u after %u passes: %s\n", (unsigned)a.number,
                (unsigned)a.passes, m7_meaning(a.number));

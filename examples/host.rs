@@ -33,11 +33,14 @@ extern "C" {
         budget: u32,
         output: *mut u8,
         output_size: usize,
+        trace: *mut u8,
+        trace_size: usize,
     ) -> Answer;
     fn m7_meaning(number: u32) -> *const c_char;
     fn m7_table_bytes() -> usize;
     fn m7_state_bytes() -> usize;
     fn m7_output_bytes() -> usize;
+    fn m7_trace_bytes() -> usize;
     fn m7_file_bytes() -> usize;
 }
 
@@ -46,6 +49,7 @@ struct Engine {
     table: Vec<u8>,
     state: Vec<u8>,
     output: Vec<u8>,
+    trace: Vec<u8>,
 }
 
 impl Engine {
@@ -54,16 +58,18 @@ impl Engine {
         let mut table = vec![0; unsafe { m7_table_bytes() }];
         let mut state = vec![0; unsafe { m7_state_bytes() }];
         let output = vec![0; unsafe { m7_output_bytes() }];
+        let trace = vec![0; unsafe { m7_trace_bytes() }];
         let read = unsafe { m7_read(file.as_ptr(), file.len(), table.as_mut_ptr(), table.len()) };
         if read.number != 0 {
             return Err(read);
         }
         unsafe { m7_fresh(state.as_mut_ptr(), state.len()) };
-        Ok(Engine { table, state, output })
+        Ok(Engine { table, state, output, trace })
     }
 
     fn feed(&mut self, line: &[u8], budget: u32) -> Answer {
         let (table, state, output) = (&mut self.table, &mut self.state, &mut self.output);
+        let trace = &mut self.trace;
         unsafe {
             m7_feed(
                 table.as_mut_ptr(),
@@ -75,6 +81,8 @@ impl Engine {
                 budget,
                 output.as_mut_ptr(),
                 output.len(),
+                trace.as_mut_ptr(),
+                trace.len(),
             )
         }
     }

@@ -4,8 +4,8 @@
        threads COUNT TABLE SONG..
 
    The library keeps nothing between calls. m7_feed may write the table, the
-   state and the output, so each song has its own: a copy of the table, since a
-   $MACRO line adds to it, and a fresh state. */
+   state, the output and the trace, so each song has its own: a copy of the
+   table, since a $MACRO line adds to it, and a fresh state. */
 #include "m7.h"
 #include <pthread.h>
 #include <stdio.h>
@@ -34,6 +34,7 @@ struct memories {
     uint8_t table[M7_TABLE_BYTES];
     uint8_t state[M7_STATE_BYTES];
     uint8_t output[M7_OUTPUT_BYTES];
+    uint8_t trace[M7_TRACE_BYTES];
     uint8_t line[M7_MOST_LINE_BYTES + 1];
 };
 
@@ -57,7 +58,7 @@ static void feed(struct memories *m, const char *name, FILE *file, FILE *out)
     m7_fresh(m->state, sizeof m->state);
     for (unsigned long number = 1; next_line(file, m, &size); number++) {
         m7_answer a = m7_feed(m->table, sizeof m->table, m->state, sizeof m->state, m->line, size,
-                              BUDGET, m->output, sizeof m->output);
+                              BUDGET, m->output, sizeof m->output, m->trace, sizeof m->trace);
         if (a.number != 0)
             fprintf(out, "%s:%lu: %u: %s\n", name, number, (unsigned)a.number, m7_meaning(a.number));
         else if (a.kind == M7_OUT)

@@ -1,7 +1,7 @@
 /* m7.h: an M7 engine, proved. It rewrites lines of text by a table of macros.
 
        uint8_t table[M7_TABLE_BYTES], state[M7_STATE_BYTES];
-       uint8_t output[M7_OUTPUT_BYTES];
+       uint8_t output[M7_OUTPUT_BYTES], trace[M7_TRACE_BYTES];
        const char *file = "'colour'<'color';", *line = "my colour";
        m7_answer a = m7_read((const uint8_t *)file, strlen(file),
                              table, sizeof table);
@@ -10,7 +10,7 @@
        m7_fresh(state, sizeof state);
        a = m7_feed(table, sizeof table, state, sizeof state,
                    (const uint8_t *)line, strlen(line), 10000,
-                   output, sizeof output);
+                   output, sizeof output, trace, sizeof trace);
        if (a.number != 0)
            return complain(a.number, 0);
        if (a.kind == M7_OUT)
@@ -34,12 +34,13 @@
    was. While a call runs it may write the memories that are not const. So
    calls may run at the same time on different threads, if no memory that one
    of them may write is lent to another. Memories that calls only read may be
-   shared. m7_feed may write its table and its state: give each thread a copy.
+   shared. m7_feed may write its table, state, output and trace: give each
+   thread its own.
 
-   A table, a state, an output and a file to write to must have the sizes
-   M7_TABLE_BYTES, M7_STATE_BYTES, M7_OUTPUT_BYTES and M7_FILE_BYTES, or the
-   call is refused with 3. A file to read, a line and a word-pattern may
-   have any size.
+   A table, a state, an output, a trace and a file to write to must have the
+   sizes M7_TABLE_BYTES, M7_STATE_BYTES, M7_OUTPUT_BYTES, M7_TRACE_BYTES and
+   M7_FILE_BYTES, or the call is refused with 3. A file to read, a line and a
+   word-pattern may have any size.
 
    STORING TABLES AND STATES
 
@@ -68,7 +69,16 @@
    changed the line. A macro such as 'a'='a'; never ends by itself: on a full
    line 100,000 passes of it took 4.6 seconds, so 10,000 take half a second and
    1,000,000 some three quarters of a minute. A larger budget, up to 1,000,000,
-   never changes an answer other than 31. */
+   never changes an answer other than 31.
+
+   WHICH MACRO TOOK A LINE
+
+   While the state's flag TRACE is 1, m7_feed writes a trace: three lines of
+   text for each pass in which a macro occurred. The control line $TRACE 1 sets
+   the flag; a caller may also set the byte M7_STATE_TRACE of a state to 1, feed
+   a line, and set it back. Of a refused line there is no trace, and under
+   TRACE 1 a line may be refused with 36 that is taken under TRACE 0. With
+   TRACE 0 the trace's memory is lent all the same, and not touched. */
 
 #ifndef M7_H
 #define M7_H
@@ -111,6 +121,10 @@ extern "C" {
 
 /* The output of a line that is fed. */
 #define M7_OUTPUT_BYTES 1054
+
+/* The trace of a line that is fed. A trace may fill it whole; then no zero
+   follows. */
+#define M7_TRACE_BYTES 65536
 
 /* The memory that a table is written out to. A macro file to read may have
    any size; one of more bytes than this is refused with 10. */
@@ -193,6 +207,8 @@ typedef struct m7_answer {
    33  A tag of more than 50 bytes would be stored.
    34  A stack's pointer would go past 20.
    35  A counter would go past 999,999,999.
+   36  Under TRACE 1, the three lines of the pass that just ended do not fit
+       into what is left of the trace's 65,536 bytes.
 
    Of whoever looks words up, after 21 and 22:
    41  The word-pattern is empty, has a byte that is no letter, digit or dash,
@@ -219,6 +235,7 @@ typedef struct m7_answer {
 #define M7_TAG_TOO_LONG 33
 #define M7_POINTER_TOO_HIGH 34
 #define M7_COUNTER_TOO_HIGH 35
+#define M7_TRACE_TOO_LONG 36
 #define M7_BAD_WORD_PATTERN 41
 
 /* Kinds of an answer to m7_feed. */
@@ -253,10 +270,11 @@ m7_answer m7_fresh(uint8_t *state, size_t state_size);
 /* Feeds a line, without its line feed, to a table and a state, with at most
    `budget` passes of macros over it.
 
-   Refusals, in this order: 3 (of table, state or output), 1, 2, 4, 21, 22,
-   then the first that comes up: 31 to 35 in the passes, or of a control line
-   23 and, where it is $MACRO, 12 to 19. Whether a line begins with $ is looked
-   at before 31. A refused line leaves table, state and output as they were.
+   Refusals, in this order: 3 (of table, state, output or trace), 1, 2, 4, 21,
+   22, then the first that comes up: 31 to 36 in the passes, or of a control
+   line 23 and, where it is $MACRO, 12 to 19. 36 shows at the end of a pass;
+   then it is looked at whether the line begins with $, and then 31. A refused
+   line leaves table, state, output and trace as they were.
 
    Taken, by kind:
    M7_OUT       the output holds the rewritten line, length bytes, and zeros
@@ -266,10 +284,30 @@ m7_answer m7_fresh(uint8_t *state, size_t state_size);
    M7_WITHHELD  NFLAG is 1 and no macro occurred: the output is all zero
    M7_CONTROL   a line that begins with $ when a pass is due or at its end:
                 $TRACE 0, $TRACE 1, $NFLAG 0 or $NFLAG 1 set a flag of the
-                state (TRACE has no effect), $MACRO adds a macro to the
-                table as the newest; what the passes before changed in the
-                state stays; the output is all zero and length is 0. To know
-                how many macros a table then has, count its slots (above)
+                state, $MACRO adds a macro to the table as the newest; what
+                the passes before changed in the state stays; the output is
+                all zero and length is 0. To know how many macros a table then
+                has, count its slots (above)
+
+   The trace, by the flag TRACE of the state when the line comes: with 0 its
+   memory is not touched. With 1 every line that is taken writes it, whatever
+   its kind and whatever stood there: for each pass in which its macro
+   occurred, in order, the line before the pass, the macro's number in the
+   table (the oldest is 1) and the line after it, and zeros to the memory's end:
+
+       oldline:my colour
+       macro #:1
+       newline:my color
+
+   A line feed ends each of the three. Line feeds in a text stand as they are,
+   and a replacement may also make what looks like lines of a trace: the table
+   'a'<'x\noldline:x\nmacro \#:2\nnewline:y'; gives the line a the same trace
+   as 'a'<'x';'x'<'y'; does. So a trace alone does not tell where its texts
+   end, unless no macro and no stack holds a line feed. A program that reads
+   one has to check each number in it; docs/DECISIONS.md says how `m7 trace`
+   finds the passes of every line. If no macro occurred, all bytes are zero.
+   Answer, output, table and state are the same with the flag on or off, but
+   for the flag itself and unless 36 comes.
 
    Time: a pass tries each element of the pattern at each place of the line at
    most once, and again after a replacement that changes a stack or counter
@@ -278,7 +316,8 @@ m7_answer m7_fresh(uint8_t *state, size_t state_size);
 m7_answer m7_feed(uint8_t *table, size_t table_size,
                   uint8_t *state, size_t state_size,
                   const uint8_t *line, size_t line_size, uint32_t budget,
-                  uint8_t *output, size_t output_size);
+                  uint8_t *output, size_t output_size,
+                  uint8_t *trace, size_t trace_size);
 
 /* Looks up the words of a line, without its line feed, that a word-pattern
    covers. It needs no table and no state.
@@ -301,7 +340,7 @@ m7_answer m7_words(const uint8_t *line, size_t line_size,
                    const uint8_t *pattern, size_t pattern_size);
 
 /* The version of this header, and that of the library that is linked. */
-#define M7_VERSION "1.0"
+#define M7_VERSION "2.0"
 const char *m7_version(void);
 
 /* What a number means, in a few words of English; of 0 it is "taken". A number
@@ -313,6 +352,7 @@ const char *m7_meaning(uint32_t number);
 size_t m7_table_bytes(void);
 size_t m7_state_bytes(void);
 size_t m7_output_bytes(void);
+size_t m7_trace_bytes(void);
 size_t m7_file_bytes(void);
 
 #ifdef __cplusplus

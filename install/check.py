@@ -66,6 +66,19 @@ def states():
     assert refused(m7.Song, b"", b"x") == refused(m7.Song, b"", b"") == (3, 0, 0)
 
 
+def traces():
+    song = m7.Song(b"'a'='b';'c'<'d';")
+    assert song.feed(b"a") == b"b" and song.trace == b""
+    assert song.feed(b"$TRACE 1") is None and song.trace == b""
+    assert song.feed(b"ac") == b"bd" and song.passes == 3
+    wrote = b"oldline:ac\nmacro #:2\nnewline:ad\noldline:ad\nmacro #:1\nnewline:bd\n"
+    assert song.trace == wrote
+    assert refused(song.feed, b"$FOO") == (23, 0, 0) and song.trace == wrote
+    assert song.feed(b"x") == b"x" and song.trace == b""
+    grows = m7.Song(b"'int'='integer';")
+    assert grows.feed(b"$TRACE 1") is None and refused(grows.feed, b"print") == (36, 0, 124)
+
+
 def looked_up():
     assert m7.words(b"SCAT, CAT CART CATARACT", b"CA-T") == (3, 6)
     assert m7.words(b"SCAT CATS", b"CA-T") == (0, None)
@@ -102,6 +115,6 @@ def threads():
     assert said == {key: [b"%d " % n + b"b" * key for n in range(1, 201)] for key in range(8)}
 
 
-for check in (answers, tables, states, looked_up, words, threads):
+for check in (answers, tables, states, traces, looked_up, words, threads):
     check()
 print("Python: the module's answers are those of 01")

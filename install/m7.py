@@ -29,7 +29,7 @@ BUDGET = 10000
 def _find():
     named = os.environ.get("M7_LIBRARY")
     here = os.path.dirname(os.path.abspath(__file__))
-    return named or os.path.join(here, os.pardir, "libm7.so.1")
+    return named or os.path.join(here, os.pardir, "libm7.so.2")
 
 
 class _Answer(ctypes.Structure):
@@ -39,11 +39,12 @@ class _Answer(ctypes.Structure):
 def _declare(library):
     memory, size = [ctypes.c_char_p, ctypes.c_size_t], ctypes.c_size_t
     for name, lent in (("m7_read", 2 * memory), ("m7_write", 2 * memory), ("m7_fresh", memory),
-                       ("m7_feed", 3 * memory + [ctypes.c_uint32] + memory),
+                       ("m7_feed", 3 * memory + [ctypes.c_uint32] + 2 * memory),
                        ("m7_words", 2 * memory)):
         function = getattr(library, name)
         function.restype, function.argtypes = _Answer, lent
-    for name in ("m7_table_bytes", "m7_state_bytes", "m7_output_bytes", "m7_file_bytes"):
+    for name in ("m7_table_bytes", "m7_state_bytes", "m7_output_bytes", "m7_trace_bytes",
+                 "m7_file_bytes"):
         getattr(library, name).restype = size
         getattr(library, name).argtypes = []
     library.m7_version.restype = library.m7_meaning.restype = ctypes.c_char_p
@@ -56,6 +57,7 @@ _library = _declare(ctypes.CDLL(_find()))
 TABLE_BYTES = _library.m7_table_bytes()
 STATE_BYTES = _library.m7_state_bytes()
 OUTPUT_BYTES = _library.m7_output_bytes()
+TRACE_BYTES = _library.m7_trace_bytes()
 FILE_BYTES = _library.m7_file_bytes()
 __version__ = _library.m7_version().decode()
 
@@ -140,13 +142,14 @@ class Song:
         self._table = _copy(table)
         self._state = _copy(state)
         self._output = _memory(OUTPUT_BYTES)
+        self._trace = _memory(TRACE_BYTES)
         self._check()
 
     def _check(self):
         """Raises Refused(2) if the state is none: no macros take an empty line."""
         table, state = _memory(TABLE_BYTES), _copy(self._state.raw)
         _checked(_library.m7_feed(table, len(table), state, len(state), b"", 0, 0,
-                                  self._output, len(self._output)))
+                                  self._output, len(self._output), self._trace, len(self._trace)))
 
     @property
     def table(self):
@@ -157,6 +160,13 @@ class Song:
     def state(self):
         """The state as bytes, to be kept for another Song."""
         return self._state.raw
+
+    @property
+    def trace(self):
+        """The trace of the line that was taken last while TRACE was 1, as m7.h has it:
+        for each pass in which a macro occurred the line before, its number, the line
+        after. The control line $TRACE 1 sets TRACE."""
+        return self._trace.raw.rstrip(b"\0")
 
     def written(self):
         """The table written out as a macro file."""
@@ -169,7 +179,8 @@ class Song:
         if not 0 <= self.budget < 1 << 32:
             raise ValueError("a budget is a number from 0 to 1,000,000")
         answer = _library.m7_feed(self._table, len(self._table), self._state, len(self._state),
-                                  line, len(line), self.budget, self._output, len(self._output))
+                                  line, len(line), self.budget, self._output, len(self._output),
+                                  self._trace, len(self._trace))
         self.passes, self.kind = answer.passes, answer.kind
         _checked(answer)
         return self._output.raw[:answer.length] if answer.kind == OUT else None

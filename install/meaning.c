@@ -31,6 +31,7 @@ const char *m7_meaning(uint32_t number)
     case M7_TAG_TOO_LONG: return "a tag to be stored has more than 50 bytes";
     case M7_POINTER_TOO_HIGH: return "the pointer of a stack goes past 20";
     case M7_COUNTER_TOO_HIGH: return "a counter goes past 999,999,999";
+    case M7_TRACE_TOO_LONG: return "the trace grows past 65,536 bytes";
     case M7_BAD_WORD_PATTERN: return "a word-pattern that is empty, or not letters, digits and single dashes";
     default: return "no number of this library";
     }
@@ -39,4 +40,5 @@ const char *m7_meaning(uint32_t number)
 size_t m7_table_bytes(void) { return M7_TABLE_BYTES; }
 size_t m7_state_bytes(void) { return M7_STATE_BYTES; }
 size_t m7_output_bytes(void) { return M7_OUTPUT_BYTES; }
+size_t m7_trace_bytes(void) { return M7_TRACE_BYTES; }
 size_t m7_file_bytes(void) { return M7_FILE_BYTES; }

@@ -16,7 +16,7 @@ typedef struct memory {
     uint8_t before[M7_TABLE_BYTES + 64];
 } memory;
 
-static memory table, state, output, file, text;
+static memory table, state, output, trace, file, text;
 static size_t text_size;
 static m7_answer answer;
 static int seen[64];
@@ -68,6 +68,7 @@ static void keep(void)
     memcpy(table.before, table.now, sizeof table.now);
     memcpy(state.before, state.now, sizeof state.now);
     memcpy(output.before, output.now, sizeof output.now);
+    memcpy(trace.before, trace.now, sizeof trace.now);
     memcpy(file.before, file.now, sizeof file.now);
     memcpy(text.before, text.now, sizeof text.now);
 }
@@ -78,7 +79,8 @@ static void after(void)
     CHECK(answer.number < 64 && same(&text));
     seen[answer.number] = 1;
     if (answer.number != 0) {
-        CHECK(same(&table) && same(&state) && same(&output) && same(&file));
+        CHECK(same(&table) && same(&state) && same(&output));
+        CHECK(same(&trace) && same(&file));
         CHECK(answer.kind == 0 && answer.length == 0);
     }
 }
@@ -113,18 +115,18 @@ static uint32_t fresh_sized(size_t state_size)
 }
 
 static uint32_t feed_sized(size_t table_size, size_t state_size, size_t output_size,
-                           uint32_t budget)
+                           size_t trace_size, uint32_t budget)
 {
     keep();
     answer = m7_feed(table.now, table_size, state.now, state_size, text.now, text_size,
-                     budget, output.now, output_size);
+                     budget, output.now, output_size, trace.now, trace_size);
     after();
     return answer.number;
 }
 
 static uint32_t feeding(uint32_t budget)
 {
-    return feed_sized(M7_TABLE_BYTES, M7_STATE_BYTES, M7_OUTPUT_BYTES, budget);
+    return feed_sized(M7_TABLE_BYTES, M7_STATE_BYTES, M7_OUTPUT_BYTES, M7_TRACE_BYTES, budget);
 }
 
 /* Looking words up alters no memory, refused or not. */
@@ -164,9 +166,11 @@ typedef char length_is_fifth[offsetof(m7_answer, length) == 16 ? 1 : -1];
 /* m7_feed as the x86-64 convention has it: the answer goes to memory that the
    first argument points to. So it is seen which bytes a call writes. */
 typedef void (*written_feed)(uint8_t *result, uint8_t *, size_t, uint8_t *, size_t,
-                             const uint8_t *, size_t, uint32_t, uint8_t *, size_t);
+                             const uint8_t *, size_t, uint32_t, uint8_t *, size_t,
+                             uint8_t *, size_t);
 typedef m7_answer (*named_feed)(uint8_t *, size_t, uint8_t *, size_t,
-                                const uint8_t *, size_t, uint32_t, uint8_t *, size_t);
+                                const uint8_t *, size_t, uint32_t, uint8_t *, size_t,
+                                uint8_t *, size_t);
 
 static void answer_bytes(const char *line, uint32_t wanted[5])
 {
@@ -179,7 +183,7 @@ static void answer_bytes(const char *line, uint32_t wanted[5])
     memset(result, 0xA5, sizeof result);
     say(line);
     written(result, table.now, M7_TABLE_BYTES, state.now, M7_STATE_BYTES, text.now,
-            text_size, 10000, output.now, M7_OUTPUT_BYTES);
+            text_size, 10000, output.now, M7_OUTPUT_BYTES, trace.now, M7_TRACE_BYTES);
     memcpy(fields, result, sizeof fields);
     for (i = 0; i < 5; i++)
         CHECK(fields[i] == wanted[i]);
@@ -216,12 +220,22 @@ static void sizes(void)
     CHECK(write_sized(M7_TABLE_BYTES, M7_FILE_BYTES + 1) == M7_BAD_MEMORY);
     CHECK(fresh_sized(M7_STATE_BYTES - 1) == M7_BAD_MEMORY);
     CHECK(fresh_sized(M7_STATE_BYTES + 1) == M7_BAD_MEMORY);
-    CHECK(feed_sized(M7_TABLE_BYTES - 1, M7_STATE_BYTES, M7_OUTPUT_BYTES, 9) == M7_BAD_MEMORY);
-    CHECK(feed_sized(M7_TABLE_BYTES + 1, M7_STATE_BYTES, M7_OUTPUT_BYTES, 9) == M7_BAD_MEMORY);
-    CHECK(feed_sized(M7_TABLE_BYTES, M7_STATE_BYTES - 1, M7_OUTPUT_BYTES, 9) == M7_BAD_MEMORY);
-    CHECK(feed_sized(M7_TABLE_BYTES, M7_STATE_BYTES + 1, M7_OUTPUT_BYTES, 9) == M7_BAD_MEMORY);
-    CHECK(feed_sized(M7_TABLE_BYTES, M7_STATE_BYTES, M7_OUTPUT_BYTES - 1, 9) == M7_BAD_MEMORY);
-    CHECK(feed_sized(M7_TABLE_BYTES, M7_STATE_BYTES, M7_OUTPUT_BYTES + 1, 9) == M7_BAD_MEMORY);
+    CHECK(feed_sized(M7_TABLE_BYTES - 1, M7_STATE_BYTES, M7_OUTPUT_BYTES,
+                     M7_TRACE_BYTES, 9) == M7_BAD_MEMORY);
+    CHECK(feed_sized(M7_TABLE_BYTES + 1, M7_STATE_BYTES, M7_OUTPUT_BYTES,
+                     M7_TRACE_BYTES, 9) == M7_BAD_MEMORY);
+    CHECK(feed_sized(M7_TABLE_BYTES, M7_STATE_BYTES - 1, M7_OUTPUT_BYTES,
+                     M7_TRACE_BYTES, 9) == M7_BAD_MEMORY);
+    CHECK(feed_sized(M7_TABLE_BYTES, M7_STATE_BYTES + 1, M7_OUTPUT_BYTES,
+                     M7_TRACE_BYTES, 9) == M7_BAD_MEMORY);
+    CHECK(feed_sized(M7_TABLE_BYTES, M7_STATE_BYTES, M7_OUTPUT_BYTES - 1,
+                     M7_TRACE_BYTES, 9) == M7_BAD_MEMORY);
+    CHECK(feed_sized(M7_TABLE_BYTES, M7_STATE_BYTES, M7_OUTPUT_BYTES + 1,
+                     M7_TRACE_BYTES, 9) == M7_BAD_MEMORY);
+    CHECK(feed_sized(M7_TABLE_BYTES, M7_STATE_BYTES, M7_OUTPUT_BYTES,
+                     M7_TRACE_BYTES - 1, 9) == M7_BAD_MEMORY);
+    CHECK(feed_sized(M7_TABLE_BYTES, M7_STATE_BYTES, M7_OUTPUT_BYTES,
+                     M7_TRACE_BYTES + 1, 9) == M7_BAD_MEMORY);
     CHECK(reading() == 0 && writing() == 0 && fresh_sized(M7_STATE_BYTES) == 0);
     CHECK(feeding(9) == 0);
 }
@@ -238,7 +252,7 @@ static void nulls(void)
     answer = m7_fresh(NULL, 0);
     CHECK(answer.number == M7_BAD_MEMORY);
     answer = m7_feed(table.now, M7_TABLE_BYTES, state.now, M7_STATE_BYTES, NULL, 0, 9,
-                     output.now, M7_OUTPUT_BYTES);
+                     output.now, M7_OUTPUT_BYTES, trace.now, M7_TRACE_BYTES);
     CHECK(answer.number == 0 && answer.kind == M7_OUT && answer.length == 0);
 }
 
@@ -443,6 +457,29 @@ static void lines_refused(void)
     CHECK(feed("d") == M7_COUNTER_TOO_HIGH);
 }
 
+/* The example of the header; 30 passes of a full line take 2,136 bytes each. */
+static void traces(void)
+{
+    static const char wanted[] = "oldline:my colour\nmacro #:1\nnewline:my color\n";
+    size_t i;
+    use("'colour'<'color';'a'='a';");
+    CHECK(feed("my colour") == 0);
+    CHECK(same(&trace));
+    memset(trace.now, 7, sizeof trace.now);
+    state.now[M7_STATE_TRACE] = 1;
+    CHECK(feed("my colour") == 0 && memcmp(trace.now, wanted, sizeof wanted - 1) == 0);
+    for (i = sizeof wanted - 1; i < M7_TRACE_BYTES; i++)
+        CHECK(trace.now[i] == 0);
+    CHECK(trace.now[M7_TRACE_BYTES] == 7);
+    none();
+    add("a", M7_MOST_LINE_BYTES);
+    CHECK(feeding(30) == M7_BUDGET_USED_UP);
+    CHECK(feeding(31) == M7_TRACE_TOO_LONG && answer.passes == 31);
+    CHECK(feed("$TRACE 0") == 0 && trace.now[0] == 0);
+    memset(trace.now, 7, sizeof trace.now);
+    CHECK(feed("$TRACE 1") == 0 && trace.now[0] == 7);
+}
+
 static void memories_refused(void)
 {
     use("'a'='b';");
@@ -508,7 +545,8 @@ static void meanings(void)
     for (number = 0; number < 64; number++)
         CHECK((strcmp(m7_meaning(number), unknown) != 0) == (seen[number] != 0));
     CHECK(m7_table_bytes() == M7_TABLE_BYTES && m7_state_bytes() == M7_STATE_BYTES);
-    CHECK(m7_output_bytes() == M7_OUTPUT_BYTES && m7_file_bytes() == M7_FILE_BYTES);
+    CHECK(m7_output_bytes() == M7_OUTPUT_BYTES && m7_trace_bytes() == M7_TRACE_BYTES);
+    CHECK(m7_file_bytes() == M7_FILE_BYTES);
 }
 
 /* The numbers that the header names, and no others, have come up. */
@@ -520,7 +558,7 @@ static void all_seen(void)
         M7_BAD_BRACE, M7_BAD_CALL, M7_NO_ELEMENT, M7_MACRO_TOO_LONG, M7_TOO_MANY_MACROS,
         M7_LINE_TOO_LONG, M7_BAD_BYTE, M7_BAD_CONTROL, M7_BUDGET_USED_UP,
         M7_NEW_LINE_TOO_LONG, M7_TAG_TOO_LONG, M7_POINTER_TOO_HIGH, M7_COUNTER_TOO_HIGH,
-        M7_BAD_WORD_PATTERN};
+        M7_TRACE_TOO_LONG, M7_BAD_WORD_PATTERN};
     size_t count = sizeof named / sizeof named[0], i;
     for (i = 0; i < count; i++) {
         CHECK(seen[named[i]]);
@@ -528,7 +566,7 @@ static void all_seen(void)
     }
     for (i = 0; i < sizeof seen / sizeof seen[0]; i++)
         CHECK(!seen[i]);
-    CHECK(count == 24);
+    CHECK(count == 25);
 }
 
 int main(void)
@@ -546,6 +584,7 @@ int main(void)
     written_bounds();
     files_refused();
     lines_refused();
+    traces();
     memories_refused();
     words_found();
     words_refused();

@@ -4,6 +4,7 @@ pub const TABLE_BYTES: usize = 98304;
 pub const STATE_BYTES: usize = 26236;
 pub const OUTPUT_BYTES: usize = 1054;
 pub const FILE_BYTES: usize = 32768;
+pub const TRACE_BYTES: usize = 65536;
 
 #[repr(C)]
 #[derive(Clone, Copy, Debug, PartialEq, Eq)]
@@ -35,6 +36,8 @@ extern "C" {
         budget: u32,
         output: *mut u8,
         output_size: usize,
+        trace: *mut u8,
+        trace_size: usize,
     ) -> Answer;
 }
 
@@ -61,6 +64,7 @@ pub fn feed(
     line: &[u8],
     budget: u32,
     output: &mut [u8],
+    trace: &mut [u8],
 ) -> Answer {
     unsafe {
         m7_feed(
@@ -73,6 +77,8 @@ pub fn feed(
             budget,
             output.as_mut_ptr(),
             output.len(),
+            trace.as_mut_ptr(),
+            trace.len(),
         )
     }
 }

@@ -17,6 +17,7 @@ pub struct Job {
 
 pub fn all() -> Vec<Job> {
     let mut jobs = tables();
+    jobs.extend(traced());
     jobs.extend(worst());
     jobs.extend(lengths());
     jobs.extend(macros());
@@ -36,6 +37,24 @@ fn tables() -> Vec<Job> {
         job("manual's section 10, 20,000 lines", files::MANUAL_10.to_vec(), program, manual),
         job("40 macros for part texts, 2,000 lines", files::parts(), song, parts),
     ]
+}
+
+/// The same tables without and with a trace.
+fn traced() -> Vec<Job> {
+    let job = |(flag, name, file, mut lines): (&str, &str, Vec<u8>, Vec<Vec<u8>>)| {
+        lines.insert(0, flag.as_bytes().to_vec());
+        let (section, name) = ("Trace: `$TRACE 0` or `$TRACE 1`, then 499 lines", name.to_string());
+        Job { section, name: format!("{name}, `{flag}`"), file, lines, rounds: 7, perl: None }
+    };
+    let (manual, parts) = ("manual's section 10", "40 macros for part texts");
+    let (program, song) = (files::program_lines(499), files::song_lines(499));
+    let rows = ["$TRACE 0", "$TRACE 1"].into_iter().flat_map(|flag| {
+        [
+            (flag, manual, files::MANUAL_10.to_vec(), program.clone()),
+            (flag, parts, files::parts(), song.clone()),
+        ]
+    });
+    rows.map(job).collect()
 }
 
 /// One pass over 1,054 letters a, on most of which nothing matches.

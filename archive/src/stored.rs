@@ -1,6 +1,8 @@
 //! The stored answers of the Rust version, asked of the archive.
 
-use crate::engine::{self, Answer, FILE_BYTES, OUTPUT_BYTES, STATE_BYTES, TABLE_BYTES};
+use crate::engine::{
+    self, Answer, FILE_BYTES, OUTPUT_BYTES, STATE_BYTES, TABLE_BYTES, TRACE_BYTES,
+};
 use crate::form::{slot_form, state_of, table_of, SLOT_BYTES};
 use m7_reference::answers::{unescape, Case, Check, WordCheck};
 use m7_reference::line::{self, Kind};
@@ -12,11 +14,15 @@ use m7_reference::words::Covered;
 /// Texts about calls that the archive does not have.
 pub const NOT_ASKED: &[&str] = &[];
 
+/// What the trace memory holds before a line.
+const OLD: u8 = 0xFF;
+
 /// The memories of one case.
 pub struct Host {
     table: Vec<u8>,
     state: Vec<u8>,
     output: Vec<u8>,
+    trace: Vec<u8>,
     read: Answer,
     fed: Option<line::Answer>,
     pattern: Vec<u8>,
@@ -34,14 +40,16 @@ impl Host {
         let (mut table, mut state) = (vec![0; TABLE_BYTES], vec![0; STATE_BYTES]);
         let read = engine::read(file, &mut table);
         engine::fresh(&mut state);
-        let output = vec![0; OUTPUT_BYTES];
-        Host { table, state, output, read, fed: None, pattern: Vec::new(), looked: None }
+        let (output, trace) = (vec![0; OUTPUT_BYTES], vec![0; TRACE_BYTES]);
+        let (pattern, looked) = (Vec::new(), None);
+        Host { table, state, output, trace, read, fed: None, pattern, looked }
     }
 
     pub fn feed(&mut self, line: &[u8], budget: u64) -> line::Answer {
         let budget = budget.min(u32::MAX as u64) as u32;
         let (table, state) = (&mut self.table, &mut self.state);
-        let answer = engine::feed(table, state, line, budget, &mut self.output);
+        self.trace.fill(OLD);
+        let answer = engine::feed(table, state, line, budget, &mut self.output, &mut self.trace);
         let text = || self.output[..answer.length as usize].to_vec();
         let kind = match answer.kind {
             1 => Kind::Out(text()),
@@ -86,6 +94,15 @@ impl Host {
         spelling.len() == length && alone[..SLOT_BYTES] == slot_form(&table[n - 1])
     }
 
+    /// Whether the last line wrote this and zeros after it, or nothing.
+    fn traced(&self, wanted: Option<&[u8]>) -> bool {
+        let Some(text) = wanted else {
+            return self.trace.iter().all(|byte| *byte == OLD);
+        };
+        let (begins, rest) = self.trace.split_at(text.len().min(TRACE_BYTES));
+        begins == text && rest.iter().all(|byte| *byte == 0)
+    }
+
     /// Looks a line's words up, and holds what is stored against the answer.
     fn looks(&mut self, check: &WordCheck) -> bool {
         match check {
@@ -111,6 +128,7 @@ impl Host {
                 true
             }
             Check::Answer(wanted) => self.fed.as_ref() == Some(wanted),
+            Check::Traced(wanted) => self.traced(wanted.as_deref()),
             Check::Macros(n) => self.macros() == *n,
             Check::Written(text) => self.write().as_ref() == Ok(text),
             Check::WrittenBytes(n) => self.write().map(|file| file.len()) == Ok(*n),

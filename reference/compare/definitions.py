@@ -31,10 +31,20 @@ use Rattle.macros.specs.ReadFile.Read.{refusedAt, table}
 use Rattle.macros.specs.Write.{Written, writeOut}
 use Rattle.macros.specs.Write.Written.{file, refused}
 use Rattle.macros.specs.Spell.{shortest}
-use Rattle.macros.specs.Cases.{times}
+use mathlib.Core.Option.{Option, none, some}
 use Rattle.lines.specs.State.{State, Stack, Counter, fresh}
-use Rattle.lines.specs.Feeding.{Answer, Fed, numberOf, placeOf, kindNumber, outputOf, feeds, bytes}
+use Rattle.lines.specs.Line.{Sent}
+use Rattle.lines.specs.Feeding.{Answer, numberOf, placeOf, kindNumber, outputOf, feeds, bytes}
 use Rattle.lines.specs.Cases.{everything}
+
+-- a text so many times
+abbrev times : ℕ → List ℕ → List ℕ
+times zero s = []
+times (suc n) s = s ++ times n s
+
+-- a line, by its bytes, and its budget
+abbrev sent : ℕ → List ℕ → Sent
+sent n t = record { line = t; budget = n }
 
 -- a list with its length before it
 abbrev listed : List ℕ → List ℕ
@@ -68,13 +78,19 @@ countersAs (k ∷ ks) = k .value ∷ k .increment ∷ countersAs ks
 abbrev stateAs : State → List ℕ
 stateAs st = st .trace ∷ st .nflag ∷ (stacksAs (st .stacks) ++ countersAs (st .counters))
 
+-- 02, N1: the trace that a line writes, if it writes one
+abbrev traceAs : Option (List ℕ) → List ℕ
+traceAs none = 0 ∷ []
+traceAs (some s) = 1 ∷ listed s
+
 -- the answers to some lines, and the number of macros and the state at the end
 abbrev answersAs : Table → State → List Answer → List ℕ
 answersAs ms st [] = length ms ∷ stateAs st
 answersAs ms st (a ∷ as₁) =
-    (numberOf (a .kind) ∷ placeOf (a .kind) ∷ a .passes ∷ kindNumber (a .kind) ∷ listed (outputOf (a .kind))) ++ answersAs (a .table) (a .state) as₁
+    (numberOf (a .kind) ∷ placeOf (a .kind) ∷ a .passes ∷ kindNumber (a .kind) ∷ listed (outputOf (a .kind)))
+    ++ (traceAs (a .traceText) ++ answersAs (a .table) (a .state) as₁)
 
-abbrev fedAs : List Fed → Read → List ℕ
+abbrev fedAs : List Sent → Read → List ℕ
 fedAs xs (refusedAt r p) = []
 fedAs xs (table ms) = answersAs ms fresh (feeds ms fresh xs)
 
@@ -94,8 +110,8 @@ def value(word):
 
 def plain(data):
     """Bytes as a term."""
-    if data and all(32 <= b < 127 for b in data):
-        return 'bytes "%s"' % data.decode().replace('\\', '\\\\').replace('"', '\\"')
+    if data and all(32 <= b < 127 or b == 10 for b in data):
+        return 'bytes "%s"' % data.decode().replace('\\', '\\\\').replace('"', '\\"').replace('\n', '\\n')
     return '(' + ' ∷ '.join([str(b) for b in data] + ['[]']) + ')'
 
 
@@ -125,6 +141,10 @@ def numbers(*values):
 
 def listed(word):
     return '(%d ∷ (%s))' % (len(value(word)), term(word))
+
+
+def traced(word):
+    return '(0 ∷ [])' if word == '.' else '(1 ∷ %s)' % listed(word)
 
 
 def state_numbers(words):
@@ -173,10 +193,11 @@ def line_case(head, fed, end, count):
     """An `L` line with its `F` lines and its `S` line as an equation."""
     xs, answers = [], []
     for words in fed:
-        xs.append('(%s, %s)' % (words[1], term(words[2])))
+        xs.append('sent %s (%s)' % (words[1], term(words[2])))
         number, place, passes, kind = words[3:7]
         count[int(number) or {'1': 'out', '2': 'withheld', '3': 'control'}[kind]] += 1
-        answers.append('((%s ∷ %s ∷ %s ∷ %s ∷ []) ++ %s)' % (number, place, passes, kind, listed(words[7])))
+        answers.append('((%s ∷ %s ∷ %s ∷ %s ∷ []) ++ (%s ++ %s))' % (
+            number, place, passes, kind, listed(words[7]), traced(words[8])))
     text = '(%s)' % numbers(end[1], *state_numbers([w for w in end[2:] if w != 'fresh']))
     for answer in reversed(answers):
         text = '(%s ++ %s)' % (answer, text)

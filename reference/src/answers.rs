@@ -4,7 +4,7 @@ mod words;
 
 pub use words::WordCheck;
 
-use crate::line::{Answer, Engine, Kind};
+use crate::line::{Answer, Engine, Fed, Kind};
 use crate::macros::Table;
 use crate::read::read_file;
 use crate::refusal::Refusal;
@@ -19,6 +19,8 @@ pub enum Check {
     FileRefused(Refusal),
     Line(u64, Vec<u8>),
     Answer(Answer),
+    /// What the line wrote to the trace memory; nothing if that is untouched.
+    Traced(Option<Vec<u8>>),
     Entry(u8, usize, Vec<u8>),
     Pointer(u8, usize),
     Counter(u8, u64),
@@ -79,6 +81,8 @@ fn check(word: &str, rest: &str) -> Option<Check> {
         "refused" => Check::FileRefused(words.refusal()?),
         "line" => Check::Line(words.number()?, words.text()?),
         "out" | "withheld" | "control" | "no" => Check::Answer(words.answer(word)?),
+        "traced" => Check::Traced(Some(words.text()?)),
+        "untraced" => Check::Traced(None),
         "entry" => Check::Entry(words.letter()?, words.number()?, words.text()?),
         "pointer" => Check::Pointer(words.letter()?, words.number()?),
         "counter" => Check::Counter(words.letter()?, words.number()?),
@@ -193,7 +197,7 @@ fn repeat_end(text: &str) -> Option<usize> {
 struct Running {
     read: Result<Table, Refusal>,
     engine: Engine,
-    answer: Option<Answer>,
+    fed: Option<Fed>,
     looking: Looking,
 }
 
@@ -201,7 +205,7 @@ struct Running {
 pub fn run(case: &Case) -> Result<usize, String> {
     let read = read_file(&case.file);
     let engine = Engine::new(read.clone().unwrap_or_default());
-    let mut running = Running { read, engine, answer: None, looking: Looking::default() };
+    let mut running = Running { read, engine, fed: None, looking: Looking::default() };
     for (number, check) in &case.checks {
         if let Some(said) = running.says_instead(check) {
             return Err(format!("{} (line {number}): wanted {check:?}, got {said}", case.name));
@@ -223,10 +227,15 @@ impl Running {
         match check {
             Check::Accepted(_) | Check::FileRefused(_) => self.read_instead(check),
             Check::Line(budget, line) => {
-                self.answer = Some(self.engine.feed(line, *budget));
+                self.fed = Some(self.engine.feed_traced(line, *budget));
                 None
             }
-            Check::Answer(wanted) => differs(&self.answer, &Some(wanted.clone())),
+            Check::Answer(wanted) => {
+                differs(&self.fed.as_ref().map(|fed| &fed.answer), &Some(wanted))
+            }
+            Check::Traced(wanted) => {
+                differs(&self.fed.as_ref().map(|fed| &fed.trace), &Some(wanted))
+            }
             Check::Words(check) => self.looking.says_instead(check),
             _ => table_instead(check, &self.engine.table),
         }

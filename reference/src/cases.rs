@@ -75,6 +75,11 @@ fn answer_of(flag: char, answer: &Answer) -> String {
     }
 }
 
+/// What the line wrote to the trace memory, `.` if that is untouched.
+fn trace_of(flag: char, trace: &Option<Vec<u8>>) -> String {
+    trace.as_ref().map_or(".".to_string(), |text| words_of(flag, text))
+}
+
 /// The words of an `R` line after its file.
 fn read_words(flag: char, file: &[u8]) -> String {
     match read_file(file) {
@@ -103,8 +108,9 @@ fn line_case(flag: char, case: &Case, lines: &mut Vec<String>) {
     let mut engine = Engine::new(table);
     lines.push(format!("L {flag} {} {}", words_of(flag, &case.file), case.lines.len()));
     for (budget, line) in &case.lines {
-        let answer = answer_of(flag, &engine.feed(line, *budget));
-        lines.push(format!("F {budget} {} {answer}", words_of(flag, line)));
+        let fed = engine.feed_traced(line, *budget);
+        let (answer, trace) = (answer_of(flag, &fed.answer), trace_of(flag, &fed.trace));
+        lines.push(format!("F {budget} {} {answer} {trace}", words_of(flag, line)));
     }
     lines.push(format!("S {} {}", engine.table.len(), engine.state));
 }
@@ -172,6 +178,19 @@ const LINES: &[(char, Pieces, Fed)] = &[
     ('l', &[("'{a*}'<'b'&(1,t);", 1)], &[(9, &[("a", 50)]), (9, &[("a", 51)])]),
     ('l', &[("'{a*}'<'&(t=20)&(1,+t)';", 1)], &[(9, &[("a", 51)])]),
     ('l', &[("'a'='aa';", 1)], &[(10, &[("a", 1)]), (11, &[("a", 1)])]),
+    (
+        's',
+        &[("'b'='c';'a'<'b';", 1)],
+        &[(9, &[("$TRACE 1", 1)]), (9, &[("aba", 1)]), (9, &[("x", 1)])],
+    ),
+    ('s', &[("'x'<'$TRACE ';", 1)], &[(9, &[("x1", 1)]), (9, &[("x0", 1)]), (9, &[("x0", 1)])]),
+    ('l', &[("'int'='integer';", 1)], &[(9, &[("$TRACE 1", 1)]), (200, &[("print", 1)])]),
+    (
+        'l',
+        &[("'a'='a';", 1)],
+        &[(9, &[("$TRACE 1", 1)]), (32, &[("a", 1_010)]), (33, &[("a", 1_010)])],
+    ),
+    ('l', &[("'a'='a';'x'<'yy';", 1)], &[(9, &[("$TRACE 1", 1)]), (33, &[("x", 1), ("a", 977)])]),
     ('l', &[("'b'<'';", 1)], &[(9, &[("a", 1_054)]), (9, &[("a", 1_055)])]),
     ('l', &[("'$'<'b';", 1)], &[(9, &[("a", 1_053)]), (9, &[("a", 1_054)])]),
     ('l', &[("'b'<'c';", 1)], &[(9, &[("\0", 1), ("a", 1_054)])]),

@@ -2,7 +2,8 @@
 //!
 //! Data flows one way:
 //! `macros` (what a macro is), `read` and `write` and `spell` (macro files),
-//! `matching` (one division), `replace` (one occurrence), `pass`, `line`.
+//! `matching` (one division), `replace` (one occurrence), `pass`, `line`,
+//! `trace`.
 //! `words` looks up the words of a line.
 //! `answers`, `generate`, `protocol` and `cases` serve the comparison with
 //! other engines.
@@ -23,5 +24,6 @@ pub mod replace;
 pub mod spell;
 pub mod spelling;
 pub mod state;
+pub mod trace;
 pub mod words;
 pub mod write;

@@ -8,6 +8,7 @@ use crate::refusal::{
     Refusal, BUDGET_TOO_LARGE, BUDGET_USED_UP, CONTROL, LINE_BYTE, LINE_TOO_LONG,
 };
 use crate::state::State;
+use crate::trace::Trace;
 
 /// What became of a line.
 #[derive(Clone, Debug, PartialEq, Eq)]
@@ -23,6 +24,14 @@ pub enum Kind {
 pub struct Answer {
     pub kind: Kind,
     pub passes: u64,
+}
+
+/// An answer, and what the line wrote to the trace memory: a text with zeros
+/// after it. Nothing where that memory is untouched.
+#[derive(Clone, Debug, PartialEq, Eq)]
+pub struct Fed {
+    pub answer: Answer,
+    pub trace: Option<Vec<u8>>,
 }
 
 /// One pass of a line's history: the macro's number, oldest 1, its
@@ -50,6 +59,8 @@ struct Work<'a> {
     budget: u64,
     passes: u64,
     occurred: bool,
+    /// Where TRACE was 1 when the line came.
+    trace: Option<Trace>,
     /// The passes made, where they are asked for.
     history: Option<Vec<PassMade>>,
 }
@@ -74,12 +85,19 @@ impl Engine {
 
     /// Feeds one line. A refused line leaves table and state as they were.
     pub fn feed(&mut self, line: &[u8], budget: u64) -> Answer {
+        self.feed_traced(line, budget).answer
+    }
+
+    /// Feeds one line; a refused one leaves the trace memory, too.
+    pub fn feed_traced(&mut self, line: &[u8], budget: u64) -> Fed {
         if let Err(refusal) = look_at(line, budget) {
-            return Answer { kind: Kind::Refused(refusal), passes: 0 };
+            let answer = Answer { kind: Kind::Refused(refusal), passes: 0 };
+            return Fed { answer, trace: None };
         }
         let mut work = Work::new(&self.table, &self.state, line, budget);
         let ended = work.run();
-        let Work { state, line, passes, occurred, .. } = work;
+        let Work { state, line, passes, occurred, trace, .. } = work;
+        let trace = trace.filter(|_| ended.is_ok()).map(|trace| trace.text);
         let kind = match ended {
             Err(refusal) => Kind::Refused(refusal),
             Ok(Ended::Control(command)) => {
@@ -96,7 +114,7 @@ impl Engine {
                 }
             }
         };
-        Answer { kind, passes }
+        Fed { answer: Answer { kind, passes }, trace }
     }
 
     /// The passes that feeding the line would make, those of a refused line
@@ -149,6 +167,7 @@ impl<'a> Work<'a> {
             budget,
             passes: 0,
             occurred: false,
+            trace: state.trace.then(Trace::default),
             history: None,
         }
     }
@@ -183,6 +202,9 @@ impl<'a> Work<'a> {
         }
         if passed.occurrences == 0 {
             return Ok(false);
+        }
+        if let Some(trace) = &mut self.trace {
+            trace.add(&self.line, index + 1, &passed.line)?;
         }
         self.line = passed.line;
         self.occurred = true;

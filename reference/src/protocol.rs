@@ -1,6 +1,6 @@
 //! The line protocol: one command a line, bytes as hex, one answer a line.
 
-use crate::line::{Answer, Engine, Kind, PassMade};
+use crate::line::{Answer, Engine, Fed, Kind, PassMade};
 use crate::read::read_file;
 use crate::refusal::Refusal;
 use crate::spell::shortest_length;
@@ -44,6 +44,19 @@ pub fn answer_words(answer: &Answer) -> String {
     }
 }
 
+/// Longer traces are given by their length and sum.
+const SHOWN_TRACE: usize = 1_000;
+
+/// `ok HEXTRACE`, or of a long trace `long LENGTH SUM`: for each byte the sum
+/// so far times 257 plus the byte, less all whole 999,983.
+pub fn trace_words(trace: &[u8]) -> String {
+    if trace.len() <= SHOWN_TRACE {
+        return format!("ok {}", hex(trace));
+    }
+    let sum = trace.iter().fold(0, |sum, byte| (257 * sum + *byte as u32) % 999_983);
+    format!("long {} {sum}", trace.len())
+}
+
 /// The shortest spelling length of each macro, oldest first; `-` for none.
 pub fn spell_words(engine: &Engine) -> String {
     if engine.table.is_empty() {
@@ -53,14 +66,16 @@ pub fn spell_words(engine: &Engine) -> String {
     lengths.collect::<Vec<_>>().join(" ")
 }
 
-/// One end of the protocol: a table and a state.
+/// One end of the protocol: a table, a state and a trace memory.
 pub struct Server {
     pub engine: Engine,
+    /// The trace memory up to its zeros.
+    trace: Vec<u8>,
 }
 
 impl Default for Server {
     fn default() -> Server {
-        Server { engine: Engine::new(Vec::new()) }
+        Server { engine: Engine::new(Vec::new()), trace: Vec::new() }
     }
 }
 
@@ -78,6 +93,7 @@ impl Server {
             }
             ["write"] => self.write(),
             ["words", line, pattern] => look_up(line, pattern),
+            ["trace"] => trace_words(&self.trace),
             ["spell"] => spell_words(&self.engine),
             ["state"] => self.engine.state.to_string(),
             _ => "error unknown command".to_string(),
@@ -100,7 +116,13 @@ impl Server {
 
     fn feed(&mut self, budget: &str, line: &str) -> String {
         match (budget.parse(), unhex(line)) {
-            (Ok(budget), Some(line)) => answer_words(&self.engine.feed(&line, budget)),
+            (Ok(budget), Some(line)) => {
+                let Fed { answer, trace } = self.engine.feed_traced(&line, budget);
+                if let Some(text) = trace {
+                    self.trace = text;
+                }
+                answer_words(&answer)
+            }
             _ => "error bad feed".to_string(),
         }
     }

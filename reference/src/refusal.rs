@@ -19,6 +19,7 @@ pub const NEW_LINE_TOO_LONG: u8 = 32;
 pub const STORED_TAG: u8 = 33;
 pub const POINTER_PAST_END: u8 = 34;
 pub const COUNTER_PAST_END: u8 = 35;
+pub const TRACE_FULL: u8 = 36;
 pub const WORD_PATTERN: u8 = 41;
 
 /// A number and its place. The place is 0 for all numbers but 10 to 19.

@@ -4,7 +4,7 @@
 mod naive;
 
 use m7_reference::generate::{any_case, any_macro, bound_case, Random};
-use m7_reference::line::{Answer, Engine, Kind};
+use m7_reference::line::{Answer, Engine, Fed, Kind};
 use m7_reference::macros::{Macro, Symbol};
 use m7_reference::read::read_file;
 use m7_reference::refusal::Refusal;
@@ -25,7 +25,7 @@ fn number_of(answer: &Answer) -> u8 {
 #[test]
 fn refused_lines_change_nothing() {
     let mut random = Random::new(7);
-    let mut seen = [0; 36];
+    let mut seen = [0; 37];
     for list in 0..LISTS {
         let case = match list % 20 {
             0 => bound_case(&mut random),
@@ -42,7 +42,7 @@ fn refused_lines_change_nothing() {
         }
     }
     println!("answers by number, 0 for lines taken: {seen:?}");
-    let wanted = [0, 4, 12, 13, 14, 15, 16, 19, 21, 22, 23, 31, 32, 33, 34, 35];
+    let wanted = [0, 4, 12, 13, 14, 15, 16, 19, 21, 22, 23, 31, 32, 33, 34, 35, 36];
     assert!(wanted.iter().all(|number| seen[*number] > 0), "{seen:?}");
 }
 
@@ -94,7 +94,7 @@ fn smaller_budgets(random: &mut Random, passes: u64) -> Vec<u64> {
 #[test]
 fn a_larger_budget_gives_the_same_answer() {
     let mut random = Random::new(8);
-    let (mut lines, mut fed, mut seen) = (0, 0, [0; 36]);
+    let (mut lines, mut fed, mut seen) = (0, 0, [0; 37]);
     for list in 0..BUDGET_LISTS {
         let case = match list % 8 {
             0 => bound_case(&mut random),
@@ -103,8 +103,8 @@ fn a_larger_budget_gives_the_same_answer() {
         let mut engine = Engine::new(read_file(&case.file).unwrap_or_default());
         for (budget, line) in &case.lines {
             let before = engine.clone();
-            let told = engine.feed(line, *budget);
-            let (number, passes) = (number_of(&told), told.passes);
+            let told = engine.feed_traced(line, *budget);
+            let (number, passes) = (number_of(&told.answer), told.answer.passes);
             if matches!(number, 4 | 31) {
                 continue;
             }
@@ -112,22 +112,22 @@ fn a_larger_budget_gives_the_same_answer() {
             let more = passes + random.below(1_000_001 - passes as usize) as u64;
             for enough in [passes, passes + 1, more, 1_000_000] {
                 let mut other = before.clone();
-                assert_eq!(other.feed(line, enough.min(1_000_000)), told);
+                assert_eq!(other.feed_traced(line, enough.min(1_000_000)), told);
                 assert_eq!(other, engine);
                 fed += 1;
             }
             for smaller in smaller_budgets(&mut random, passes) {
                 let kind = Kind::Refused(Refusal::plain(31));
-                let wanted = Answer { kind, passes: smaller };
+                let wanted = Fed { answer: Answer { kind, passes: smaller }, trace: None };
                 let mut other = before.clone();
-                assert_eq!(other.feed(line, smaller), wanted);
+                assert_eq!(other.feed_traced(line, smaller), wanted);
                 assert_eq!(other, before);
                 fed += 1;
             }
         }
     }
     println!("{lines} lines under {fed} budgets; by number, 0 for lines taken: {seen:?}");
-    assert!([0, 12, 16, 19, 21, 22, 23, 32, 33, 34, 35].iter().all(|number| seen[*number] > 0));
+    assert!([0, 12, 16, 19, 21, 22, 23, 32, 33, 34, 35, 36].iter().all(|number| seen[*number] > 0));
 }
 
 /// Longer lines have too many divisions to list.
@@ -142,6 +142,8 @@ struct Naive<'a> {
     /// Macros that have passed without an occurrence since the last one.
     passed_over: Vec<bool>,
     passes: u64,
+    /// The lines of each pass with an occurrence.
+    trace: Vec<u8>,
 }
 
 impl Naive<'_> {
@@ -157,7 +159,11 @@ impl Naive<'_> {
             self.passed_over[at] = true;
             return Ok(());
         }
-        self.line = line;
+        let (old, new) = (std::mem::replace(&mut self.line, line), &self.line);
+        let texts = [old, (at + 1).to_string().into_bytes(), new.clone()];
+        for (word, text) in ["oldline:", "macro #:", "newline:"].iter().zip(texts) {
+            self.trace.extend([word.as_bytes(), &text, b"\n"].concat());
+        }
         self.passed_over.fill(false);
         self.open[at] = self.table[at].symbol == Symbol::Equals;
         Ok(())
@@ -191,8 +197,9 @@ impl Naive<'_> {
     }
 }
 
-/// The answer, and the state after it; none where the line cannot be tried.
-fn naive_line(engine: &Engine, line: &[u8], budget: u64) -> Option<(Answer, State)> {
+/// The answer and the trace, and the state after it; none where the line
+/// cannot be tried.
+fn naive_line(engine: &Engine, line: &[u8], budget: u64) -> Option<(Fed, State)> {
     let mut naive = Naive {
         table: &engine.table,
         state: engine.state.clone(),
@@ -200,6 +207,7 @@ fn naive_line(engine: &Engine, line: &[u8], budget: u64) -> Option<(Answer, Stat
         open: vec![true; engine.table.len()],
         passed_over: vec![false; engine.table.len()],
         passes: 0,
+        trace: Vec::new(),
     };
     let kind = naive.run(budget)?;
     let refused = matches!(kind, Kind::Refused(_));
@@ -207,7 +215,8 @@ fn naive_line(engine: &Engine, line: &[u8], budget: u64) -> Option<(Answer, Stat
         naive.no_division_is_left();
     }
     let state = if refused { engine.state.clone() } else { naive.state };
-    Some((Answer { kind, passes: naive.passes }, state))
+    let trace = (engine.state.trace && !refused).then_some(naive.trace);
+    Some((Fed { answer: Answer { kind, passes: naive.passes }, trace }, state))
 }
 
 #[test]
@@ -218,13 +227,14 @@ fn lines_are_those_of_demand_3() {
         let count = 1 + random.below(3);
         let table: Vec<Macro> = (0..count).map(|_| any_macro(&mut random, false)).collect();
         let mut engine = Engine::new(table);
+        engine.state.trace = random.one_in(2);
         for _ in 0..3 {
             let length = random.below(6);
             let line: Vec<u8> = (0..length).map(|_| *random.pick(b"aaaaaab1-\xe9")).collect();
             let naive = naive_line(&engine, &line, 12);
-            let answer = engine.feed(&line, 12);
+            let fed = engine.feed_traced(&line, 12);
             if let Some((wanted, state)) = naive {
-                assert_eq!(answer, wanted, "{:?} on {line:?}", engine.table);
+                assert_eq!(fed, wanted, "{:?} on {line:?}", engine.table);
                 assert_eq!(engine.state, state);
                 compared += 1;
             }

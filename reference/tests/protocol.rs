@@ -37,6 +37,17 @@ fn server_answers() {
     says(&format!("read {}", hex(b"'a**'='b';")), "no 14 3");
     says("write", &format!("ok {}", hex(b"'a'<'#(n+)'&(s:x:);\n")));
     says("fresh", "ok");
+    says(&format!("feed 9 {}", hex(b"$TRACE 1")), "0 0 0 3 -");
+    says("trace", "ok -");
+    says(&format!("feed 9 {}", hex(b"a")), "0 0 1 1 31");
+    says("trace", &format!("ok {}", hex(b"oldline:a\nmacro #:1\nnewline:1\n")));
+    says(&format!("feed 9 {}", hex(b"$")), "23 0 0 0 -");
+    says("trace", &format!("ok {}", hex(b"oldline:a\nmacro #:1\nnewline:1\n")));
+    says(&format!("feed 9 {}", hex(&[b"a", &[b'b'; 600][..]].concat())), &{
+        format!("0 0 1 1 {}", hex(&[b"2", &[b'b'; 600][..]].concat()))
+    });
+    says("trace", "long 1230 663705");
+    says("fresh", "ok");
     says("state", "fresh");
     says(&format!("words {} {}", hex(b"a CAT CART"), hex(b"CA-T")), "ok 2 2");
     says(&format!("words {} {}", hex(b"SCAT"), hex(b"CA-T")), "ok 0 0");
@@ -73,7 +84,7 @@ fn numbers(lines: &[String]) -> BTreeSet<u8> {
 #[test]
 fn cases_show_every_number() {
     let wanted: BTreeSet<u8> =
-        [4].into_iter().chain(10..=19).chain(21..=23).chain(31..=35).collect();
+        [4].into_iter().chain(10..=19).chain(21..=23).chain(31..=36).collect();
     for seed in [1, 2, 3] {
         assert_eq!(numbers(&case_lines(seed, 300)), wanted);
     }

@@ -4,7 +4,7 @@
 //! print tables in Markdown.
 
 use m7_archive::clock::{head, row, short, time, Time};
-use m7_archive::engine::{self, FILE_BYTES, OUTPUT_BYTES, STATE_BYTES, TABLE_BYTES};
+use m7_archive::engine::{self, FILE_BYTES, OUTPUT_BYTES, STATE_BYTES, TABLE_BYTES, TRACE_BYTES};
 use m7_archive::jobs::{self, Job};
 use m7_archive::trial::grouped;
 use m7_archive::{files, perl};
@@ -81,10 +81,10 @@ fn files_and_tables() {
 /// All lines in turn from a fresh state.
 fn proved_round(first: &[u8], lines: &[Vec<u8>], mut told: impl FnMut(engine::Answer, &[u8])) {
     let (mut table, mut state) = (first.to_vec(), vec![0; STATE_BYTES]);
-    let mut output = vec![0; OUTPUT_BYTES];
+    let (mut output, mut trace) = (vec![0; OUTPUT_BYTES], vec![0; TRACE_BYTES]);
     engine::fresh(&mut state);
     for line in lines {
-        let answer = engine::feed(&mut table, &mut state, line, 10_000, &mut output);
+        let answer = engine::feed(&mut table, &mut state, line, 10_000, &mut output, &mut trace);
         told(answer, &output[..answer.length as usize]);
     }
 }

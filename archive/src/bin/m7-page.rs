@@ -2,7 +2,8 @@
 //! marked `m7` holds a macro file, and then lines with what comes out of each.
 //! The form is told at the page's head. The exit code is 1 if an answer differs.
 
-use m7_archive::engine::{feed, fresh, read, OUTPUT_BYTES, STATE_BYTES, TABLE_BYTES};
+use m7_archive::engine::{feed, fresh, read};
+use m7_archive::engine::{OUTPUT_BYTES, STATE_BYTES, TABLE_BYTES, TRACE_BYTES};
 use std::process::ExitCode;
 
 const BUDGET: u32 = 10_000;
@@ -57,15 +58,25 @@ fn shown(output: &[u8]) -> String {
     String::from_utf8_lossy(&output.iter().flat_map(name).collect::<Vec<u8>>()).into_owned()
 }
 
-/// What a fed line shows on the page: the line that goes out, `! N` or nothing.
-fn said(table: &mut [u8], state: &mut [u8], line: &[u8]) -> Option<String> {
-    let mut output = [0; OUTPUT_BYTES];
-    let answer = feed(table, state, line, BUDGET, &mut output);
+/// The lines of a trace up to its zeros.
+fn trace_lines(trace: &[u8]) -> Vec<String> {
+    let text = trace.split(|byte| *byte == 0).next().unwrap_or_default();
+    text.strip_suffix(b"\n")
+        .map_or(Vec::new(), |lines| lines.split(|byte| *byte == b'\n').map(shown).collect())
+}
+
+/// What a fed line shows on the page: its trace, then the line that goes out,
+/// `! N` or nothing.
+fn said(table: &mut [u8], state: &mut [u8], line: &[u8]) -> Vec<String> {
+    let (mut output, mut trace) = ([0; OUTPUT_BYTES], vec![0; TRACE_BYTES]);
+    let answer = feed(table, state, line, BUDGET, &mut output, &mut trace);
+    let mut lines = trace_lines(&trace);
     match (answer.number, answer.kind) {
-        (0, 1) => Some(shown(&output[..answer.length as usize])),
-        (0, _) => None,
-        (number, _) => Some(format!("! {number}")),
+        (0, 1) => lines.push(shown(&output[..answer.length as usize])),
+        (0, _) => {}
+        (number, _) => lines.push(format!("! {number}")),
     }
+    lines
 }
 
 /// The block as the engine answers it, and how many answers it has.
@@ -85,7 +96,8 @@ fn answered(block: &Block) -> (Vec<String>, usize) {
     let mut asked = 0;
     for line in block.lines[end..].iter().filter(|line| line.starts_with(">>")) {
         made.push(line.clone());
-        made.extend(said(&mut table, &mut state, &bytes(line[2..].strip_prefix(' ').unwrap_or(""))));
+        let sent = bytes(line[2..].strip_prefix(' ').unwrap_or(""));
+        made.extend(said(&mut table, &mut state, &sent));
         asked += 1;
     }
     (made, asked)

@@ -29,6 +29,8 @@ fn main() -> ExitCode {
     let (exact, less) = (lines(Group::FeedExact), lines(Group::FeedLess));
     let more = lines(Group::FeedMore);
     println!("{exact} asked under their passes, {less} under one less, {more} under more;");
+    let longest = grouped(trial.longest_trace as u64);
+    println!("{} lines wrote a trace, the longest of {longest} bytes;", grouped(trial.traced));
     println!("seed {seed}, {} calls compared", grouped(trial.counts.all()));
     println!("{} differ", trial.differing);
     ExitCode::from((trial.differing > 0) as u8)

@@ -3,7 +3,7 @@
 //! of them. It prints milliseconds of the processor, the least of some runs.
 
 use m7_archive::clock::used;
-use m7_archive::engine::{self, OUTPUT_BYTES, STATE_BYTES, TABLE_BYTES};
+use m7_archive::engine::{self, OUTPUT_BYTES, STATE_BYTES, TABLE_BYTES, TRACE_BYTES};
 use m7_archive::files;
 use m7_reference::generate::Random;
 
@@ -45,6 +45,7 @@ struct Pass {
     table: Vec<u8>,
     state: Vec<u8>,
     output: Vec<u8>,
+    trace: Vec<u8>,
 }
 
 #[derive(Clone)]
@@ -76,7 +77,8 @@ impl Pass {
         }
         engine::fresh(&mut self.state);
         let begun = used();
-        let answer = engine::feed(&mut self.table, &mut self.state, line, 1, &mut self.output);
+        let (table, state) = (&mut self.table, &mut self.state);
+        let answer = engine::feed(table, state, line, 1, &mut self.output, &mut self.trace);
         let spent = (used() - begun) / 1e3;
         assert_eq!((answer.number, answer.passes), (0, 1), "one pass");
         Some(spent)
@@ -202,6 +204,7 @@ fn main() {
         table: vec![0; TABLE_BYTES],
         state: vec![0; STATE_BYTES],
         output: vec![0; OUTPUT_BYTES],
+        trace: vec![0; TRACE_BYTES],
     };
     chosen(&mut pass);
     let mut random = Random::new(seed);

@@ -2,7 +2,7 @@
 //! memories of other sizes.
 
 use super::{refused, Group, Trial, OLD};
-use crate::engine::{self, FILE_BYTES, OUTPUT_BYTES, STATE_BYTES, TABLE_BYTES};
+use crate::engine::{self, FILE_BYTES, OUTPUT_BYTES, STATE_BYTES, TABLE_BYTES, TRACE_BYTES};
 use crate::form::{state_of, table_of, SLOT_BYTES};
 use m7_reference::generate::Random;
 
@@ -165,19 +165,21 @@ impl Trial {
     }
 
     fn size_feed(&mut self, random: &mut Random, line: &[u8]) {
-        let mut sizes = [TABLE_BYTES, STATE_BYTES, OUTPUT_BYTES];
-        let which = random.below(3);
+        let mut sizes = [TABLE_BYTES, STATE_BYTES, OUTPUT_BYTES, TRACE_BYTES];
+        let which = random.below(4);
         sizes[which] = other_size(random, sizes[which]);
         let budget = *random.pick(&[9, 1_000_001]);
         self.output.lend().fill(OLD);
         let (table, state) = (self.table.lend_other(sizes[0]), self.state.lend_other(sizes[1]));
         let output = self.output.lend_other(sizes[2]);
+        let trace = self.trace.lend_other(sizes[3]);
         self.line.hold(line);
-        let answer = engine::feed(table, state, self.line.get(), budget, output);
+        let answer = engine::feed(table, state, self.line.get(), budget, output, trace);
         let same = self.table.holds(&self.table_bytes)
             && self.line.holds(line)
             && self.state.holds(&self.state_bytes)
-            && self.output.holds(&[OLD; OUTPUT_BYTES]);
+            && self.output.holds(&[OLD; OUTPUT_BYTES])
+            && self.trace.holds(&self.trace_bytes);
         self.note(Group::SizeFeed, answer, refused(3), same, "m7_feed, another size");
     }
 }

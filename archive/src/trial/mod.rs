@@ -10,7 +10,9 @@ mod words;
 pub use counts::{grouped, Counts, Group};
 pub use songs::Songs;
 
-use crate::engine::{self, Answer, FILE_BYTES, OUTPUT_BYTES, STATE_BYTES, TABLE_BYTES};
+use crate::engine::{
+    self, Answer, FILE_BYTES, OUTPUT_BYTES, STATE_BYTES, TABLE_BYTES, TRACE_BYTES,
+};
 use crate::form::{state_form, table_form};
 use crate::lent::Lent;
 use m7_reference::line::{self, Engine, Kind};
@@ -21,7 +23,7 @@ use m7_reference::refusal::Refusal;
 use m7_reference::state::State;
 use m7_reference::write::write_table;
 
-/// What an unused output or file memory holds before a call.
+/// What an unused output, file or trace memory holds before a call.
 const OLD: u8 = 0xFF;
 
 /// The memories lent, and what they must hold.
@@ -29,17 +31,22 @@ pub struct Trial {
     table: Lent,
     state: Lent,
     output: Lent,
+    trace: Lent,
     file: Lent,
     line: Lent,
     pattern: Lent,
     source: Lent,
     table_bytes: Vec<u8>,
     state_bytes: Vec<u8>,
+    trace_bytes: Vec<u8>,
     /// The Rust version's table and state; nothing where the bytes are none.
     plain_table: Option<Table>,
     plain_state: Option<State>,
     pub counts: Counts,
     pub differing: u64,
+    /// Lines that wrote a trace, and the longest.
+    pub traced: u64,
+    pub longest_trace: usize,
 }
 
 fn taken(length: usize) -> Answer {
@@ -85,16 +92,20 @@ impl Trial {
             table: Lent::new(TABLE_BYTES),
             state: Lent::new(STATE_BYTES),
             output: Lent::new(OUTPUT_BYTES),
+            trace: Lent::new(TRACE_BYTES),
             file: Lent::new(FILE_BYTES),
             line: Lent::new(0),
             pattern: Lent::new(0),
             source: Lent::new(0),
             table_bytes: vec![0; TABLE_BYTES],
             state_bytes: vec![0; STATE_BYTES],
+            trace_bytes: vec![0; TRACE_BYTES],
             plain_table: Some(Table::new()),
             plain_state: None,
             counts: Counts::new(),
             differing: 0,
+            traced: 0,
+            longest_trace: 0,
         };
         trial.fresh();
         trial
@@ -166,7 +177,8 @@ impl Trial {
         };
         let macros = table.len();
         let mut plain = Engine { table, state };
-        let answer = plain.feed(line, budget as u64);
+        let line::Fed { answer, trace } = plain.feed_traced(line, budget as u64);
+        self.expect_trace(trace);
         if !matches!(answer.kind, Kind::Refused(_)) {
             state_form(&plain.state, &mut self.state_bytes);
         }
@@ -178,17 +190,35 @@ impl Trial {
         told(answer)
     }
 
+    /// What the trace memory is to hold after a line.
+    fn expect_trace(&mut self, trace: Option<Vec<u8>>) {
+        if let Some(text) = trace {
+            self.trace_bytes[..text.len()].copy_from_slice(&text);
+            self.trace_bytes[text.len()..].fill(0);
+            self.traced += 1;
+            self.longest_trace = self.longest_trace.max(text.len());
+        }
+    }
+
+    /// Lets the trace memory hold what no trace does.
+    pub fn spoil_trace(&mut self) {
+        self.trace_bytes.fill(OLD);
+        self.trace.hold(&self.trace_bytes);
+    }
+
     /// Feeds a line to the table and the state as they are.
     pub fn feed(&mut self, group: Group, budget: u32, line: &[u8]) -> Answer {
         self.line.hold(line);
         self.output.lend().fill(OLD);
         let (table, state) = (self.table.lend(), self.state.lend());
-        let answer = engine::feed(table, state, self.line.get(), budget, self.output.lend());
+        let (output, trace) = (self.output.lend(), self.trace.lend());
+        let answer = engine::feed(table, state, self.line.get(), budget, output, trace);
         let (text, expected) = self.plain_feed(line, budget);
         let same = filled(&self.output, expected, &text)
             && self.line.holds(line)
             && self.table.holds(&self.table_bytes)
-            && self.state.holds(&self.state_bytes);
+            && self.state.holds(&self.state_bytes)
+            && self.trace.holds(&self.trace_bytes);
         let what = || format!("m7_feed, budget {budget}, line {}", hex(line));
         let what = if same && answer == expected { String::new() } else { what() };
         self.note(group, answer, expected, same, &what);

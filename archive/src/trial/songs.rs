@@ -64,6 +64,9 @@ impl Songs {
             trial.spoil(random);
         }
         trial.look(random);
+        if random.one_in(4) {
+            trial.spoil_trace();
+        }
         trial.read(Group::Read, &case.file);
         let short = case.file.len() < 10_000;
         if short || random.one_in(4) {
@@ -80,7 +83,7 @@ impl Songs {
         if case.lines.len() > 1 {
             write_and_back(trial);
         }
-        let line = case.lines.first().map_or(&b"a1-b"[..], |(_, line)| line);
+        let line = case.lines.last().map_or(&b"a1-b"[..], |(_, line)| line);
         changes(trial, random, line);
     }
 }

@@ -6,13 +6,13 @@ use Rattle.macros.specs.Refusals.{Refusal}
 use Rattle.macros.specs.Refusals.Refusal.{ofHost, ofLine, ofFile, ofWork}
 use Rattle.macros.specs.Refusals.HostRefusal.{budgetTooLarge}
 use Rattle.macros.specs.Refusals.LineRefusal.{lineTooLong, badByte, badControl}
-use Rattle.macros.specs.Refusals.WorkRefusal.{budgetUsedUp}
+use Rattle.macros.specs.Refusals.WorkRefusal.{budgetUsedUp, traceTooLong}
 use Rattle.lines.specs.Feeding.{Kind}
 use Rattle.lines.specs.Feeding.Kind.{refusedWith, out, withheld, controlled}
 use Rattle.read_scan.specs.Scan.{faultOf}
 use Rattle.refusals.specs.Faults.{refusalOf as workOf}
 use Rattle.line_answer.specs.declared.Why.{Why}
-use Rattle.line_answer.specs.declared.Why.the-variants.{BudgetTooLarge, LineTooLong, BadByte, BadControl, InMacro, BudgetUsedUp, AtWork}
+use Rattle.line_answer.specs.declared.Why.the-variants.{BudgetTooLarge, LineTooLong, BadByte, BadControl, InMacro, BudgetUsedUp, AtWork, TraceTooLong}
 use Rattle.line_answer.specs.declared.Fed.{Fed}
 use Rattle.line_answer.specs.declared.Fed.the-variants.{Out, Withheld, Control, Refused}
 
@@ -25,6 +25,7 @@ refusalOf BadControl = ofLine badControl
 refusalOf (InMacro f p) = ofFile (faultOf f) p
 refusalOf BudgetUsedUp = ofWork budgetUsedUp
 refusalOf (AtWork f) = ofWork (workOf f)
+refusalOf TraceTooLong = ofWork traceTooLong
 
 -- an answer's kind, with the line that stands in the output
 abbrev pub kindOf : Fed → List ℕ → Kind

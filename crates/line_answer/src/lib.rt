@@ -19,6 +19,7 @@ pub enum Why {
     InMacro(FileFault, usize),
     BudgetUsedUp,
     AtWork(WorkFault),
+    TraceTooLong,
 }
 
 // A line's answer with the passes begun; one that goes out has its length too.
@@ -108,6 +109,9 @@ fn refused(w: Why, passes: usize) -> Answer
         }
         Why::AtWork(f) => {
             return line_reply(work_number(f), 0, passes, 0, 0);
+        }
+        Why::TraceTooLong => {
+            return line_reply(36, 0, passes, 0, 0);
         }
     }
 }

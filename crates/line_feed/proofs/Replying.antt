@@ -3,21 +3,25 @@
 use Prim.Native.Nat.{ℕ, zero, suc, _+_, _-_, _≤_, _<_}
 use mathlib.Core.Path.{_≡_, refl, ap, sym, _∙_, subst}
 use mathlib.Core.Bool.{Bool, true, false, false≢true}
-use mathlib.Core.List.{List, _++_}
+use mathlib.Core.List.{List, [], _++_}
+use mathlib.Core.Option.{Option, none, some}
 use native.Mathlib.Omega.{arith}
 use borrow.Author.Tests.{le-leb, lt-leb, lt-ltb}
 use lib.Dec.{ltb}
 use lib.ListN.{length, take, replicate, length-replicate}
-use lib.Seq.{take-at, length-take-le}
-use Rattle.macros.specs.Bounds.{mostLineBytes, mostBudget}
+use lib.Seq.{take-at, take-all, length-take-le}
+use Rattle.macros.specs.Bounds.{mostLineBytes, mostBudget, mostTraceBytes}
+use Rattle.macros.specs.Refusals.{Refusal}
 use Rattle.macros.specs.Refusals.Refusal.{ofWork}
 use Rattle.macros.specs.Macro.{Table}
 use Rattle.lines.specs.State.{State}
-use Rattle.lines.specs.Line.{Sent, Ending, Line, passesOf, hadOccurrence, ending, lineOf}
+use Rattle.lines.specs.Line.{Sent, Pass, Ending, Line, passesOf, hadOccurrence, ending}
+use Rattle.lines.specs.Trace.{traceOf, isOn, historyOf, traceIf}
+use Rattle.lines.proofs.TraceSteps.{WritesIf, answer-writes}
 use Rattle.lines.specs.Line.Ending.{done}
-use Rattle.lines.specs.Feeding.{Kind, Answer, orderOf, kindOfDone, refusal, outputOf, ofOrder, answered, answer, hasBadByte}
+use Rattle.lines.specs.Feeding.{Kind, Answer, orderOf, kindOfDone, refusal, outputOf, tracing, ofOrder, answered, answer, hasBadByte}
 use Rattle.lines.specs.Feeding.{feed as fed}
-use Rattle.lines.specs.Feeding.Kind.{out, withheld}
+use Rattle.lines.specs.Feeding.Kind.{refusedWith, out, withheld, controlled}
 use Rattle.lines.specs.Feeding.Order.{wrong}
 use Rattle.form_state.specs.Access.{Holds, OfState}
 use Rattle.line_memory.specs.Memory.{Memories, Feeding, IsTable, Counted, padded}
@@ -31,13 +35,13 @@ use Rattle.line_control.specs.declared.Order.the-variants.{Taken, Refused as Wr
 use Rattle.line_passes.specs.Contract.{Run, Left, Started, Comes, Lies, LineLeft, Runs}
 use Rattle.line_passes.specs.Contract.{refusalOf as workRefusal}
 use Rattle.line_passes.specs.declared.Why.{Why as WorkWhy}
-use Rattle.line_passes.specs.declared.Why.the-variants.{BudgetUsedUp, AtWork}
+use Rattle.line_passes.specs.declared.Why.the-variants.{BudgetUsedUp, AtWork, TraceTooLong}
 use Rattle.line_passes.specs.declared.Ended.{Ended}
 use Rattle.line_passes.specs.declared.Ended.the-variants.{Done, Control as AtControl, Refused as AtRefusal}
 use Rattle.line_passes.proofs.Starting.{state-length}
-use Rattle.line_feed.specs.Contract.{Lent, laidOut, Answers, Feeds}
-use Rattle.line_answer.specs.Fed.{refusalOf}
-use Rattle.line_feed.specs.Answering.{Counts, controlWhy, workWhy, Fits, withheldBy, Finished, GoesOut, keptBy, Ruling, Rules, Replying, Replies, Takes}
+use Rattle.line_feed.specs.Contract.{Untraced, untraced, LentUntraced, laidOut, tracedOut, Answers, Feeds}
+use Rattle.line_answer.specs.Fed.{refusalOf, kindOf}
+use Rattle.line_feed.specs.Answering.{Counts, controlWhy, workWhy, Fits, withheldBy, Finished, GoesOut, keptBy, Ruling, Rules, After, beside, Replying, Replies, isTaken, TraceRoom, TakesWith, keptTrace, Takes}
 use Rattle.line_answer.specs.declared.Why.{Why}
 use Rattle.line_answer.specs.declared.Why.the-variants.{BudgetTooLarge, LineTooLong, BadByte}
 use Rattle.line_answer.specs.declared.Fed.{Fed}
@@ -114,22 +118,23 @@ why-control (InMacro f p) = refl
 why-work : (w : WorkWhy) → refusalOf (workWhy w) ≡ ofWork (workRefusal w)
 why-work BudgetUsedUp = refl
 why-work (AtWork f) = refl
+why-work TraceTooLong = refl
 
 -- CONTROL LINES
 
-module _ {m : Memories} {tb′ : List ℕ} {count : ℕ} {left : Left} {z′ : List ℕ} {r : Obeyed} (x : Orders (m .table) tb′ (left .state) z′ count (left .text) r) where
+module _ {m : Untraced} {tb′ : List ℕ} {count : ℕ} {left : After} {z′ : List ℕ} {r : Obeyed} (x : Orders (m .table) tb′ (left .state) z′ count (left .text) r) where
   pub rule-taken : r ≡ Taken → {b′ o′ : List ℕ} → b′ ≡ keptBy r z′ (m .state) → length (m .output) ≡ mostLineBytes → o′ ≡ padded (take 0 (left .text)) (length (m .output)) → (p : ℕ)
       → Rules m (record { table = tb′; state = b′; output = o′ }) count left p (Control p)
   unfolding ofOrder laidOut outputOf
   rule-taken e {b′} {o′} d y f p =
       let x₂ : Orders (m .table) tb′ (left .state) z′ count (left .text) Taken = rw e at x in
       record {
-        answers = λ ms h c old st ho hs.
+        answers = λ ms h c old st ho hs xs n.
             let v = x₂ .obeys ms h c st hs in
-            subst (λ (a : Answer). Answers a m (record { table = tb′; state = b′; output = o′ }) (Control p)) (sym (ap (ofOrder ms old p) (v .2)))
+            subst (λ (a : Answer). Answers a m (record { table = tb′; state = b′; output = o′ }) (Control p)) (sym (ap (ofOrder ms old xs) (v .2)))
             (record {
               kind = refl;
-              passes = refl;
+              passes = n;
               size = refl;
               table = v .3;
               state = subst (λ (j : List ℕ). Holds j (v .1)) (sym (d ∙ ap (λ (j : Obeyed). keptBy j z′ (m .state)) e)) (v .4);
@@ -144,12 +149,12 @@ module _ {m : Memories} {tb′ : List ℕ} {count : ℕ} {left : Left} {z′ : L
       let x₂ : Orders (m .table) tb′ (left .state) z′ count (left .text) (Wrong w) = rw e at x in
       let q : controlRefusal w ≡ refusalOf v = sym (why-control w) ∙ ap refusalOf (sym g) in
       record {
-        answers = λ ms h c old st ho hs.
+        answers = λ ms h c old st ho hs xs n.
             let u = x₂ .obeys ms h c st hs in
-            subst (λ (a : Answer). Answers a m (record { table = tb′; state = b′; output = m .output }) (Refused v p)) (sym (ap (ofOrder ms old p) (u .0 ∙ ap wrong q)))
+            subst (λ (a : Answer). Answers a m (record { table = tb′; state = b′; output = m .output }) (Refused v p)) (sym (ap (ofOrder ms old xs) (u .0 ∙ ap wrong q)))
             (record {
               kind = refl;
-              passes = refl;
+              passes = n;
               size = refl;
               table = subst (λ (j : List ℕ). IsTable j ms) (sym (u .1)) h;
               state = subst (λ (j : List ℕ). Holds j old) (sym (d ∙ ap (λ (j : Obeyed). keptBy j z′ (m .state)) e)) ho;
@@ -159,22 +164,28 @@ module _ {m : Memories} {tb′ : List ℕ} {count : ℕ} {left : Left} {z′ : L
 
 -- A LINE
 
-answer-as : (ms : Table) (st : State) (l : Line) {p : ℕ} {e : Ending} → length (passesOf l) ≡ p → ending l ≡ e → answer ms st l ≡ answered ms st p (hadOccurrence (passesOf l)) e
+answer-as : (ms : Table) (st : State) (l : Line) {e : Ending} → ending l ≡ e → answer ms st l ≡ answered ms st (passesOf l) e
 unfolding answer
-answer-as ms st l q f = rw (q, f) refl
+answer-as ms st l f = rw f refl
 
 -- the line of k bytes that is left
-abbrev lineLeft : Left → ℕ → Left
+abbrev lineLeft : After → ℕ → After
 lineLeft left k = record { state = left .state; text = take k (left .text) }
 
-module _ {m : Memories} {count : ℕ} {left : Left} {r : Ended} where
+-- what is left lies there beside any trace
+lies-beside : (e : Ended) (left : Left) → Lies left e → Lies (beside (record { state = left .state; text = left .text }) []) e
+lies-beside (Done n o p) left h = record { state = h .state; size = h .size; bytes = h .bytes; laid = h .laid }
+lies-beside (AtControl n p) left h = record { state = h .state; size = h .size; bytes = h .bytes; laid = h .laid }
+lies-beside (AtRefusal w p) left h = tt
+
+module _ {m : Untraced} {count : ℕ} {left : After} {r : Ended} where
   module _ (y : Replying m count left r) where
-    finished : {k : ℕ} → LineLeft left k → Finished (m .state) (m .output) (left .state) (take k (left .text))
+    finished : {k : ℕ} → LineLeft (beside left []) k → Finished (m .state) (m .output) (left .state) (take k (left .text))
     finished {k} l = record { state = y .state; output = y .output; after = l .state; short = omega (arith, length-take-le k (left .text) (omega (arith, l .size, y .text)), l .size) }
 
     module _ {k p : ℕ} {o : Bool} (e : r ≡ Done k o p) where
-      done-left : LineLeft left k
-      done-left = subst (Lies left) e (y .lies)
+      done-left : LineLeft (beside left []) k
+      done-left = subst (Lies (beside left [])) e (y .lies)
 
       pub done-size : k ≤ length (left .text)
       done-size = omega (arith, done-left .size, y .text)
@@ -183,8 +194,8 @@ module _ {m : Memories} {count : ℕ} {left : Left} {r : Ended} where
       done-finished = finished done-left
 
     module _ {k p : ℕ} (e : r ≡ AtControl k p) where
-      control-left : LineLeft left k
-      control-left = subst (Lies left) e (y .lies)
+      control-left : LineLeft (beside left []) k
+      control-left = subst (Lies (beside left [])) e (y .lies)
 
       pub control-size : k ≤ length (left .text)
       control-size = omega (arith, control-left .size, y .text)
@@ -197,29 +208,30 @@ module _ {m : Memories} {count : ℕ} {left : Left} {r : Ended} where
   unfolding answered
   reply-done {k} {p} {o} e {b′} {o′} {a} g =
       record {
-        answers = λ ms h l old hb whole c₀.
-            let c : Comes whole left (Done k o p) = subst (Comes whole left) e c₀ in
-            let q : answer ms old whole ≡ answered ms old p o (done (take k (left .text)) (c .state)) =
-            answer-as ms old whole (c .count) (c .ends) ∙ ap (λ (j : Bool). answered ms old p j (done (take k (left .text)) (c .state))) (c .occurs) in
+        answers = λ ms h l old hb traced lines whole c₀.
+            let c : Comes traced whole (beside left lines) (Done k o p) = subst (Comes traced whole (beside left lines)) e c₀ in
+            let q : answer ms old whole ≡ answered ms old (passesOf whole) (done (take k (left .text)) (c .state)) = answer-as ms old whole (c .ends) in
+            let as-o : kindOfDone (c .state .nflag) (hadOccurrence (passesOf whole)) (take k (left .text)) ≡ kindOfDone (c .state .nflag) o (take k (left .text)) =
+            ap (λ (j : Bool). kindOfDone (c .state .nflag) j (take k (left .text))) (c .occurs) in
             subst (λ (j : Answer). Answers j m (record { table = m .table; state = b′; output = o′ }) a) (sym q)
             (record {
-              kind = g .kind (c .state) (c .holds);
-              passes = sym (g .passes);
-              size = g .size (c .state) (c .holds);
+              kind = as-o ∙ g .kind (c .state) (c .holds);
+              passes = c .count ∙ sym (g .passes);
+              size = ap (λ (j : Kind). length (outputOf j)) as-o ∙ g .size (c .state) (c .holds);
               table = h;
               state = subst (λ (j : List ℕ). Holds j (c .state)) (sym (g .state)) (c .holds);
-              output = g .output (c .state) (c .holds);
+              output = g .output (c .state) (c .holds) ∙ ap (λ (j : Kind). laidOut j (m .output)) (sym as-o);
             });
       }
 
-  pub reply-ruled : {k p : ℕ} → r ≡ AtControl k p → {m′ : Memories} {a : Fed} → Rules m m′ count (lineLeft left k) p a → Replies m m′ count left r a
+  pub reply-ruled : {k p : ℕ} → r ≡ AtControl k p → {m′ : Untraced} {a : Fed} → Rules m m′ count (lineLeft left k) p a → Replies m m′ count left r a
   unfolding answered
   reply-ruled {k} {p} e {m′} {a} g =
       record {
-        answers = λ ms h l old hb whole c₀.
-            let c : Comes whole left (AtControl k p) = subst (Comes whole left) e c₀ in
-            let q : answer ms old whole ≡ ofOrder ms old p (orderOf ms (c .state) (take k (left .text))) = answer-as ms old whole (c .count) (c .ends) in
-            subst (λ (j : Answer). Answers j m m′ a) (sym q) (g .answers ms h l old (c .state) hb (c .holds));
+        answers = λ ms h l old hb traced lines whole c₀.
+            let c : Comes traced whole (beside left lines) (AtControl k p) = subst (Comes traced whole (beside left lines)) e c₀ in
+            let q : answer ms old whole ≡ ofOrder ms old (passesOf whole) (orderOf ms (c .state) (take k (left .text))) = answer-as ms old whole (c .ends) in
+            subst (λ (j : Answer). Answers j m m′ a) (sym q) (g .answers ms h l old (c .state) hb (c .holds) (passesOf whole) (c .count));
       }
 
   pub reply-refused : {w : WorkWhy} {p : ℕ} → r ≡ AtRefusal w p → {v : Why} → v ≡ workWhy w → Replies m m count left r (Refused v p)
@@ -227,32 +239,186 @@ module _ {m : Memories} {count : ℕ} {left : Left} {r : Ended} where
   reply-refused {w} {p} e {v} g =
       let i : ofWork (workRefusal w) ≡ refusalOf v = sym (why-work w) ∙ ap refusalOf (sym g) in
       record {
-        answers = λ ms h l old hb whole c₀.
-            let c : Comes whole left (AtRefusal w p) = subst (Comes whole left) e c₀ in
-            let q : answer ms old whole ≡ refusal ms old p (ofWork (workRefusal w)) = answer-as ms old whole (c .count) (c .ends) in
-            subst (λ (j : Answer). Answers j m m (Refused v p)) (sym (q ∙ ap (refusal ms old p) i))
-            (record { kind = refl; passes = refl; size = refl; table = h; state = hb; output = refl });
+        answers = λ ms h l old hb traced lines whole c₀.
+            let c : Comes traced whole (beside left lines) (AtRefusal w p) = subst (Comes traced whole (beside left lines)) e c₀ in
+            let q : answer ms old whole ≡ refusal ms old (length (passesOf whole)) (ofWork (workRefusal w)) = answer-as ms old whole (c .ends) in
+            subst (λ (j : Answer). Answers j m m (Refused v p)) (sym (q ∙ ap (refusal ms old (length (passesOf whole))) i))
+            (record { kind = refl; passes = c .count; size = refl; table = h; state = hb; output = refl });
       }
 
 -- FROM ITS START
 
-counted : {m : Memories} {count : ℕ} → Lent m → Counts (m .table) count → Counted (m .table) count
+-- a refusal's kind is no other
+not-taken : (r : Fed) {w : Refusal} (o : List ℕ) → isTaken r ≡ true → refusedWith w ≡ kindOf r o → ⊥
+not-taken (Out p n) o t e = let z : _≡_ {A = ℕ} 0 1 = cc in omega arith
+not-taken (Withheld p) o t e = let z : _≡_ {A = ℕ} 0 1 = cc in omega arith
+not-taken (Control p) o t e = let z : _≡_ {A = ℕ} 0 1 = cc in omega arith
+not-taken (Refused w p) o t e = false≢true t
+
+counted : {m : Untraced} {count : ℕ} → LentUntraced m → Counts (m .table) count → Counted (m .table) count
 counted y cs = record { macros = y .table .0; isTable = y .table .1; counted = cs .each (y .table .0) (y .table .1) }
 
-module _ (sent : Sent) {m : Memories} {count : ℕ} (y : Lent m) (f : Fits (sent .line)) (cs : Counts (m .table) count) where
+pub state-long : (m : Untraced) → LentUntraced m → 26236 ≤ length (m .state)
+state-long m y = omega (arith, state-length (y .state))
+
+module _ (sent : Sent) {m : Untraced} {count : ℕ} {traced : Bool} {lines : List ℕ} (y : LentUntraced m) (f : Fits (sent .line)) (room : TraceRoom (m .state) traced lines) (cs : Counts (m .table) count) where
   abbrev run : Run
-  run = record { table = m .table; count = count; state = m .state; sent = sent }
+  run = record { table = m .table; count = count; state = m .state; sent = sent; traced = traced }
 
-  pub started : Started run (record { state = replicate 26236 0; text = replicate 1054 0 })
+  abbrev old : Left
+  old = record { state = replicate 26236 0; text = replicate 1054 0; trace = lines }
+
+  pub started : Started run old
   started =
-      record { table = counted y cs; state = y .state; short = f .short; bytes = f .bytes; after = length-replicate {A = ℕ} 26236 0; text = length-replicate {A = ℕ} 1054 0 }
+      record {
+        table = counted y cs;
+        state = y .state;
+        short = f .short;
+        bytes = f .bytes;
+        after = length-replicate {A = ℕ} 26236 0;
+        text = length-replicate {A = ℕ} 1054 0;
+        flag = room .flag;
+        trace = room .clear;
+      }
 
-  module _ {left : Left} {r : Ended} (x : Runs run left r) where
-    pub replying : length (left .text) ≡ 1054 → Replying m count left r
-    replying l = record { table = counted y cs; state = state-length (y .state); output = y .room; text = l; lies = x .runs .lies }
+  -- the state as a slice of its own size
+  whole-slice : take 26236 (m .state) ≡ m .state
+  whole-slice = take-all 26236 (m .state) (omega (arith, state-length (y .state)))
 
-    pub taken : {m′ : Memories} {a : Fed} → Replies m m′ count left r a → Takes (record { sent = sent; lent = m; left = m′ }) a
-    taken g = record { answers = λ ms h st hb. g .answers ms h (cs .each ms h) st hb (lineOf ms st sent) (x .runs .comes ms h (cs .each ms h) st hb) }
+  pub started-slice : Started (record { table = m .table; count = count; state = take 26236 (m .state); sent = sent; traced = traced }) old
+  started-slice =
+      subst (λ (b : List ℕ). Started (record { table = m .table; count = count; state = b; sent = sent; traced = traced }) old) (sym whole-slice) started
+
+  pub runs-slice : {left : Left} {r : Ended} → Runs (record { table = m .table; count = count; state = take 26236 (m .state); sent = sent; traced = traced }) old left r → Runs run old left r
+  runs-slice {left} {r} x =
+      subst (λ (b : List ℕ). Runs (record { table = m .table; count = count; state = b; sent = sent; traced = traced }) old left r) whole-slice x
+
+  module _ {left : Left} {r : Ended} (x : Runs run old left r) where
+    abbrev after : After
+    after = record { state = left .state; text = left .text }
+
+    pub replying : length (left .text) ≡ 1054 → Replying m count after r
+    replying l = record { table = counted y cs; state = state-length (y .state); output = y .room; text = l; lies = lies-beside r left (x .runs .lies) }
+
+    module _ {m′ : Untraced} {a : Fed} (g : Replies m m′ count after r a) where
+      taken-answers : (ms : Table) → IsTable (m .table) ms → (st : State) → Holds (m .state) st → Answers (answer ms st (historyOf ms st sent)) m m′ a
+      taken-answers ms h st hb = g .answers ms h (cs .each ms h) st hb traced (left .trace) (historyOf ms st sent) (x .runs .comes ms h (cs .each ms h) st hb)
+
+      -- a line that its passes refuse is not taken
+      refused-not : (ms : Table) → IsTable (m .table) ms → (st : State) → Holds (m .state) st → (w : WorkWhy) {p : ℕ} → Comes traced (historyOf ms st sent) left (AtRefusal w p) → isTaken a ≡ true → ⊥
+      unfolding answered refusal
+      refused-not ms h st hb w c t =
+          let k : answer ms st (historyOf ms st sent) .kind ≡ refusedWith (ofWork (workRefusal w)) = ap (λ (b : Answer). b .kind) (answer-as ms st (historyOf ms st sent) (c .ends)) in
+          not-taken a (m′ .output) t (sym k ∙ taken-answers ms h st hb .kind)
+
+      traces-of : (e : Ended) → r ≡ e → traced ≡ true → isTaken a ≡ true → (ms : Table) → IsTable (m .table) ms → (st : State) → Holds (m .state) st
+          → left .trace ≡ padded (traceOf (passesOf (historyOf ms st sent))) mostTraceBytes
+      traces-of (Done n o p) e q t ms h st hb = let c : Comes traced (historyOf ms st sent) left (Done n o p) = rw e at (x .runs .comes ms h (cs .each ms h) st hb) in c .traces q
+      traces-of (AtControl n p) e q t ms h st hb = let c : Comes traced (historyOf ms st sent) left (AtControl n p) = rw e at (x .runs .comes ms h (cs .each ms h) st hb) in c .traces q
+      traces-of (AtRefusal w p) e q t ms h st hb =
+          let c : Comes traced (historyOf ms st sent) left (AtRefusal w p) = rw e at (x .runs .comes ms h (cs .each ms h) st hb) in
+          absurd (refused-not ms h st hb w c t)
+
+      pub taken-with : TakesWith sent m m′ traced lines (left .trace) a
+      taken-with = record { answers = taken-answers; traces = traces-of r refl; untraced = x .runs .untraced }
+
+-- THE TRACE
+
+-- what the answer says of a trace, by whether the line is taken
+module _ (ms : Table) (st : State) (sent : Sent) {m m′ : Untraced} {r : Fed} (h : Answers (answer ms st (historyOf ms st sent)) m m′ r) where
+  abbrev given : Answer
+  given = answer ms st (historyOf ms st sent)
+
+  by-kind : (r : Fed) → given .kind ≡ kindOf r (m′ .output) → (isTaken r ≡ true → given .traceText ≡ tracing st (passesOf (historyOf ms st sent))) × (isTaken r ≡ false → given .traceText ≡ none)
+  by-kind (Out p n) e = (λ t. subst (λ (k : Kind). WritesIf k given (tracing st (passesOf (historyOf ms st sent)))) e (answer-writes ms st (historyOf ms st sent)), λ t. absurd (false≢true (sym t)))
+  by-kind (Withheld p) e = (λ t. subst (λ (k : Kind). WritesIf k given (tracing st (passesOf (historyOf ms st sent)))) e (answer-writes ms st (historyOf ms st sent)), λ t. absurd (false≢true (sym t)))
+  by-kind (Control p) e = (λ t. subst (λ (k : Kind). WritesIf k given (tracing st (passesOf (historyOf ms st sent)))) e (answer-writes ms st (historyOf ms st sent)), λ t. absurd (false≢true (sym t)))
+  by-kind (Refused w p) e = (λ t. absurd (false≢true t), λ t. subst (λ (k : Kind). WritesIf k given (tracing st (passesOf (historyOf ms st sent)))) e (answer-writes ms st (historyOf ms st sent)))
+
+  pub trace-taken : isTaken r ≡ true → given .traceText ≡ tracing st (passesOf (historyOf ms st sent))
+  trace-taken = by-kind r (h .kind) .0
+
+  pub trace-refused : isTaken r ≡ false → given .traceText ≡ none
+  trace-refused = by-kind r (h .kind) .1
+
+tracing-on : (st : State) (xs : List Pass) → true ≡ isOn (st .trace) → tracing st xs ≡ some (traceOf xs)
+unfolding tracing traceIf
+tracing-on st xs e = rw (← e) refl
+
+tracing-off : (st : State) (xs : List Pass) → false ≡ isOn (st .trace) → tracing st xs ≡ none
+unfolding tracing traceIf
+tracing-off st xs e = rw (← e) refl
+
+-- the whole trace is handed over, or the memory is as it was
+kept-taken : (r : Fed) (lines old : List ℕ) → isTaken r ≡ true → keptTrace r lines old ≡ lines
+kept-taken (Out p n) lines old t = refl
+kept-taken (Withheld p) lines old t = refl
+kept-taken (Control p) lines old t = refl
+kept-taken (Refused w p) lines old t = absurd (false≢true t)
+
+kept-refused : (r : Fed) (lines old : List ℕ) → isTaken r ≡ false → keptTrace r lines old ≡ old
+kept-refused (Out p n) lines old t = absurd (false≢true (sym t))
+kept-refused (Withheld p) lines old t = absurd (false≢true (sym t))
+kept-refused (Control p) lines old t = absurd (false≢true (sym t))
+kept-refused (Refused w p) lines old t = refl
+
+pub kept-on : (r : Fed) (lines old : List ℕ) {new : List ℕ} → isTaken r ≡ true → length lines ≡ length old → new ≡ padded lines (length old) → new ≡ keptTrace r lines old
+kept-on r lines old t l e = padded-whole lines (length old) l e ∙ sym (kept-taken r lines old t)
+
+pub kept-off : (r : Fed) (lines old : List ℕ) → isTaken r ≡ false → old ≡ keptTrace r lines old
+kept-off r lines old t = sym (kept-refused r lines old t)
+
+-- the memories, with that of the trace
+abbrev whole : Untraced → List ℕ → Memories
+whole m trace = record { table = m .table; state = m .state; output = m .output; trace = trace }
+
+module _ {sent : Sent} {m m′ : Untraced} {lines lines′ : List ℕ} {r : Fed} where
+  -- under TRACE 1
+  pub takes-traced : TakesWith sent m m′ true lines lines′ r → OfState (m .state) (λ st. true ≡ isOn (st .trace)) → {trace trace′ : List ℕ} → trace′ ≡ keptTrace r lines′ trace
+      → Takes (record { sent = sent; lent = whole m trace; left = whole m′ trace′ }) r
+  unfolding tracedOut
+  takes-traced x on {trace} {trace′} e =
+      record {
+        answers = x .answers;
+        traces = λ ms h st hb. go (isTaken r) refl ms h st hb;
+      }
+    where
+      go : (b : Bool) → isTaken r ≡ b → (ms : Table) → IsTable (m .table) ms → (st : State) → Holds (m .state) st
+          → trace′ ≡ tracedOut (answer ms st (historyOf ms st sent) .traceText) trace
+      go true t ms h st hb =
+          let xs = passesOf (historyOf ms st sent) in
+          let a : answer ms st (historyOf ms st sent) .traceText ≡ some (traceOf xs) = trace-taken ms st sent (x .answers ms h st hb) t ∙ tracing-on st xs (on st hb) in
+          e ∙ kept-taken r lines′ trace t ∙ x .traces refl t ms h st hb ∙ ap (λ (k : Option (List ℕ)). tracedOut k trace) (sym a)
+      go false t ms h st hb =
+          let a : answer ms st (historyOf ms st sent) .traceText ≡ none = trace-refused ms st sent (x .answers ms h st hb) t in
+          e ∙ kept-refused r lines′ trace t ∙ ap (λ (k : Option (List ℕ)). tracedOut k trace) (sym a)
+
+  -- under TRACE 0
+  pub takes-untraced : TakesWith sent m m′ false lines lines′ r → OfState (m .state) (λ st. false ≡ isOn (st .trace)) → Takes (record { sent = sent; lent = whole m lines; left = whole m′ lines′ }) r
+  unfolding tracedOut
+  takes-untraced x off =
+      record {
+        answers = x .answers;
+        traces = λ ms h st hb. go (isTaken r) refl ms h st hb;
+      }
+    where
+      go : (b : Bool) → isTaken r ≡ b → (ms : Table) → IsTable (m .table) ms → (st : State) → Holds (m .state) st
+          → lines′ ≡ tracedOut (answer ms st (historyOf ms st sent) .traceText) lines
+      go true t ms h st hb =
+          let a : answer ms st (historyOf ms st sent) .traceText ≡ none = trace-taken ms st sent (x .answers ms h st hb) t ∙ tracing-off st (passesOf (historyOf ms st sent)) (off st hb) in
+          x .untraced refl ∙ ap (λ (k : Option (List ℕ)). tracedOut k lines) (sym a)
+      go false t ms h st hb =
+          let a : answer ms st (historyOf ms st sent) .traceText ≡ none = trace-refused ms st sent (x .answers ms h st hb) t in
+          x .untraced refl ∙ ap (λ (k : Option (List ℕ)). tracedOut k lines) (sym a)
+
+-- the flag, by its test
+pub flag-on : {b : List ℕ} {r c : Bool} → OfState b (λ st. r ≡ isOn (st .trace)) → r ≡ c → OfState b (λ st. c ≡ isOn (st .trace))
+flag-on f e st h = sym e ∙ f st h
+
+pub is-on : (n : ℕ) → ltb 0 n ≡ isOn n
+unfolding isOn
+is-on zero = refl
+is-on (suc n) = lt-ltb 0 (suc n) (omega arith)
 
 -- FEEDING
 
@@ -261,11 +427,12 @@ module _ (m : Memories) (sent : Sent) where
   same = record { sent = sent; lent = m; left = m }
 
   refused-first : (w : Why) → ((ms : Table) (st : State) → fed ms st sent ≡ refusal ms st 0 (refusalOf w)) → Feeds same (Refused w 0)
-  unfolding refusal laidOut outputOf
+  unfolding refusal laidOut tracedOut outputOf
   refused-first w q =
       record {
         answers = λ ms h st hb.
-            subst (λ (j : Answer). Answers j m m (Refused w 0)) (sym (q ms st)) (record { kind = refl; passes = refl; size = refl; table = h; state = hb; output = refl });
+            subst (λ (j : Answer). Answers j (untraced m) (untraced m) (Refused w 0)) (sym (q ms st)) (record { kind = refl; passes = refl; size = refl; table = h; state = hb; output = refl });
+        traces = λ ms h st hb. ap (λ (j : Answer). tracedOut (j .traceText) (m .trace)) (sym (q ms st));
       }
 
   pub feeds-budget : 1000000 < sent .budget → Feeds same (Refused BudgetTooLarge 0)
@@ -285,8 +452,9 @@ module _ (m : Memories) (sent : Sent) where
       pub feeds-taken : hasBadByte (sent .line) ≡ false → {m′ : Memories} {a : Fed} → Takes (record { sent = sent; lent = m; left = m′ }) a → Feeds (record { sent = sent; lent = m; left = m′ }) a
       unfolding fed
       feeds-taken x {m′} {a} g =
+          let q : (ms : Table) (st : State) → fed ms st sent ≡ answer ms st (historyOf ms st sent) =
+          λ ms st. rw (fed, le-leb (sent .budget) mostBudget h, le-leb (length (sent .line)) mostLineBytes l, x) refl in
           record {
-            answers = λ ms k st hb.
-                let q : fed ms st sent ≡ answer ms st (lineOf ms st sent) = rw (fed, le-leb (sent .budget) mostBudget h, le-leb (length (sent .line)) mostLineBytes l, x) refl in
-                subst (λ (j : Answer). Answers j m m′ a) (sym q) (g .answers ms k st hb);
+            answers = λ ms k st hb. subst (λ (j : Answer). Answers j (untraced m) (untraced m′) a) (sym (q ms st)) (g .answers ms k st hb);
+            traces = λ ms k st hb. g .traces ms k st hb ∙ ap (λ (j : Answer). tracedOut (j .traceText) (m .trace)) (sym (q ms st));
           }

@@ -2,17 +2,18 @@
 use Prim.Native.Nat.{ℕ, zero, suc, _≤_}
 use mathlib.Core.Path.{_≡_}
 use mathlib.Core.Bool.{Bool, true, false}
-use mathlib.Core.List.{List}
-use lib.ListN.{length}
-use Rattle.macros.specs.Bounds.{mostLineBytes}
+use mathlib.Core.List.{List, []}
+use lib.ListN.{length, replicate}
+use Rattle.macros.specs.Bounds.{mostLineBytes, mostTraceBytes}
 use Rattle.macros.specs.Macro.{Table}
 use Rattle.macros.specs.Formed.{Bytes}
 use Rattle.lines.specs.State.{State}
-use Rattle.lines.specs.Line.{Line, lineOf}
+use Rattle.lines.specs.Line.{Sent, Pass, Line, passesOf as historyPasses}
+use Rattle.lines.specs.Trace.{traceOf, isOn, historyOf}
 use Rattle.lines.specs.Feeding.{orderOf, outputOf, kindOfDone, ofOrder, answer}
 use Rattle.form_state.specs.Form.{stateBytes}
-use Rattle.form_state.specs.Access.{Holds, IsState}
-use Rattle.line_memory.specs.Memory.{Memories, Feeding, IsTable, Counted}
+use Rattle.form_state.specs.Access.{Holds, IsState, OfState}
+use Rattle.line_memory.specs.Memory.{Feeding, IsTable, Counted, padded}
 use Rattle.line_control.specs.declared.Order.{Order}
 use Rattle.line_control.specs.declared.Order.the-variants.{Taken, Refused as Wrong}
 use Rattle.line_control.specs.declared.Why.{Why as ControlWhy}
@@ -20,12 +21,13 @@ use Rattle.line_control.specs.declared.Why.the-variants.{BadControl, InMacro}
 use Rattle.line_passes.specs.Contract.{Left, Comes, Lies}
 use Rattle.line_passes.specs.declared.Ended.{Ended}
 use Rattle.line_passes.specs.declared.Why.{Why as WorkWhy}
-use Rattle.line_passes.specs.declared.Why.the-variants.{BudgetUsedUp, AtWork}
-use Rattle.line_feed.specs.Contract.{laidOut, Answers}
+use Rattle.line_passes.specs.declared.Why.the-variants.{BudgetUsedUp, AtWork, TraceTooLong}
+use Rattle.line_feed.specs.Contract.{Untraced, untraced, laidOut, tracedOut, Answers}
 use Rattle.line_answer.specs.Fed.{kindOf, passesOf, sizeOf}
 use Rattle.line_answer.specs.declared.Why.{Why}
-use Rattle.line_answer.specs.declared.Why.the-variants.{BadControl as NoControl, InMacro as NoMacro, BudgetUsedUp as UsedUp, AtWork as Stopped}
+use Rattle.line_answer.specs.declared.Why.the-variants.{BadControl as NoControl, InMacro as NoMacro, BudgetUsedUp as UsedUp, AtWork as Stopped, TraceTooLong as TraceFull}
 use Rattle.line_answer.specs.declared.Fed.{Fed}
+use Rattle.line_answer.specs.declared.Fed.the-variants.{Out, Withheld, Control, Refused}
 
 -- a line that 21 and 22 do not refuse
 pub record Fits (t : List ℕ) : Type 0 where
@@ -50,6 +52,7 @@ controlWhy (InMacro f p) = NoMacro f p
 abbrev pub workWhy : WorkWhy → Why
 workWhy BudgetUsedUp = UsedUp
 workWhy (AtWork f) = Stopped f
+workWhy TraceTooLong = TraceFull
 
 -- THE END OF A LINE
 
@@ -73,35 +76,73 @@ pub record GoesOut (b′ out out′ z t : List ℕ) (o : Bool) (p : ℕ) (r : Fe
   pub size : (st : State) → Holds z st → length (outputOf (kindOfDone (st .nflag) o t)) ≡ sizeOf r
   pub output : (st : State) → Holds z st → out′ ≡ laidOut (kindOfDone (st .nflag) o t) out
 
+-- what the passes leave for the answer: the state, and the line or the memory that holds it
+pub record After : Type 0 where
+  pub state : List ℕ
+  pub text : List ℕ
+
+-- beside the trace
+abbrev pub beside : After → (trace : List ℕ) → Left
+beside left lines = record { state = left .state; text = left .text; trace = lines }
+
 -- the state that a control line leaves
 abbrev pub keptBy : Order → List ℕ → List ℕ → List ℕ
 keptBy Taken z b = z
 keptBy (Wrong w) z b = b
 
 -- what is lent at a control line: of the passes the state is left, and the control line
-pub record Ruling (m : Memories) (count : ℕ) (left : Left) : Type 0 where
+pub record Ruling (m : Untraced) (count : ℕ) (left : After) : Type 0 where
   pub table : Counted (m .table) count
   pub ends : Finished (m .state) (m .output) (left .state) (left .text)
   pub bytes : Bytes (left .text)
 
-pub record Rules (m m′ : Memories) (count : ℕ) (left : Left) (p : ℕ) (r : Fed) : Type 0 where
+pub record Rules (m m′ : Untraced) (count : ℕ) (left : After) (p : ℕ) (r : Fed) : Type 0 where
   pub answers : (ms : Table) → IsTable (m .table) ms → length ms ≡ count → (old st : State) → Holds (m .state) old → Holds (left .state) st
-      → Answers (ofOrder ms old p (orderOf ms st (left .text))) m m′ r
+      → (xs : List Pass) → length xs ≡ p → Answers (ofOrder ms old xs (orderOf ms st (left .text))) m m′ r
 
 -- what is lent when the passes are over: of them the state is left, and the memory that holds the line
-pub record Replying (m : Memories) (count : ℕ) (left : Left) (e : Ended) : Type 0 where
+pub record Replying (m : Untraced) (count : ℕ) (left : After) (e : Ended) : Type 0 where
   pub table : Counted (m .table) count
   pub state : length (m .state) ≡ stateBytes
   pub output : length (m .output) ≡ mostLineBytes
   pub text : length (left .text) ≡ mostLineBytes
-  pub lies : Lies left e
+  pub lies : Lies (beside left []) e
 
 -- the answer of every line that ends so
-pub record Replies (m m′ : Memories) (count : ℕ) (left : Left) (e : Ended) (r : Fed) : Type 0 where
-  pub answers : (ms : Table) → IsTable (m .table) ms → length ms ≡ count → (old : State) → Holds (m .state) old → (whole : Line) → Comes whole left e
-      → Answers (answer ms old whole) m m′ r
+pub record Replies (m m′ : Untraced) (count : ℕ) (left : After) (e : Ended) (r : Fed) : Type 0 where
+  pub answers : (ms : Table) → IsTable (m .table) ms → length ms ≡ count → (old : State) → Holds (m .state) old
+      → (traced : Bool) (lines : List ℕ) (whole : Line) → Comes traced whole (beside left lines) e → Answers (answer ms old whole) m m′ r
 
--- a line that is fed and not refused before its passes
+-- A LINE THAT IS NOT REFUSED BEFORE ITS PASSES, and its trace
+
+abbrev pub isTaken : Fed → Bool
+isTaken (Out p n) = true
+isTaken (Withheld p) = true
+isTaken (Control p) = true
+isTaken (Refused w p) = false
+
+-- the memory to which the trace goes that the state asks for, if it asks for one
+pub record TraceRoom (b : List ℕ) (traced : Bool) (lines : List ℕ) : Type 0 where
+  pub flag : OfState b (λ st. traced ≡ isOn (st .trace))
+  pub clear : traced ≡ true → lines ≡ replicate mostTraceBytes 0
+
+-- the line, with its trace in that memory
+pub record TakesWith (sent : Sent) (m m′ : Untraced) (traced : Bool) (lines lines′ : List ℕ) (r : Fed) : Type 0 where
+  pub answers : (ms : Table) → IsTable (m .table) ms → (st : State) → Holds (m .state) st → Answers (answer ms st (historyOf ms st sent)) m m′ r
+  pub traces : traced ≡ true → isTaken r ≡ true → (ms : Table) → IsTable (m .table) ms → (st : State) → Holds (m .state) st
+      → lines′ ≡ padded (traceOf (historyPasses (historyOf ms st sent))) mostTraceBytes
+  pub untraced : traced ≡ false → lines′ ≡ lines
+
+-- what the trace's memory holds behind a line whose trace is `lines`
+abbrev pub keptTrace : Fed → (lines old : List ℕ) → List ℕ
+keptTrace (Out p n) lines old = lines
+keptTrace (Withheld p) lines old = lines
+keptTrace (Control p) lines old = lines
+keptTrace (Refused w p) lines old = old
+
+-- the line is taken, or refused by its passes
 pub record Takes (f : Feeding) (r : Fed) : Type 0 where
   pub answers : (ms : Table) → IsTable (f .lent .table) ms → (st : State) → Holds (f .lent .state) st
-      → Answers (answer ms st (lineOf ms st (f .sent))) (f .lent) (f .left) r
+      → Answers (answer ms st (historyOf ms st (f .sent))) (untraced (f .lent)) (untraced (f .left)) r
+  pub traces : (ms : Table) → IsTable (f .lent .table) ms → (st : State) → Holds (f .lent .state) st
+      → f .left .trace ≡ tracedOut (answer ms st (historyOf ms st (f .sent)) .traceText) (f .lent .trace)

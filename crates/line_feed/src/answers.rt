@@ -12,8 +12,10 @@ use line_passes::run_line;
 ghost use mathlib.Core.Path.{_≡_};
 ghost use lib.ListN.{length};
 ghost use Rattle.form_state.specs.Access.{IsState, OfState};
-ghost use Rattle.line_feed.specs.Contract.{Lent};
-ghost use Rattle.line_feed.specs.Answering.{controlWhy, workWhy, withheldBy, Finished, GoesOut, keptBy, Ruling, Rules, Replying, Replies, Fits, Takes};
+ghost use Rattle.line_feed.specs.Contract.{LentUntraced, Lent};
+ghost use Rattle.line_feed.specs.Answering.{controlWhy, workWhy, withheldBy, Finished, GoesOut, keptBy, Ruling, Rules, Replying, Replies, Fits, isTaken, keptTrace, TraceRoom, TakesWith, Takes};
+ghost use mathlib.Core.Bool.{true};
+ghost use Rattle.lines.specs.Trace.{isOn};
 
 // WHY
 
@@ -27,13 +29,14 @@ fn why_control(w: ControlWhy) -> Why
     }
 }
 
-// 31 to 35.
+// 31 to 36.
 fn why_work(w: WorkWhy) -> Why
     ensures { λ r. ⌜ r ≡ workWhy w ⌝ }
 {
     match w {
         WorkWhy::BudgetUsedUp => Why::BudgetUsedUp,
         WorkWhy::AtWork(f) => Why::AtWork(f),
+        WorkWhy::TraceTooLong => Why::TraceTooLong,
     }
 }
 
@@ -137,20 +140,103 @@ fn reply(
     }
 }
 
-// A line that 4, 21 and 22 do not refuse.
+// THE TRACE
+
+// Whether a line is traced: the flag that `$TRACE` sets, when the line comes.
+fn is_traced(state: &[u8]) -> bool
+    requires { ⌜ IsState (now state) ⌝ }
+    ensures { λ r. ⌜ OfState (now (state .entry)) (λ st. r ≡ isOn (st .trace)) ⌝ }
+{
+    0 < state[0]
+}
+
+// Whether a line is not refused.
+fn is_taken(fed: Fed) -> bool
+    ensures { λ r. ⌜ r ≡ isTaken fed ⌝ }
+{
+    match fed {
+        Fed::Out(_, _) => true,
+        Fed::Withheld(_) => true,
+        Fed::Control(_) => true,
+        Fed::Refused(_, _) => false,
+    }
+}
+
+// A line that is taken hands its trace over.
+fn keep_trace(trace: &mut [u8], lines: &[u8], fed: Fed)
+    requires { ⌜ length (now lines) ≡ length (now trace) ⌝ }
+    ensures { λ _. ⌜ now (trace .exit) ≡ keptTrace fed (now (lines .entry)) (now (trace .entry)) ⌝ }
+{
+    if is_taken(fed) {
+        lay_out(trace, lines);
+    }
+}
+
+// A LINE THAT 4, 21 AND 22 DO NOT REFUSE
+
+// Its trace, if it is traced, goes to `lines`.
+fn take_with(
+    table: &mut [u8],
+    state: &mut [u8],
+    line: &[u8],
+    budget: usize,
+    output: &mut [u8],
+    lines: &mut [u8],
+    traced: bool,
+) -> Fed
+    requires { ⌜ LentUntraced (record { table = now table; state = now state; output = now output }) × Fits (now line) × TraceRoom (now state) traced (now lines) ⌝ }
+    ensures { λ r. ⌜ TakesWith (record { line = now (line .entry); budget = budget }) (record { table = now (table .entry); state = now (state .entry); output = now (output .entry) }) (record { table = now (table .exit); state = now (state .exit); output = now (output .exit) }) traced (now (lines .entry)) (now (lines .exit)) r ⌝ }
+{
+    let mut after = [0u8; 26236];
+    let mut text = [0u8; 1054];
+    let count = count_macros(table);
+    // The slice tells the compiler the state's size: then `after` is not cleared before the state is copied to it.
+    let ended = run_line(
+        table,
+        count,
+        &state[..26236],
+        line,
+        budget,
+        &mut after,
+        &mut text,
+        lines,
+        traced,
+    );
+    reply(table, count, state, output, &mut after, &text, ended)
+}
+
+// One that is traced, in a memory of its own until it is taken.
+fn take_traced(
+    table: &mut [u8],
+    state: &mut [u8],
+    line: &[u8],
+    budget: usize,
+    output: &mut [u8],
+    trace: &mut [u8],
+) -> Fed
+    requires { ⌜ Lent (record { table = now table; state = now state; output = now output; trace = now trace }) × Fits (now line) × OfState (now state) (λ st. true ≡ isOn (st .trace)) ⌝ }
+    ensures { λ r. ⌜ Takes (record { sent = record { line = now (line .entry); budget = budget }; lent = record { table = now (table .entry); state = now (state .entry); output = now (output .entry); trace = now (trace .entry) }; left = record { table = now (table .exit); state = now (state .exit); output = now (output .exit); trace = now (trace .exit) } }) r ⌝ }
+{
+    let mut lines = [0u8; 65536];
+    let fed = take_with(table, state, line, budget, output, &mut lines, true);
+    keep_trace(trace, &lines, fed);
+    fed
+}
+
+// Traced or not.
 pub(crate) fn take_line(
     table: &mut [u8],
     state: &mut [u8],
     line: &[u8],
     budget: usize,
     output: &mut [u8],
+    trace: &mut [u8],
 ) -> Fed
-    requires { ⌜ Lent (record { table = now table; state = now state; output = now output }) × Fits (now line) ⌝ }
-    ensures { λ r. ⌜ Takes (record { sent = record { line = now (line .entry); budget = budget }; lent = record { table = now (table .entry); state = now (state .entry); output = now (output .entry) }; left = record { table = now (table .exit); state = now (state .exit); output = now (output .exit) } }) r ⌝ }
+    requires { ⌜ Lent (record { table = now table; state = now state; output = now output; trace = now trace }) × Fits (now line) ⌝ }
+    ensures { λ r. ⌜ Takes (record { sent = record { line = now (line .entry); budget = budget }; lent = record { table = now (table .entry); state = now (state .entry); output = now (output .entry); trace = now (trace .entry) }; left = record { table = now (table .exit); state = now (state .exit); output = now (output .exit); trace = now (trace .exit) } }) r ⌝ }
 {
-    let mut after = [0u8; 26236];
-    let mut text = [0u8; 1054];
-    let count = count_macros(table);
-    let ended = run_line(table, count, state, line, budget, &mut after, &mut text);
-    reply(table, count, state, output, &mut after, &text, ended)
+    if is_traced(state) {
+        return take_traced(table, state, line, budget, output, trace);
+    }
+    take_with(table, state, line, budget, output, trace, false)
 }

@@ -8,11 +8,12 @@ use Rattle.macros.specs.Accepted.{Accepted}
 use Rattle.form_table.specs.Form.{form}
 use Rattle.lines.specs.Line.{Sent}
 
--- the memories of a line's answer: the table's, the state's and the output's
+-- the memories of a line's answer: the table's, the state's, the output's and, last, the trace's (02, N1)
 pub record Memories : Type 0 where
   pub table : List ℕ
   pub state : List ℕ
   pub output : List ℕ
+  pub trace : List ℕ
 
 -- A LINE THAT IS FED: what is sent, and the memories as they are lent and as they are left
 pub record Feeding : Type 0 where

@@ -6,9 +6,12 @@ use mathlib.Core.Bool.{Bool, true, false, _||_, false≢true}
 use mathlib.Core.List.{List, [], _∷_, _++_, append-nil}
 use mathlib.Core.Option.{none}
 use native.Mathlib.Omega.{arith}
+use native.Mathlib.Numerals.{add-one}
 use lib.ListN.{length, getD, take, length-append}
+use lib.Seq.{length-take-le}
+use Rattle.macros.specs.Bounds.{mostTraceBytes}
 use Rattle.macros.specs.Refusals.{WorkRefusal}
-use Rattle.macros.specs.Refusals.WorkRefusal.{budgetUsedUp}
+use Rattle.macros.specs.Refusals.WorkRefusal.{budgetUsedUp, traceTooLong}
 use Rattle.macros.specs.Macro.{Macro, Table}
 use Rattle.macros.specs.Formed.{Bytes, Formed}
 use Rattle.form_table.specs.Form.{slotBytes}
@@ -17,9 +20,11 @@ use Rattle.lines.specs.Replacing.{Work, Done}
 use Rattle.lines.specs.Replacing.Done.{bad, good}
 use Rattle.lines.specs.Pass.{Walk, pass, occurred, outcome}
 use Rattle.lines.specs.Pass.Walk.{ended as walkEnded, occurs}
-use Rattle.lines.specs.Line.{Numbered, Pass, Ending, Line, isControl, closedBy, textOf, passes, passesOf, hadOccurrence, ending, passesThen}
+use Rattle.lines.specs.Line.{Numbered, Pass, Ending, Line, isControl, newestFirst, closedBy, textOf, passes, passesOf, hadOccurrence, ending, passesThen}
 use Rattle.lines.specs.Line.Line.{ended, passed}
 use Rattle.lines.specs.Line.Ending.{refused, done, control}
+use Rattle.lines.specs.Trace.{threeLines, linesOf, traceOf, cutIf}
+use Rattle.lines.proofs.TraceSteps.{lines-none, lines-bad, lines-some, trace-one, cut-ended, cut-on, cut-over, cut-free}
 use Rattle.lines.specs.Demand.{Walks, onwardFrom}
 use Rattle.lines.proofs.NextLaws.{to-control, to-done, to-used, to-refused, to-next, to-again, then-one, then-ending, then-passes, occurrence-one}
 use Rattle.lines.proofs.PassLaws.{pass-walks}
@@ -27,9 +32,10 @@ use Rattle.lines.proofs.KeepBytes.{bytes-onto}
 use Rattle.lines.proofs.KeepWork.{Sound, SoundDone}
 use Rattle.lines.proofs.KeepPass.{pass-sound}
 use Rattle.form_state.specs.Access.{Holds}
-use Rattle.line_memory.specs.Memory.{IsTable}
+use Rattle.line_memory.specs.Memory.{IsTable, padded}
+use Rattle.line_memory.proofs.Copying.{padded-front}
 use Rattle.line_passes.specs.Contract.{IsDone, IsControl, IsRefused}
-use Rattle.line_passes.specs.Passing.{dueBelow, Closes, closedFlags, OpenBelow, Given, Memories, Stands, leftOf}
+use Rattle.line_passes.specs.Passing.{dueBelow, Closes, closedFlags, OpenBelow, Given, Memories, Open, Stands, leftOf}
 use Rattle.line_passes.specs.declared.Stand.{Stand}
 use Rattle.line_memory.proofs.Slotting.{SlotAt}
 use Rattle.line_passes.proofs.Closing.{due-all, none-due, first-due, closes-more}
@@ -61,19 +67,30 @@ or-false : (b : Bool) → (b || false) ≡ b
 or-false true = refl
 or-false false = refl
 
+-- a trace's room, which matters only where there is a trace
+cut-room : (b : Bool) (n k : ℕ) (l : Line) → (b ≡ true → n ≡ k) → cutIf b n l ≡ cutIf b k l
+cut-room true n k l h = ap (λ (j : ℕ). cutIf true j l) (h refl)
+cut-room false n k l h = cut-free n k l
+
 module _ (ms : Table) (whole : Line) (g : Given) (m : Memories) (h : IsTable (g .table) ms) (a : Stand) (s : Stands whole ms g m a) where
   t : List ℕ
   t = take (a .size) (m .text)
 
+  room : ℕ
+  room = mostTraceBytes - a .written
+
   rest : Line
   rest = passes ms (g .budget - a .begun) (s .closed) (dueBelow (a .due) (s .closed) ms) (s .state) (take (a .size) (m .text))
 
-  came : (l : Line) → rest ≡ l → whole ≡ passesThen (s .soFar) l
-  unfolding rest
-  came l e = s .rest ∙ ap (passesThen (s .soFar)) e
+  came : (l : Line) → rest ≡ l → whole ≡ passesThen (s .soFar) (cutIf (g .traced) room l)
+  unfolding rest room
+  came l e = s .rest ∙ ap (λ (k : Line). passesThen (s .soFar) (cutIf (g .traced) room k)) e
 
   -- it ends here
-  module _ (e : Ending) (came-to : whole ≡ passesThen (s .soFar) (ended e)) where
+  module _ (e : Ending) (ends-so : rest ≡ ended e) where
+    came-to : whole ≡ passesThen (s .soFar) (ended e)
+    came-to = came (ended e) ends-so ∙ ap (passesThen (s .soFar)) (cut-ended (g .traced) room e)
+
     all-passes : passesOf whole ≡ s .soFar
     unfolding passesOf
     all-passes = ap passesOf came-to ∙ then-passes (s .soFar) (ended e) ∙ append-nil (s .soFar)
@@ -87,6 +104,9 @@ module _ (ms : Table) (whole : Line) (g : Given) (m : Memories) (h : IsTable (g 
 
     occurs-here : hadOccurrence (passesOf whole) ≡ a .occurred
     occurs-here = ap hadOccurrence all-passes ∙ s .occurs
+
+    traces-here : (g .traced ≡ true → Open (m .trace) (a .written)) → g .traced ≡ true → m .trace ≡ padded (traceOf (passesOf whole)) mostTraceBytes
+    traces-here o q = o q .zeros ∙ ap (λ (k : List ℕ). padded k mostTraceBytes) (s .lines q ∙ ap traceOf (sym all-passes))
 
   -- one pass further
   module _ (x : Pass) (l : Line) (came-to : whole ≡ passesThen (s .soFar) (passed x l)) where
@@ -105,6 +125,10 @@ module _ (ms : Table) (whole : Line) (g : Given) (m : Memories) (h : IsTable (g 
     unfolding one-more
     occurs-more o e = occurrence-one (s .soFar) x ∙ rw (s .occurs, e) refl
 
+    traces-more : traceOf one-more ≡ traceOf (s .soFar) ++ linesOf x
+    unfolding one-more
+    traces-more = trace-one (s .soFar) x
+
     refused-more : {r : WorkRefusal} → l ≡ ended (refused r) → IsRefused whole r (a .begun + 1)
     unfolding passesOf ending
     refused-more {r} e =
@@ -114,20 +138,31 @@ module _ (ms : Table) (whole : Line) (g : Given) (m : Memories) (h : IsTable (g 
           count = ap (λ (y : Line). length (passesOf y)) q ∙ ap length (then-passes one-more (ended (refused r)) ∙ append-nil one-more) ∙ count-more;
         }
 
-  pub at-control : isControl (take (a .size) (m .text)) ≡ true → IsControl whole (leftOf m) (a .size) (a .begun)
+  -- a pass whose lines fit
+  came-pass : (x : Pass) (l : Line) → rest ≡ passed x l → (g .traced ≡ true → length (linesOf x) ≤ room) → whole ≡ passesThen (s .soFar) (passed x (cutIf (g .traced) (room - length (linesOf x)) l))
+  came-pass x l e f = came (passed x l) e ∙ ap (passesThen (s .soFar)) (cut-on (g .traced) room x l f)
+
+  -- one without lines
+  came-quiet : (x : Pass) (l : Line) → rest ≡ passed x l → linesOf x ≡ [] → whole ≡ passesThen (s .soFar) (passed x (cutIf (g .traced) room l))
+  came-quiet x l e f =
+      let n : length (linesOf x) ≡ 0 = ap length f in
+      let k : room - length (linesOf x) ≡ room = omega arith in
+      came-pass x l e (λ q. omega arith) ∙ ap (λ (j : ℕ). passesThen (s .soFar) (passed x (cutIf (g .traced) j l))) k
+
+  pub at-control : (g .traced ≡ true → Open (m .trace) (a .written)) → isControl (take (a .size) (m .text)) ≡ true → IsControl (g .traced) whole (leftOf m) (a .size) (a .begun)
   unfolding rest
-  at-control c =
-      let x = came (ended (control (take (a .size) (m .text)) (s .state))) (to-control ms (s .closed) (s .state) (take (a .size) (m .text)) (g .budget - a .begun) _ c) in
-      record { state = s .state; holds = s .holds; ends = ends-here _ x; count = count-here _ x }
+  at-control o c =
+      let x = to-control ms (s .closed) (s .state) (take (a .size) (m .text)) (g .budget - a .begun) _ c in
+      record { state = s .state; holds = s .holds; ends = ends-here _ x; count = count-here _ x; traces = traces-here _ x o }
 
   module _ (c : isControl (take (a .size) (m .text)) ≡ false) (l : a .due ≤ length ms) where
-    pub at-done : OpenBelow (m .flags) (a .due) 0 → IsDone whole (leftOf m) (a .size) (a .occurred) (a .begun)
+    pub at-done : (g .traced ≡ true → Open (m .trace) (a .written)) → OpenBelow (m .flags) (a .due) 0 → IsDone (g .traced) whole (leftOf m) (a .size) (a .occurred) (a .begun)
     unfolding rest
-    at-done o =
+    at-done tr o =
         let d = none-due (g .table) ms h (m .flags) (s .closed) (s .closes) (a .due) l o in
-        let x = came (ended (done (take (a .size) (m .text)) (s .state)))
-        (ap (λ (y : List Numbered). passes ms (g .budget - a .begun) (s .closed) y (s .state) (take (a .size) (m .text))) d ∙ to-done ms (s .closed) (s .state) (take (a .size) (m .text)) (g .budget - a .begun) c) in
-        record { state = s .state; holds = s .holds; ends = ends-here _ x; occurs = occurs-here _ x; count = count-here _ x }
+        let x : rest ≡ ended (done (take (a .size) (m .text)) (s .state)) =
+        ap (λ (y : List Numbered). passes ms (g .budget - a .begun) (s .closed) y (s .state) (take (a .size) (m .text))) d ∙ to-done ms (s .closed) (s .state) (take (a .size) (m .text)) (g .budget - a .begun) c in
+        record { state = s .state; holds = s .holds; ends = ends-here _ x; occurs = occurs-here _ x; count = count-here _ x; traces = traces-here _ x tr }
 
     -- the pass of the macro k is due
     module _ (k : ℕ) (o : OpenBelow (m .flags) (a .due) (suc k)) (slot : SlotAt (g .table) ms k) where
@@ -140,7 +175,7 @@ module _ (ms : Table) (whole : Line) (g : Given) (m : Memories) (h : IsTable (g 
 
       pub at-used : g .budget ≤ a .begun → IsRefused whole budgetUsedUp (a .begun)
       at-used q =
-          let x = came (ended (refused budgetUsedUp)) (first 0 (omega arith) ∙ to-used ms (s .closed) (s .state) (take (a .size) (m .text)) e (dueBelow k (s .closed) ms) c) in
+          let x = first 0 (omega arith) ∙ to-used ms (s .closed) (s .state) (take (a .size) (m .text)) e (dueBelow k (s .closed) ms) c in
           record { ends = ends-here _ x; count = count-here _ x }
 
       module _ (y : a .begun < g .budget) (v : Work) where
@@ -151,43 +186,80 @@ module _ (ms : Table) (whole : Line) (g : Given) (m : Memories) (h : IsTable (g 
         unfolding left
         lefts = omega arith
 
+        -- the pass
+        abbrev here : Pass
+        here = record { which = record { number = k; macro = slot .macro }; text = take (a .size) (m .text); state = s .state; events = pass (slot .macro) (take (a .size) (m .text)) (s .state) }
+
         pub pass-refused : (r : WorkRefusal) → outcome (pass (slot .macro) (take (a .size) (m .text)) (s .state)) ≡ bad r v → IsRefused whole r (a .begun + 1)
         unfolding e
         pass-refused r q =
-            refused-more _ _ (came _ (first (suc left) lefts ∙ to-refused ms (s .closed) (s .state) (take (a .size) (m .text)) e (dueBelow k (s .closed) ms) c left r v q)) refl
+            refused-more here _
+            (came-quiet here _ (first (suc left) lefts ∙ to-refused ms (s .closed) (s .state) (take (a .size) (m .text)) e (dueBelow k (s .closed) ms) c left r v q) (lines-bad here r v q))
+            (cut-ended (g .traced) room (refused r))
 
-        module _ (q : outcome (pass (slot .macro) (take (a .size) (m .text)) (s .state)) ≡ good v) (m′ : Memories) (held : Holds (m′ .state) (v .state)) where
-          pub pass-none : occurred (pass (slot .macro) (take (a .size) (m .text)) (s .state)) ≡ false → m′ .text ≡ m .text → m′ .flags ≡ m .flags
-              → Stands whole ms g m′ (record { size = a .size; occurred = a .occurred; due = k; begun = a .begun + 1 })
-          unfolding e left one-more
-          pass-none f i j =
-              let x = came _ (first (suc left) lefts ∙ to-next ms (s .closed) (s .state) (take (a .size) (m .text)) e (dueBelow k (s .closed) ms) c left v q f) in
-              record {
-                soFar = one-more _ _ x;
-                state = s .state;
-                closed = s .closed;
-                rest = rw i (behind-more _ _ x);
-                count = count-more _ _ x;
-                occurs = occurs-more _ _ x false f ∙ or-false (a .occurred);
-                holds = subst (Holds (m′ .state)) (same-state (slot .macro) (take (a .size) (m .text)) (s .state) v q f) held;
-                closes = rw j (s .closes);
-              }
+        module _ (q : outcome (pass (slot .macro) (take (a .size) (m .text)) (s .state)) ≡ good v) where
+          -- the lines of a pass with an occurrence
+          lines-are : occurred (pass (slot .macro) (take (a .size) (m .text)) (s .state)) ≡ true → {new : List ℕ} → textOf v ≡ new → threeLines (take (a .size) (m .text)) (k + 1) new ≡ linesOf here
+          lines-are f w = rw (add-one k, ← w) (sym (lines-some here v q f))
 
-          pub pass-some : occurred (pass (slot .macro) (take (a .size) (m .text)) (s .state)) ≡ true → (n count : ℕ) → textOf v ≡ take n (m′ .text)
-              → k < length (m .flags) → m′ .flags ≡ closedFlags (m .flags) (getD (g .table) (slotBytes * k) 0) k → length ms ≡ count
-              → Stands whole ms g m′ (record { size = n; occurred = true; due = count; begun = a .begun + 1 })
-          unfolding e left closedBy one-more
-          pass-some f n count w i z y =
-              let x = came _ (first (suc left) lefts ∙ to-again ms (s .closed) (s .state) (take (a .size) (m .text)) e (dueBelow k (s .closed) ms) c left v q f) in
-              let flags : Closes (m′ .flags) (closedBy e (s .closed)) =
-              subst (λ (j : List ℕ). Closes j (closedBy e (s .closed))) (sym (z ∙ ap (λ (j : ℕ). closedFlags (m .flags) j k) (slot .first))) (closes-more (m .flags) (s .closed) k (s .closes) i (slot .macro .symbol)) in
-              record {
-                soFar = one-more _ _ x;
-                state = v .state;
-                closed = closedBy e (s .closed);
-                rest = rw (← w, due-all (closedBy e (s .closed)) ms count y) (behind-more _ _ x);
-                count = count-more _ _ x;
-                occurs = occurs-more _ _ x true f ∙ or-true (a .occurred);
-                holds = held;
-                closes = flags;
-              }
+          -- they do not fit
+          pub pass-cut : occurred (pass (slot .macro) (take (a .size) (m .text)) (s .state)) ≡ true → (new : List ℕ) → textOf v ≡ new → g .traced ≡ true
+              → mostTraceBytes < a .written + length (threeLines (take (a .size) (m .text)) (k + 1) new) → a .written ≤ mostTraceBytes → IsRefused whole traceTooLong (a .begun + 1)
+          unfolding e room left
+          pass-cut f new w asked full fits =
+              let n : length (threeLines (take (a .size) (m .text)) (k + 1) new) ≡ length (linesOf here) = ap length (lines-are f w) in
+              let over : mostTraceBytes - a .written < length (linesOf here) = omega arith in
+              let more : Line = passes ms left (closedBy e (s .closed)) (newestFirst (closedBy e (s .closed)) ms) (v .state) (textOf v) in
+              let x : rest ≡ passed here more = first (suc left) lefts ∙ to-again ms (s .closed) (s .state) (take (a .size) (m .text)) e (dueBelow k (s .closed) ms) c left v q f in
+              let z : whole ≡ passesThen (s .soFar) (cutIf true (mostTraceBytes - a .written) (passed here more)) =
+              came (passed here more) x ∙ ap (λ (b : Bool). passesThen (s .soFar) (cutIf b (mostTraceBytes - a .written) (passed here more))) asked in
+              refused-more here (ended (refused traceTooLong)) (z ∙ ap (passesThen (s .soFar)) (cut-over (mostTraceBytes - a .written) here more over)) refl
+
+          module _ (m′ : Memories) (held : Holds (m′ .state) (v .state)) where
+            pub pass-none : occurred (pass (slot .macro) (take (a .size) (m .text)) (s .state)) ≡ false → m′ .text ≡ m .text → m′ .flags ≡ m .flags → m′ .trace ≡ m .trace
+                → Stands whole ms g m′ (record { size = a .size; occurred = a .occurred; due = k; begun = a .begun + 1; written = a .written })
+            unfolding e left one-more room
+            pass-none f i j tr =
+                let x = came-quiet here _ (first (suc left) lefts ∙ to-next ms (s .closed) (s .state) (take (a .size) (m .text)) e (dueBelow k (s .closed) ms) c left v q f) (lines-none here f) in
+                record {
+                  soFar = one-more _ _ x;
+                  state = s .state;
+                  closed = s .closed;
+                  rest = rw i (behind-more _ _ x);
+                  count = count-more _ _ x;
+                  occurs = occurs-more _ _ x false f ∙ or-false (a .occurred);
+                  lines = λ asked. ap (take (a .written)) tr ∙ s .lines asked ∙ sym (append-nil (traceOf (s .soFar))) ∙ ap (λ (k : List ℕ). traceOf (s .soFar) ++ k) (sym (lines-none here f)) ∙ sym (traces-more _ _ x);
+                  holds = subst (Holds (m′ .state)) (same-state (slot .macro) (take (a .size) (m .text)) (s .state) v q f) held;
+                  closes = rw j (s .closes);
+                }
+
+            pub pass-some : occurred (pass (slot .macro) (take (a .size) (m .text)) (s .state)) ≡ true → (n count written : ℕ) (new : List ℕ) → textOf v ≡ new → new ≡ take n (m′ .text)
+                → k < length (m .flags) → m′ .flags ≡ closedFlags (m .flags) (getD (g .table) (slotBytes * k) 0) k → length ms ≡ count
+                → (g .traced ≡ true → Open (m .trace) (a .written))
+                → (g .traced ≡ true → (written ≡ a .written + length (threeLines (take (a .size) (m .text)) (k + 1) new)) × (written ≤ mostTraceBytes)
+                × (m′ .trace ≡ padded (take (a .written) (m .trace) ++ threeLines (take (a .size) (m .text)) (k + 1) new) mostTraceBytes))
+                → Stands whole ms g m′ (record { size = n; occurred = true; due = count; begun = a .begun + 1; written = written })
+            unfolding e left closedBy one-more room
+            pass-some f n count written new w u i z y op tr =
+                let d : length (threeLines (take (a .size) (m .text)) (k + 1) new) ≡ length (linesOf here) = ap length (lines-are f w) in
+                let x = came-pass here _ (first (suc left) lefts ∙ to-again ms (s .closed) (s .state) (take (a .size) (m .text)) e (dueBelow k (s .closed) ms) c left v q f)
+                (λ asked. omega (arith, tr asked .0, tr asked .1)) in
+                let flags : Closes (m′ .flags) (closedBy e (s .closed)) =
+                subst (λ (j : List ℕ). Closes j (closedBy e (s .closed))) (sym (z ∙ ap (λ (j : ℕ). closedFlags (m .flags) j k) (slot .first))) (closes-more (m .flags) (s .closed) k (s .closes) i (slot .macro .symbol)) in
+                let rooms : (l : Line) → cutIf (g .traced) (mostTraceBytes - a .written - length (linesOf here)) l ≡ cutIf (g .traced) (mostTraceBytes - written) l =
+                λ l. cut-room (g .traced) (mostTraceBytes - a .written - length (linesOf here)) (mostTraceBytes - written) l (λ asked. omega (arith, tr asked .0)) in
+                record {
+                  soFar = one-more _ _ x;
+                  state = v .state;
+                  closed = closedBy e (s .closed);
+                  rest = rw (← u, ← w, due-all (closedBy e (s .closed)) ms count y) (behind-more _ _ x ∙ ap (passesThen (one-more _ _ x)) (rooms _));
+                  count = count-more _ _ x;
+                  occurs = occurs-more _ _ x true f ∙ or-true (a .occurred);
+                  lines = λ asked.
+                      let p = length-take-le (a .written) (m .trace) (omega (arith, op asked .inside, op asked .size)) in
+                      let r : length (take (a .written) (m .trace) ++ threeLines (take (a .size) (m .text)) (k + 1) new) ≡ written = length-append (take (a .written) (m .trace)) _ ∙ omega (arith, p, tr asked .0) in
+                      padded-front _ mostTraceBytes written r (tr asked .2) ∙ ap (λ (j : List ℕ). j ++ threeLines (take (a .size) (m .text)) (k + 1) new) (s .lines asked)
+                      ∙ ap (λ (j : List ℕ). traceOf (s .soFar) ++ j) (lines-are f w) ∙ sym (traces-more _ _ x);
+                  holds = held;
+                  closes = flags;
+                }

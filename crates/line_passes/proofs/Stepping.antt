@@ -2,14 +2,15 @@
 -- Assumes nothing.
 use Prim.Native.Nat.{ℕ, suc, _+_, _-_, _*_, _≤_, _<_}
 use mathlib.Core.Path.{_≡_, refl, ap, sym, _∙_, subst}
-use mathlib.Core.Bool.{Bool, true, false}
-use mathlib.Core.List.{List}
+use mathlib.Core.Bool.{Bool, true, false, false≢true}
+use mathlib.Core.Logic.{_⊎_, inl, inr}
+use mathlib.Core.List.{List, _++_}
 use native.Mathlib.Omega.{arith}
 use mir.Syntax.{w64}
-use mir.Val.{Fits}
-use lib.ListN.{length, getD, take, drop}
+use mir.Val.{Fits as FitsIn}
+use lib.ListN.{length, getD, take, drop, length-append}
 use lib.Seq.{length-take-le}
-use Rattle.macros.specs.Bounds.{mostMacros, mostLineBytes}
+use Rattle.macros.specs.Bounds.{mostMacros, mostLineBytes, mostTraceBytes}
 use Rattle.macros.specs.Macro.{Table}
 use Rattle.macros.specs.Formed.{Bytes}
 use Rattle.form_table.specs.Form.{slotBytes}
@@ -17,17 +18,22 @@ use Rattle.lines.specs.Pass.{occurred}
 use Rattle.lines.specs.Line.{isControl}
 use Rattle.form_state.specs.Access.{IsState}
 use Rattle.pass_replace.specs.Contract.{IsSlot}
-use Rattle.pass_one.specs.Contract.{Lent, Passes}
+use Rattle.pass_one.specs.Contract.{Lent, Passes, sizeOf}
 use Rattle.pass_one.specs.Contract.{Comes as PassComes}
 use Rattle.refusals.specs.declared.WorkFault.{WorkFault}
 use Rattle.pass_moment.specs.declared.Passed.{Passed}
 use Rattle.pass_moment.specs.declared.Passed.the-variants.{Over as Passing, Refused as Refuses}
 use Rattle.line_memory.specs.Memory.{IsTable, padded}
-use Rattle.line_memory.proofs.Copying.{padded-front}
+use Rattle.line_memory.proofs.Copying.{padded-front, padded-size}
 use Rattle.line_memory.proofs.Slotting.{SlotAt, slot-at, table-size}
+use Rattle.line_trace.specs.Tracing.{TracesIf, Traces}
+use Rattle.line_trace.specs.Tracing.{Lent as TraceLent}
+use Rattle.line_trace.proofs.Laws.{puts-behind}
+use Rattle.line_trace.specs.declared.Traced.{Traced}
+use Rattle.line_trace.specs.declared.Traced.the-variants.{Fits, TooLong}
 use Rattle.line_passes.specs.Contract.{LineLeft}
-use Rattle.line_passes.specs.Passing.{closedFlags, OpenBelow, OverBy, DueBy, Dues, Given, Memories, Onward, Ready, leftOf, Followed, Follows, GoesOn, Steps, Ends}
-use Rattle.line_passes.specs.declared.Why.the-variants.{BudgetUsedUp, AtWork}
+use Rattle.line_passes.specs.Passing.{closedFlags, OpenBelow, OverBy, DueBy, Dues, Given, Memories, Onward, Open, Ready, leftOf, Texts, linesHere, Again, Cut, Followed, Follows, GoesOn, Steps, Ends}
+use Rattle.line_passes.specs.declared.Why.the-variants.{BudgetUsedUp, AtWork, TraceTooLong}
 use Rattle.line_passes.specs.declared.Stand.{Stand}
 use Rattle.line_passes.specs.declared.Ended.{Ended}
 use Rattle.line_passes.specs.declared.Ended.the-variants.{Done, Control, Refused}
@@ -35,7 +41,7 @@ use Rattle.line_passes.specs.declared.Due.{Due}
 use Rattle.line_passes.specs.declared.Due.the-variants.{Over as Ending, Pass as PassOf}
 use Rattle.line_passes.specs.declared.Next.{Next}
 use Rattle.line_passes.specs.declared.Next.the-variants.{On, Over}
-use Rattle.line_passes.proofs.Running.{new-bytes, at-control, at-done, at-used, pass-refused, pass-none, pass-some}
+use Rattle.line_passes.proofs.Running.{new-bytes, at-control, at-done, at-used, pass-refused, pass-cut, pass-none, pass-some}
 
 -- the bytes lent for the slot of the macro k
 abbrev pub slotPart : List ℕ → ℕ → List ℕ
@@ -65,11 +71,11 @@ module _ {g : Given} {m : Memories} {a : Stand} (y : Ready g m a) where
   left-here = record { state = y .state; size = y .size; bytes = y .bytes; laid = y .laid }
 
   step-control : isControl (take (a .size) (m .text)) ≡ true → Steps g m m a (Over (Control (a .size) (a .begun)))
-  step-control f = record { goes = record { comes = λ whole ms h l s. at-control ms whole g m h a s f; lies = left-here } }
+  step-control f = record { goes = record { comes = λ whole ms h l s. at-control ms whole g m h a s (y .trace) f; lies = left-here; untraced = λ f. refl } }
 
   module _ (plain : isControl (take (a .size) (m .text)) ≡ false) where
     step-done : OpenBelow (m .flags) (a .due) 0 → Steps g m m a (Over (Done (a .size) (a .occurred) (a .begun)))
-    step-done o = record { goes = record { comes = λ whole ms h l s. at-done ms whole g m h a s plain (omega (arith, y .due, l)) o; lies = left-here } }
+    step-done o = record { goes = record { comes = λ whole ms h l s. at-done ms whole g m h a s plain (omega (arith, y .due, l)) (y .trace) o; lies = left-here; untraced = λ f. refl } }
 
     step-used : (k : ℕ) → OpenBelow (m .flags) (a .due) (suc k) → g .budget ≤ a .begun → Steps g m m a (Over (Refused BudgetUsedUp (a .begun)))
     step-used k o q =
@@ -77,6 +83,7 @@ module _ {g : Given} {m : Memories} {a : Stand} (y : Ready g m a) where
           goes = record {
             comes = λ whole ms h l s. at-used ms whole g m h a s plain (omega (arith, y .due, l)) k o (slot-at (g .table) ms h k (omega (arith, o .below, y .due, l))) q;
             lies = tt;
+            untraced = λ f. refl;
           };
         }
 
@@ -111,17 +118,25 @@ module _ {g : Given} {m : Memories} {a : Stand} (y : Ready g m a) where
       pub in-table : 1024 * k + 1024 ≤ length (g .table)
       in-table = omega (arith, in-use, few, table-size (g .table) (y .table .macros) (y .table .isTable))
 
-      pub start-fits : Fits w64 (1024 * k)
+      pub start-fits : FitsIn w64 (1024 * k)
       start-fits = omega (arith, in-use, few)
 
-      pub end-fits : Fits w64 (1024 * k + 1024)
+      pub end-fits : FitsIn w64 (1024 * k + 1024)
       end-fits = omega (arith, in-use, few)
 
-      pub begun-fits : Fits w64 (g .budget) → Fits w64 (a .begun + 1)
+      pub begun-fits : FitsIn w64 (g .budget) → FitsIn w64 (a .begun + 1)
       begun-fits h = omega (arith, room, h)
 
       flag-there : k < length (m .flags)
       flag-there = omega (arith, in-use, few, y .flags)
+
+      -- where the line stands after a pass without an occurrence
+      abbrev further : Stand
+      further = record { size = a .size; occurred = a .occurred; due = k; begun = a .begun + 1; written = a .written }
+
+      -- what is lent behind the pass
+      abbrev lentTexts : Texts
+      lentTexts = record { text = m .text; flags = m .flags; trace = m .trace }
 
       slot-of : (ms : Table) → IsTable (g .table) ms → length ms ≡ g .count → SlotAt (g .table) ms k
       slot-of ms h l = slot-at (g .table) ms h k (omega (arith, in-use, l))
@@ -142,7 +157,7 @@ module _ {g : Given} {m : Memories} {a : Stand} (y : Ready g m a) where
           }
 
       module _ {b′ nw′ mk′ : List ℕ} {r : Passed} (p : Passes (slotPart (g .table) k) (take (a .size) (m .text)) (m .state) b′ (m .new) nw′ (m .marks) mk′ r) where
-        step-refused : {f : WorkFault} {n : ℕ} → r ≡ Refuses f n → Steps g m (record { state = b′; text = m .text; new = nw′; marks = mk′; flags = m .flags }) a (Over (Refused (AtWork f) (a .begun + 1)))
+        step-refused : {f : WorkFault} {n : ℕ} → r ≡ Refuses f n → Steps g m (record { state = b′; text = m .text; new = nw′; marks = mk′; flags = m .flags; trace = m .trace }) a (Over (Refused (AtWork f) (a .begun + 1)))
         step-refused {f} {n} j =
             let p₂ = done-as p (Refuses f n) j in
             record {
@@ -151,6 +166,7 @@ module _ {g : Given} {m : Memories} {a : Stand} (y : Ready g m a) where
                     let u = p₂ .comes (slot-of ms h l .macro) (is-slot ms h l) (s .state) (s .holds) .moment in
                     pass-refused ms whole g m h a s plain (omega (arith, y .due, l)) k opened (slot-of ms h l) room (u .0) _ (u .1);
                 lies = tt;
+                untraced = λ f. refl;
               };
             }
 
@@ -168,7 +184,7 @@ module _ {g : Given} {m : Memories} {a : Stand} (y : Ready g m a) where
             after : IsState b′
             after = (here .moment .0 .state, here .moment .2 .state)
 
-            step-none : o₂ ≡ false → Steps g m (record { state = b′; text = m .text; new = nw′; marks = mk′; flags = m .flags }) a (On (record { size = a .size; occurred = a .occurred; due = k; begun = a .begun + 1 }))
+            step-none : o₂ ≡ false → Steps g m (record { state = b′; text = m .text; new = nw′; marks = mk′; flags = m .flags; trace = m .trace }) a (On (record { size = a .size; occurred = a .occurred; due = k; begun = a .begun + 1; written = a .written }))
             step-none j =
                 record {
                   goes = (
@@ -185,60 +201,107 @@ module _ {g : Given} {m : Memories} {a : Stand} (y : Ready g m a) where
                       size = y .size;
                       due = omega (arith, in-use);
                       begun = omega (arith, room);
+                      trace = y .trace;
                     },
                     refl,
                     λ whole ms h l s.
                         let u = passed .comes (slot-of ms h l .macro) (is-slot ms h l) (s .state) (s .holds) in
-                        pass-none ms whole g m h a s plain (omega (arith, y .due, l)) k opened (slot-of ms h l) room (u .moment .0) (u .moment .1) _ (u .moment .2 .state) (sym (u .says) ∙ j) refl refl,
+                        pass-none ms whole g m h a s plain (omega (arith, y .due, l)) k opened (slot-of ms h l) room (u .moment .0) (u .moment .1) _ (u .moment .2 .state) (sym (u .says) ∙ j) refl refl refl,
+                    λ f. refl,
                   );
                 }
 
-            module _ (j : o₂ ≡ true) {tx′ fl′ : List ℕ} (e : tx′ ≡ padded (take n nw′) (length (m .text))) (same : length tx′ ≡ length (m .text))
-                (flagged : fl′ ≡ closedFlags (m .flags) (getD (g .table) (1024 * k) 0) k) (v : length fl′ ≡ length (m .flags)) where
-              front : take n tx′ ≡ take n nw′
-              front = padded-front (take n nw′) (length (m .text)) n (length-take-le n nw′ (omega (arith, size-within, w, y .new))) e
-
-              step-some : Steps g m (record { state = b′; text = tx′; new = nw′; marks = mk′; flags = fl′ }) a (On (record { size = n; occurred = true; due = g .count; begun = a .begun + 1 }))
-              step-some =
-                  record {
-                    goes = (
-                      record {
-                        table = y .table;
-                        kinds = y .kinds;
-                        state = after;
-                        bytes = subst Bytes (here .moment .2 .line ∙ sym front)
-                            (new-bytes (slot-of (y .table .macros) (y .table .isTable) (y .table .counted) .macro) (take (a .size) (m .text)) (y .state .0) (here .moment .0) (here .moment .1)
-                            (slot-of (y .table .macros) (y .table .isTable) (y .table .counted) .spellable .0) (y .bytes) (y .state .1 .inRange));
-                        text = same ∙ y .text;
-                        laid = e ∙ (ap (padded (take n nw′)) (y .text) ∙ ap (λ (i : List ℕ). padded i mostLineBytes) (sym front));
-                        new = w ∙ y .new;
-                        marks = passed .cleared ∙ y .marks;
-                        flags = v ∙ y .flags;
-                        size = size-within;
-                        due = omega arith;
-                        begun = omega (arith, room);
-                      },
-                      refl,
-                      λ whole ms h l s.
+            -- behind a pass with an occurrence
+            module _ (j : o₂ ≡ true) {after-it : Texts} {next : Next} where
+              -- whose lines do not fit
+              step-cut : Cut lentTexts after-it nw′ (g .traced) n further next → (m′ : Memories) → Steps g m m′ a next
+              step-cut over m′ =
+                  rw (over .next)
+                  (record {
+                    goes = record {
+                      comes = λ whole ms h l s.
                           let u = passed .comes (slot-of ms h l .macro) (is-slot ms h l) (s .state) (s .holds) in
-                          pass-some ms whole g m h a s plain (omega (arith, y .due, l)) k opened (slot-of ms h l) room (u .moment .0) (u .moment .1) _ (u .moment .2 .state) (sym (u .says) ∙ j) n (g .count)
-                          (u .moment .2 .line ∙ sym front) (omega (arith, in-use, few, y .flags)) flagged l,
-                    );
-                  }
+                          pass-cut ms whole g m h a s plain (omega (arith, y .due, l)) k opened (slot-of ms h l) room (u .moment .0) (u .moment .1) (sym (u .says) ∙ j) (take n nw′) (u .moment .2 .line)
+                          (over .asked) (over .full) (y .trace (over .asked) .inside);
+                      lies = tt;
+                      untraced = λ f. absurd (false≢true (sym f ∙ over .asked));
+                    };
+                  })
 
-      -- where the line stands after a pass without an occurrence
-      abbrev further : Stand
-      further = record { size = a .size; occurred = a .occurred; due = k; begun = a .begun + 1 }
+              module _ (goes-on-so : Again (g .table) (g .count) lentTexts after-it nw′ (g .traced) n further next) (same : length (after-it .text) ≡ length (m .text)) (v : length (after-it .flags) ≡ length (m .flags)) where
+                front : take n (after-it .text) ≡ take n nw′
+                front = padded-front (take n nw′) (length (m .text)) n (length-take-le n nw′ (omega (arith, size-within, w, y .new))) (goes-on-so .line)
+
+                -- the trace's memory then
+                opens : g .traced ≡ true → Open (after-it .trace) (goes-on-so .written)
+                opens asked =
+                    let o = y .trace asked in
+                    let t = goes-on-so .traces asked in
+                    let p = length-take-le (a .written) (m .trace) (omega (arith, o .inside, o .size)) in
+                    let e : length (take (a .written) (m .trace) ++ linesHere lentTexts nw′ n further) ≡ goes-on-so .written = length-append (take (a .written) (m .trace)) _ ∙ omega (arith, p, t .0) in
+                    record {
+                      size = padded-size (take (a .written) (m .trace) ++ linesHere lentTexts nw′ n further) mostTraceBytes (omega (arith, e, t .1)) (t .2);
+                      inside = t .1;
+                      zeros = t .2 ∙ ap (λ (i : List ℕ). padded i mostTraceBytes) (sym (padded-front (take (a .written) (m .trace) ++ linesHere lentTexts nw′ n further) mostTraceBytes (goes-on-so .written) e (t .2)));
+                    }
+
+                step-some : Steps g m (record { state = b′; text = after-it .text; new = nw′; marks = mk′; flags = after-it .flags; trace = after-it .trace }) a next
+                step-some =
+                    rw (goes-on-so .next)
+                    (record {
+                      goes = (
+                        record {
+                          table = y .table;
+                          kinds = y .kinds;
+                          state = after;
+                          bytes = subst Bytes (here .moment .2 .line ∙ sym front)
+                              (new-bytes (slot-of (y .table .macros) (y .table .isTable) (y .table .counted) .macro) (take (a .size) (m .text)) (y .state .0) (here .moment .0) (here .moment .1)
+                              (slot-of (y .table .macros) (y .table .isTable) (y .table .counted) .spellable .0) (y .bytes) (y .state .1 .inRange));
+                          text = same ∙ y .text;
+                          laid = goes-on-so .line ∙ (ap (padded (take n nw′)) (y .text) ∙ ap (λ (i : List ℕ). padded i mostLineBytes) (sym front));
+                          new = w ∙ y .new;
+                          marks = passed .cleared ∙ y .marks;
+                          flags = v ∙ y .flags;
+                          size = size-within;
+                          due = omega arith;
+                          begun = omega (arith, room);
+                          trace = opens;
+                        },
+                        refl,
+                        λ whole ms h l s.
+                            let u = passed .comes (slot-of ms h l .macro) (is-slot ms h l) (s .state) (s .holds) in
+                            pass-some ms whole g m h a s plain (omega (arith, y .due, l)) k opened (slot-of ms h l) room (u .moment .0) (u .moment .1) _ (u .moment .2 .state) (sym (u .says) ∙ j) n (g .count) (goes-on-so .written)
+                            (take n nw′) (u .moment .2 .line) (sym front) (omega (arith, in-use, few, y .flags)) (goes-on-so .closed) l (y .trace) (goes-on-so .traces),
+                        λ f. goes-on-so .untraced f .0,
+                      );
+                    })
 
       module _ {b′ nw′ mk′ : List ℕ} where
-        pub to-follow : {r : Passed} → Passes (slotPart (g .table) k) (take (a .size) (m .text)) (m .state) b′ (m .new) nw′ (m .marks) mk′ r → length nw′ ≡ length (m .new) → Followed (g .table) (m .text) nw′ (m .flags) r further
-        to-follow p w = record { text = y .text; new = w ∙ y .new; within = p .within; slot = omega (arith, in-table); flag = flag-there }
+        pub to-follow : {r : Passed} → Passes (slotPart (g .table) k) (take (a .size) (m .text)) (m .state) b′ (m .new) nw′ (m .marks) mk′ r → length nw′ ≡ length (m .new)
+            → Followed (g .table) lentTexts nw′ (g .traced) (sizeOf r) further
+        to-follow p w =
+            record {
+              text = y .text;
+              new = w ∙ y .new;
+              within = p .within;
+              size = y .size;
+              slot = omega (arith, in-table);
+              flag = flag-there;
+              few = omega (arith, in-use, few);
+              trace = y .trace;
+            }
 
-        pub step-passed : (r : Passed) → Passes (slotPart (g .table) k) (take (a .size) (m .text)) (m .state) b′ (m .new) nw′ (m .marks) mk′ r → length nw′ ≡ length (m .new) → {tx′ fl′ : List ℕ} {e : Next}
-            → Follows (g .table) (g .count) (m .text) tx′ nw′ (m .flags) fl′ r further e → length tx′ ≡ length (m .text) → length fl′ ≡ length (m .flags) → Steps g m (record { state = b′; text = tx′; new = nw′; marks = mk′; flags = fl′ }) a e
-        step-passed (Refuses i n) p w f u v = rw (f .by .next, f .by .line, f .by .closed) (step-refused p refl)
-        step-passed (Passing false n) p w f u v = rw (f .by .next, f .by .line, f .by .closed) (step-none p refl w refl)
-        step-passed (Passing true n) p w f u v = rw (f .by .next) (step-some p refl w refl (f .by .line) u (f .by .closed) v)
+        pub step-passed : (r : Passed) → Passes (slotPart (g .table) k) (take (a .size) (m .text)) (m .state) b′ (m .new) nw′ (m .marks) mk′ r → length nw′ ≡ length (m .new) → {after-it : Texts} {e : Next}
+            → Follows (g .table) (g .count) lentTexts after-it nw′ (g .traced) r further e → length (after-it .text) ≡ length (m .text) → length (after-it .flags) ≡ length (m .flags)
+            → Steps g m (record { state = b′; text = after-it .text; new = nw′; marks = mk′; flags = after-it .flags; trace = after-it .trace }) a e
+        step-passed (Refuses i n) p w f u v = rw (f .by .next, f .by .same) (step-refused p refl)
+        step-passed (Passing false n) p w f u v = rw (f .by .next, f .by .same) (step-none p refl w refl)
+        step-passed (Passing true n) p w {after-it} {e} f u v = by (f .by)
+          where
+            by : Again (g .table) (g .count) lentTexts after-it nw′ (g .traced) n further e ⊎ Cut lentTexts after-it nw′ (g .traced) n further e
+                → Steps g m (record { state = b′; text = after-it .text; new = nw′; marks = mk′; flags = after-it .flags; trace = after-it .trace }) a e
+            by (inl q) = step-some p refl w refl q u v
+            by (inr q) = step-cut p refl w refl q _
 
 -- WHAT IS DUE
 
@@ -262,27 +325,76 @@ module _ {t fl : List ℕ} {budget : ℕ} {a : Stand} {c : Bool} (e : c ≡ isCo
 
 -- WHAT FOLLOWS A PASS
 
-module _ {tb tx nw fl : List ℕ} {r : Passed} {on : Stand} (y : Followed tb tx nw fl r on) {o : Bool} {n : ℕ} (e : r ≡ Passing o n) where
-  new-within : n ≤ mostLineBytes
-  new-within = rw e at (y .within)
-
+module _ {tb : List ℕ} {m : Texts} {nw : List ℕ} {traced : Bool} {n : ℕ} {on : Stand} (y : Followed tb m nw traced n on) where
   pub new-fits : n ≤ length nw
-  new-fits = omega (arith, new-within, y .new)
+  new-fits = omega (arith, y .within, y .new)
 
-  pub line-fits : length (take n nw) ≤ length tx
-  line-fits = omega (arith, length-take-le n nw new-fits, new-within, y .text)
+  pub old-fits : on .size ≤ length (m .text)
+  old-fits = omega (arith, y .size, y .text)
 
-module _ {tb tx nw fl : List ℕ} {count : ℕ} {r : Passed} {on : Stand} where
-  pub after-refused : {x : WorkFault} {n : ℕ} → r ≡ Refuses x n → Follows tb count tx tx nw fl fl r on (Over (Refused (AtWork x) (on .begun)))
-  after-refused e = rw e (record { by = record { next = refl; line = refl; closed = refl } })
+  pub line-fits : length (take n nw) ≤ length (m .text)
+  line-fits = omega (arith, length-take-le n nw new-fits, y .within, y .text)
+
+  pub trace-lent : TraceLent traced (m .trace) (on .written) (take (on .size) (m .text)) (on .due + 1) (take n nw)
+  trace-lent =
+      record {
+        few = omega (arith, y .few);
+        short = omega (arith, length-take-le (on .size) (m .text) old-fits, y .size);
+        fits = omega (arith, length-take-le n nw new-fits, y .within);
+        inside = λ asked. omega (arith, y .trace asked .inside, y .trace asked .size);
+      }
+
+  module _ {trace′ : List ℕ} {r : Traced} (x : Traces traced (m .trace) (on .written) (take (on .size) (m .text)) (on .due + 1) (take n nw) trace′ r) where
+    -- a trace is asked for, since the lines do not fit
+    asked : r ≡ TooLong → traced ≡ true
+    asked e = go traced (rw e at (x .by))
+      where
+        go : (b : Bool) → TracesIf b (m .trace) (on .written) (linesHere m nw n on) trace′ TooLong → b ≡ true
+        go true h = refl
+        go false h = absurd (let f = h .next in let z : _≡_ {A = ℕ} 0 1 = cc in omega arith)
+
+    pub after-cut : r ≡ TooLong → {count : ℕ} {m′ : Texts} → Follows tb count m m′ nw traced (Passing true n) on (Over (Refused TraceTooLong (on .begun)))
+    after-cut e =
+        let t = asked e in
+        let b : TracesIf true (m .trace) (on .written) (linesHere m nw n on) trace′ TooLong = rw (e, t) at (x .by) in
+        record { by = inr (record { asked = t; next = refl; full = omega (arith, b .0, y .trace t .size) }) }
+
+    pub after-fits : {w : ℕ} → r ≡ Fits w → {count : ℕ} {tx′ fl′ : List ℕ} → tx′ ≡ padded (take n nw) (length (m .text)) → fl′ ≡ closedFlags (m .flags) (getD tb (1024 * on .due) 0) (on .due)
+        → Follows tb count m (record { text = tx′; flags = fl′; trace = trace′ }) nw traced (Passing true n) on (On (record { size = n; occurred = true; due = count; begun = on .begun; written = w }))
+    after-fits {w} e {count} {tx′} {fl′} d f =
+        record {
+          by = inl (record {
+            written = w;
+            next = refl;
+            line = d;
+            closed = f;
+            traces = λ t.
+                let b : TracesIf true (m .trace) (on .written) (linesHere m nw n on) trace′ (Fits w) = rw (e, t) at (x .by) in
+                let o = y .trace t in
+                let z : m .trace ≡ padded (take (on .written) (m .trace)) (length (m .trace)) = o .zeros ∙ ap (padded (take (on .written) (m .trace))) (sym (o .size)) in (
+                  b .next,
+                  omega (arith, b .next, b .room, o .size),
+                  puts-behind b (take (on .written) (m .trace)) (length-take-le (on .written) (m .trace) (omega (arith, o .inside, o .size))) z ∙ ap (padded (take (on .written) (m .trace) ++ linesHere m nw n on)) (o .size),
+                );
+            untraced = λ t.
+                let b : TracesIf false (m .trace) (on .written) (linesHere m nw n on) trace′ (Fits w) = rw (e, t) at (x .by) in
+                (b .same, let q = b .next in let k : w ≡ on .written = cc in k);
+          });
+        }
+
+module _ {tb : List ℕ} {count : ℕ} {m : Texts} {nw : List ℕ} {traced : Bool} {r : Passed} {on : Stand} where
+  pub after-refused : {x : WorkFault} {n : ℕ} → r ≡ Refuses x n → Follows tb count m m nw traced r on (Over (Refused (AtWork x) (on .begun)))
+  after-refused e = rw e (record { by = record { next = refl; same = refl } })
 
   module _ {o : Bool} {n : ℕ} (e : r ≡ Passing o n) where
-    pub after-none : o ≡ false → Follows tb count tx tx nw fl fl r on (On on)
-    after-none f = rw (e, f) (record { by = record { next = refl; line = refl; closed = refl } })
+    pub after-none : o ≡ false → Follows tb count m m nw traced r on (On on)
+    after-none f = rw (e, f) (record { by = record { next = refl; same = refl } })
 
-    pub after-some : o ≡ true → {tx′ fl′ : List ℕ} → tx′ ≡ padded (take n nw) (length tx) → fl′ ≡ closedFlags fl (getD tb (1024 * on .due) 0) (on .due)
-        → Follows tb count tx tx′ nw fl fl′ r on (On (record { size = n; occurred = true; due = count; begun = on .begun }))
-    after-some f d x = rw (e, f) (record { by = record { next = refl; line = d; closed = x } })
+    pub after-some : o ≡ true → {m′ : Texts} {z : Next} → Follows tb count m m′ nw traced (Passing true n) on z → Follows tb count m m′ nw traced r on z
+    after-some f x = rw (e, f) x
+
+pub sized-some : {tb : List ℕ} {m : Texts} {nw : List ℕ} {traced : Bool} {r : Passed} {on : Stand} {o : Bool} {n : ℕ} → r ≡ Passing o n → Followed tb m nw traced (sizeOf r) on → Followed tb m nw traced n on
+sized-some e y = rw e at y
 
 -- THE LOOP
 
@@ -293,7 +405,7 @@ module _ {g : Given} {m m′ : Memories} {a : Stand} {r : Next} (x : Steps g m m
   pub falls : {z : Stand} → r ≡ On z → g .budget - z .begun < g .budget - a .begun
   falls e = let k = goes-on e in omega (arith, k .0 .begun, k .1)
 
-  pub comes-over : {z : Ended} → r ≡ Over z → {m₀ : Memories} {a₀ : Stand} → Onward g m₀ m a₀ a → Ends g m₀ (leftOf m′) a₀ z
-  comes-over {z} e f =
+  pub comes-over : {z : Ended} → r ≡ Over z → {m₀ : Memories} {a₀ : Stand} → Onward g m₀ m a₀ a → (g .traced ≡ false → m .trace ≡ m₀ .trace) → Ends g m₀ (leftOf m′) a₀ z
+  comes-over {z} e f u =
       let k : Ends g m (leftOf m′) a z = rw e at (x .goes) in
-      record { comes = λ whole ms h l s. k .comes whole ms h l (f whole ms h l s); lies = k .lies }
+      record { comes = λ whole ms h l s. k .comes whole ms h l (f whole ms h l s); lies = k .lies; untraced = λ n. k .untraced n ∙ u n }

@@ -8,12 +8,13 @@ use passes::all_passes;
 use refusals::WorkFault;
 ghost use mathlib.Core.Path.{_≡_};
 ghost use Rattle.line_passes.specs.Contract.{Started, Runs, RunsTo};
-ghost use Rattle.line_passes.specs.Passing.{Begun, runOf, isRefused};
+ghost use Rattle.line_passes.specs.Passing.{Begun, runOf, isRefused, clearedIf};
 
-// Why the table at work refuses a line: 31, or a pass's fault.
+// Why the table at work refuses a line: 31, a pass's fault, or 36.
 pub enum Why {
     BudgetUsedUp,
     AtWork(WorkFault),
+    TraceTooLong,
 }
 
 // How a line ends: done, with its length and whether it had an occurrence; a control line, with its length; or refused. Last the passes begun.
@@ -23,12 +24,13 @@ pub enum Ended {
     Refused(Why, usize),
 }
 
-// Where a line stands, before a pass or at its end: its length, whether it had an occurrence, how many of the oldest macros may be due, and the passes begun.
+// Where a line stands, before a pass or at its end: its length, whether it had an occurrence, how many of the oldest macros may be due, the passes begun, and the bytes of the trace.
 pub(crate) struct Stand {
     pub(crate) size: usize,
     pub(crate) occurred: bool,
     pub(crate) due: usize,
     pub(crate) begun: usize,
+    pub(crate) written: usize,
 }
 
 // What is due where a line stands: its end, or the pass of the macro with this number.
@@ -59,11 +61,13 @@ fn from_start(
     count: usize,
     state: &mut [u8],
     text: &mut [u8],
+    trace: &mut [u8],
+    traced: bool,
     size: usize,
     budget: usize,
 ) -> Ended
-    requires { ⌜ Begun (now table) count (record { state = now state; text = now text }) size ⌝ }
-    ensures { λ r. ⌜ RunsTo (runOf (now (table .entry)) count (record { state = now (state .entry); text = now (text .entry) }) size budget) (record { state = now (state .exit); text = now (text .exit) }) r ⌝ }
+    requires { ⌜ Begun (now table) count (record { state = now state; text = now text; trace = now trace }) size traced ⌝ }
+    ensures { λ r. ⌜ RunsTo (runOf (now (table .entry)) count (record { state = now (state .entry); text = now (text .entry); trace = now (trace .entry) }) size budget traced) (record { state = now (state .entry); text = now (text .entry); trace = now (trace .entry) }) (record { state = now (state .exit); text = now (text .exit); trace = now (trace .exit) }) r ⌝ }
 {
     let kinds = kind_table();
     let mut new = [0u8; 1054];
@@ -74,6 +78,7 @@ fn from_start(
         occurred: false,
         due: count,
         begun: 0,
+        written: 0,
     };
     all_passes(
         table,
@@ -84,12 +89,24 @@ fn from_start(
         &mut new,
         &mut marks,
         &mut closed,
+        trace,
+        traced,
         budget,
         start,
     )
 }
 
-// Runs the passes of a line: `after` and `text` are the state and the line at its end, of a refused line as they came.
+// The trace of a refused line goes: its memory was zero.
+fn clear_trace(trace: &mut [u8], traced: bool)
+    ensures { λ _. ⌜ now (trace .exit) ≡ clearedIf traced (now (trace .entry)) ⌝ }
+{
+    if traced {
+        lay_out(trace, b"");
+    }
+}
+
+// Runs the passes of a line: `after` and `text` are the state and the line at its end, `trace` its trace, if it is traced; of a refused line
+// all three are as they came.
 pub fn run_line(
     table: &[u8],
     count: usize,
@@ -98,16 +115,19 @@ pub fn run_line(
     budget: usize,
     after: &mut [u8],
     text: &mut [u8],
+    trace: &mut [u8],
+    traced: bool,
 ) -> Ended
-    requires { ⌜ Started (record { table = now table; count = count; state = now state; sent = record { line = now line; budget = budget } }) (record { state = now after; text = now text }) ⌝ }
-    ensures { λ r. ⌜ Runs (record { table = now (table .entry); count = count; state = now (state .entry); sent = record { line = now (line .entry); budget = budget } }) (record { state = now (after .exit); text = now (text .exit) }) r ⌝ }
+    requires { ⌜ Started (record { table = now table; count = count; state = now state; sent = record { line = now line; budget = budget }; traced = traced }) (record { state = now after; text = now text; trace = now trace }) ⌝ }
+    ensures { λ r. ⌜ Runs (record { table = now (table .entry); count = count; state = now (state .entry); sent = record { line = now (line .entry); budget = budget }; traced = traced }) (record { state = now (after .entry); text = now (text .entry); trace = now (trace .entry) }) (record { state = now (after .exit); text = now (text .exit); trace = now (trace .exit) }) r ⌝ }
 {
     lay_out(after, state);
     lay_out(text, line);
-    let ended = from_start(table, count, after, text, line.len(), budget);
+    let ended = from_start(table, count, after, text, trace, traced, line.len(), budget);
     if is_refused(ended) {
         lay_out(after, state);
         lay_out(text, line);
+        clear_trace(trace, traced);
         return ended;
     }
     ended

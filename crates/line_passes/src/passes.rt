@@ -7,12 +7,17 @@ use crate::Why;
 use crate::slots::close;
 use crate::slots::open_below;
 use line_memory::lay_out;
+use line_trace::Traced;
+use line_trace::trace_pass;
 use pass_moment::Passed;
 use pass_one::pass;
 ghost use mathlib.Core.Path.{_≡_};
 ghost use Prim.Native.Nat.{_≤_};
 ghost use lib.ListN.{length};
 ghost use Rattle.lines.specs.Line.{isControl};
+ghost use mathlib.Core.Bool.{true};
+ghost use Rattle.pass_one.specs.Contract.{sizeOf};
+ghost use Rattle.pass_moment.specs.declared.Passed.the-variants.{Over as Passes};
 ghost use Rattle.line_passes.specs.Passing.{Dues, Ready, Followed, Follows, Steps, Ends};
 
 // "a line beginning with `$` is a control line".
@@ -25,35 +30,61 @@ fn is_control(line: &[u8]) -> bool
     line[0] == b'$'
 }
 
-// What follows a pass: `on` is where the line stands if it had no occurrence; after one with an occurrence, again with the newest. A refused one ends the line.
+// After a pass with an occurrence: its lines go to the trace, the new line is the line, and it goes on again with the newest. Lines that do not fit end it.
+fn again(
+    table: &[u8],
+    count: usize,
+    text: &mut [u8],
+    new: &[u8],
+    closed: &mut [u8],
+    trace: &mut [u8],
+    traced: bool,
+    size: usize,
+    on: Stand,
+) -> Next
+    requires { ⌜ Followed (now table) (record { text = now text; flags = now closed; trace = now trace }) (now new) traced size on ⌝ }
+    ensures { λ r. ⌜ Follows (now (table .entry)) count (record { text = now (text .entry); flags = now (closed .entry); trace = now (trace .entry) }) (record { text = now (text .exit); flags = now (closed .exit); trace = now (trace .exit) }) (now (new .entry)) traced (Passes true size) on r ⌝ }
+{
+    let k = on.due;
+    let n = on.size;
+    let at = on.written;
+    let lines = trace_pass(trace, traced, at, &text[..n], k + 1, &new[..size]);
+    let Traced::Fits(written) = lines else {
+        return Next::Over(Ended::Refused(Why::TraceTooLong, on.begun));
+    };
+    lay_out(text, &new[..size]);
+    close(closed, table[1024 * k], k);
+    Next::On(Stand {
+        size: size,
+        occurred: true,
+        due: count,
+        begun: on.begun,
+        written: written,
+    })
+}
+
+// What follows a pass: `on` is where the line stands if it had no occurrence. A refused one ends the line.
 fn after_pass(
     table: &[u8],
     count: usize,
     text: &mut [u8],
     new: &[u8],
     closed: &mut [u8],
+    trace: &mut [u8],
+    traced: bool,
     passed: Passed,
     on: Stand,
 ) -> Next
-    requires { ⌜ Followed (now table) (now text) (now new) (now closed) passed on ⌝ }
-    ensures { λ r. ⌜ Follows (now (table .entry)) count (now (text .entry)) (now (text .exit)) (now (new .entry)) (now (closed .entry)) (now (closed .exit)) passed on r ⌝ }
+    requires { ⌜ Followed (now table) (record { text = now text; flags = now closed; trace = now trace }) (now new) traced (sizeOf passed) on ⌝ }
+    ensures { λ r. ⌜ Follows (now (table .entry)) count (record { text = now (text .entry); flags = now (closed .entry); trace = now (trace .entry) }) (record { text = now (text .exit); flags = now (closed .exit); trace = now (trace .exit) }) (now (new .entry)) traced passed on r ⌝ }
 {
-    let begun = on.begun;
     match passed {
         Passed::Refused(f, _) => {
-            return Next::Over(Ended::Refused(Why::AtWork(f), begun));
+            return Next::Over(Ended::Refused(Why::AtWork(f), on.begun));
         }
         Passed::Over(o, size) => {
             if o {
-                let k = on.due;
-                lay_out(text, &new[..size]);
-                close(closed, table[1024 * k], k);
-                return Next::On(Stand {
-                    size: size,
-                    occurred: true,
-                    due: count,
-                    begun: begun,
-                });
+                return again(table, count, text, new, closed, trace, traced, size, on);
             }
             return Next::On(on);
         }
@@ -90,11 +121,13 @@ fn step(
     new: &mut [u8],
     marks: &mut [u8],
     closed: &mut [u8],
+    trace: &mut [u8],
+    traced: bool,
     budget: usize,
     stand: Stand,
 ) -> Next
-    requires { ⌜ Ready (record { table = now table; count = count; kinds = now kinds; budget = budget }) (record { state = now state; text = now text; new = now new; marks = now marks; flags = now closed }) stand ⌝ }
-    ensures { λ r. ⌜ Steps (record { table = now (table .entry); count = count; kinds = now (kinds .entry); budget = budget }) (record { state = now (state .entry); text = now (text .entry); new = now (new .entry); marks = now (marks .entry); flags = now (closed .entry) }) (record { state = now (state .exit); text = now (text .exit); new = now (new .exit); marks = now (marks .exit); flags = now (closed .exit) }) stand r ⌝ }
+    requires { ⌜ Ready (record { table = now table; count = count; kinds = now kinds; budget = budget; traced = traced }) (record { state = now state; text = now text; new = now new; marks = now marks; flags = now closed; trace = now trace }) stand ⌝ }
+    ensures { λ r. ⌜ Steps (record { table = now (table .entry); count = count; kinds = now (kinds .entry); budget = budget; traced = traced }) (record { state = now (state .entry); text = now (text .entry); new = now (new .entry); marks = now (marks .entry); flags = now (closed .entry); trace = now (trace .entry) }) (record { state = now (state .exit); text = now (text .exit); new = now (new .exit); marks = now (marks .exit); flags = now (closed .exit); trace = now (trace .exit) }) stand r ⌝ }
 {
     let n = stand.size;
     let due = next_due(&text[..n], closed, budget, stand);
@@ -110,8 +143,9 @@ fn step(
                 occurred: stand.occurred,
                 due: k,
                 begun: stand.begun + 1,
+                written: stand.written,
             };
-            return after_pass(table, count, text, new, closed, passed, on);
+            return after_pass(table, count, text, new, closed, trace, traced, passed, on);
         }
     }
 }
@@ -126,11 +160,13 @@ pub(crate) fn all_passes(
     new: &mut [u8],
     marks: &mut [u8],
     closed: &mut [u8],
+    trace: &mut [u8],
+    traced: bool,
     budget: usize,
     start: Stand,
 ) -> Ended
-    requires { ⌜ Ready (record { table = now table; count = count; kinds = now kinds; budget = budget }) (record { state = now state; text = now text; new = now new; marks = now marks; flags = now closed }) start ⌝ }
-    ensures { λ r. ⌜ Ends (record { table = now (table .entry); count = count; kinds = now (kinds .entry); budget = budget }) (record { state = now (state .entry); text = now (text .entry); new = now (new .entry); marks = now (marks .entry); flags = now (closed .entry) }) (record { state = now (state .exit); text = now (text .exit) }) start r ⌝ }
+    requires { ⌜ Ready (record { table = now table; count = count; kinds = now kinds; budget = budget; traced = traced }) (record { state = now state; text = now text; new = now new; marks = now marks; flags = now closed; trace = now trace }) start ⌝ }
+    ensures { λ r. ⌜ Ends (record { table = now (table .entry); count = count; kinds = now (kinds .entry); budget = budget; traced = traced }) (record { state = now (state .entry); text = now (text .entry); new = now (new .entry); marks = now (marks .entry); flags = now (closed .entry); trace = now (trace .entry) }) (record { state = now (state .exit); text = now (text .exit); trace = now (trace .exit) }) start r ⌝ }
 {
     let mut stand = start;
     loop {
@@ -143,6 +179,8 @@ pub(crate) fn all_passes(
             new,
             marks,
             closed,
+            trace,
+            traced,
             budget,
             stand,
         );

@@ -3,7 +3,8 @@ use mathlib.Core.Path.{_≡_, refl, sym, ap, _∙_, subst}
 use mathlib.Core.Bool.{Bool, true, false, false≢true}
 use mathlib.Core.Logic.{_⊎_, inl, inr}
 use mathlib.Core.List.{List, [], _∷_, _++_}
-use Prim.Native.Nat.{ℕ, suc, _≤_, _<_}
+use mathlib.Core.Option.{none, some}
+use Prim.Native.Nat.{ℕ, zero, suc, _≤_, _<_}
 use borrow.Author.Tests.{le-leb, lt-leb, eq-eqb, ne-eqb}
 use lib.ListN.{length, drop}
 use Rattle.macros.specs.Bounds.{mostLineBytes, mostBudget}
@@ -16,12 +17,14 @@ use Rattle.macros.specs.Read.{readOnto}
 use Rattle.macros.specs.ReadFile.Read.{refusedAt, table}
 use Rattle.lines.specs.State.{State}
 use Rattle.lines.specs.Matching.{begins}
-use Rattle.lines.specs.Line.{Sent, Ending, Line, refused, done, control, passesOf, hadOccurrence, ending, lineOf}
+use Rattle.lines.specs.Line.{Sent, Pass, Ending, Line, refused, done, control, passesOf, hadOccurrence, ending}
+use Rattle.lines.specs.Trace.{isOn, historyOf, traceOf, traceIf}
 use Rattle.lines.specs.Feeding.{bytes, same, withTrace, withNflag, flagOrder, macroOrder, Order, wrong, orders, orderOf}
-use Rattle.lines.specs.Feeding.{Kind, refusedWith, out, withheld, controlled, Answer, kindOfDone, refusal, ofOrder, answered, answer, hasBadByte, feed}
+use Rattle.lines.specs.Feeding.{Kind, refusedWith, out, withheld, controlled, Answer, kindOfDone, refusal, tracing, ofOrder, answered, answer, hasBadByte, feed}
 use Rattle.lines.specs.Controls.{Says}
-use Rattle.lines.specs.Demand.{endOfLine, passCount, Withholds, HasBadByte, Fits, History, Run, Finished, ByKind, Lines}
+use Rattle.lines.specs.Demand.{endOfLine, passCount, Withholds, HasBadByte, Fits, History, Run, Finished, ByKind, TraceIs, WritesTrace, Lines}
 use Rattle.lines.specs.OneLine.{OneAnswer, OneList}
+use Rattle.lines.proofs.TellLaws.{trace-same}
 use Rattle.lines.proofs.LineLaws.{pass-count, end-of-line, kind-of-done}
 use Rattle.lines.proofs.OntoLaws.{Onto, reads-onto, one-more, one-length}
 use Rattle.lines.proofs.OrderLaws.{begins-with, same-true}
@@ -52,7 +55,7 @@ module _ (ms : Table) (st : State) (sent : Sent) where
   unfolding feed
   feed-bad h g f = rw (le-leb (sent .budget) mostBudget h, le-leb (length (sent .line)) mostLineBytes g, by-true (hasBadByte (sent .line)) (λ e. no-bad-byte (sent .line) e f), feed)
 
-  pub feed-runs : Fits sent → feed ms st sent ≡ answer ms st (lineOf ms st sent)
+  pub feed-runs : Fits sent → feed ms st sent ≡ answer ms st (historyOf ms st sent)
   unfolding feed
   feed-runs f = rw (le-leb (sent .budget) mostBudget (f .few), le-leb (length (sent .line)) mostLineBytes (f .short), by-false (hasBadByte (sent .line)) (λ e. f .clean (bad-byte (sent .line) e)), feed)
 
@@ -120,82 +123,94 @@ module _ (ms : Table) (x : State) where
 
 -- THE ANSWER
 
-answer-same : (a b : Answer) → a .kind ≡ b .kind → a .passes ≡ b .passes → a .table ≡ b .table → a .state ≡ b .state → a ≡ b
-answer-same a b k p t s = λ i. record { kind = k i; passes = p i; table = t i; state = s i }
+answer-same : (a b : Answer) → a .kind ≡ b .kind → a .passes ≡ b .passes → a .table ≡ b .table → a .state ≡ b .state → a .traceText ≡ b .traceText → a ≡ b
+answer-same a b k p t s r = λ i. record { kind = k i; passes = p i; table = t i; state = s i; traceText = r i }
 
 module _ (ms : Table) (st : State) (sent : Sent) where
+  abbrev made : List Pass
+  made = passesOf (historyOf ms st sent)
+
   abbrev count : ℕ
-  count = length (passesOf (lineOf ms st sent))
+  count = length (passesOf (historyOf ms st sent))
 
   -- the history is the one that the definition makes
-  is-line : (l : Line) (a : Answer) → Run ms st sent l a → l ≡ lineOf ms st sent
-  is-line l a r = one-line ms st sent l (lineOf ms st sent) (r .history) (line-history ms st sent (r .history .fits))
+  is-line : (l : Line) (a : Answer) → Run ms st sent l a → l ≡ historyOf ms st sent
+  is-line l a r = one-line ms st sent l (historyOf ms st sent) (r .history) (line-history ms st sent (r .history .fits))
 
   passes-are : (l : Line) (a : Answer) → Run ms st sent l a → a .passes ≡ count
-  passes-are l a r = r .number ∙ ap passCount (is-line l a r) ∙ sym (pass-count (lineOf ms st sent))
+  passes-are l a r = r .number ∙ ap passCount (is-line l a r) ∙ sym (pass-count (historyOf ms st sent))
 
   -- feed's answer, by the history's end
   feed-ends : (l : Line) (a : Answer) → Run ms st sent l a → (e : Ending) → endOfLine l ≡ e
-      → feed ms st sent ≡ answered ms st count (hadOccurrence (passesOf (lineOf ms st sent))) e
+      → feed ms st sent ≡ answered ms st made e
   unfolding answer
   feed-ends l a r e f =
       feed-runs ms st sent (r .history .fits)
-      ∙ ap (answered ms st count (hadOccurrence (passesOf (lineOf ms st sent)))) (end-of-line (lineOf ms st sent) ∙ ap endOfLine (sym (is-line l a r)) ∙ f)
+      ∙ ap (answered ms st made) (end-of-line (historyOf ms st sent) ∙ ap endOfLine (sym (is-line l a r)) ∙ f)
 
-  finished-is : (l : Line) (a : Answer) (s : List ℕ) → Run ms st sent l a → Finished ms l a s → a ≡ feed ms st sent
+  -- the trace is the one that feed gives
+  trace-is : (l : Line) (a : Answer) → Run ms st sent l a → WritesTrace (st .trace) l (a .traceText) → a .traceText ≡ tracing st made
+  unfolding tracing isOn traceIf
+  trace-is l a r = go (st .trace)
+    where
+      go : (f : ℕ) → WritesTrace f l (a .traceText) → a .traceText ≡ traceIf (isOn f) made
+      go zero w = w
+      go (suc f) w = w .2 ∙ ap some (trace-same l (w .0) (w .1)) ∙ ap (λ (k : Line). some (traceOf (passesOf k))) (is-line l a r)
+
+  finished-is : (l : Line) (a : Answer) (s : List ℕ) → Run ms st sent l a → Finished ms l a s → WritesTrace (st .trace) l (a .traceText) → a ≡ feed ms st sent
   unfolding answered
-  finished-is l a s r f =
-      answer-same a (record { kind = kindOfDone (a .state .nflag) (hadOccurrence (passesOf whole)) s; passes = count; table = ms; state = a .state })
-      (kinds (f .kind) (subst (λ (k : Line). (Withholds (a .state) k × (made ≡ withheld)) ⊎ ((Withholds (a .state) k → ⊥) × (made ≡ out s))) (sym (is-line l a r)) (kind-of-done whole s (a .state) (a .state .nflag) (hadOccurrence (passesOf whole)) refl refl)))
-      (passes-are l a r) (f .table) refl
+  finished-is l a s r f w =
+      answer-same a (record { kind = kindOfDone (a .state .nflag) (hadOccurrence (passesOf whole)) s; passes = count; table = ms; state = a .state; traceText = tracing st made })
+      (kinds (f .kind) (subst (λ (k : Line). (Withholds (a .state) k × (kindMade ≡ withheld)) ⊎ ((Withholds (a .state) k → ⊥) × (kindMade ≡ out s))) (sym (is-line l a r)) (kind-of-done whole s (a .state) (a .state .nflag) (hadOccurrence (passesOf whole)) refl refl)))
+      (passes-are l a r) (f .table) refl (trace-is l a r w)
       ∙ sym (feed-ends l a r (done s (a .state)) (f .final))
     where
       whole : Line
-      whole = lineOf ms st sent
+      whole = historyOf ms st sent
 
-      made : Kind
-      made = kindOfDone (a .state .nflag) (hadOccurrence (passesOf (lineOf ms st sent))) s
+      kindMade : Kind
+      kindMade = kindOfDone (a .state .nflag) (hadOccurrence (passesOf (historyOf ms st sent))) s
 
       kinds : (Withholds (a .state) l × (a .kind ≡ withheld)) ⊎ ((Withholds (a .state) l → ⊥) × (a .kind ≡ out s))
-          → (Withholds (a .state) l × (made ≡ withheld)) ⊎ ((Withholds (a .state) l → ⊥) × (made ≡ out s)) → a .kind ≡ made
+          → (Withholds (a .state) l × (kindMade ≡ withheld)) ⊎ ((Withholds (a .state) l → ⊥) × (kindMade ≡ out s)) → a .kind ≡ kindMade
       kinds (inl h) (inl g) = h .1 ∙ sym (g .1)
       kinds (inl h) (inr g) = absurd (g .0 (h .0))
       kinds (inr h) (inl g) = absurd (h .0 (g .0))
       kinds (inr h) (inr g) = h .1 ∙ sym (g .1)
 
-  refused-is : (l : Line) (a : Answer) (x : Refusal) → Run ms st sent l a → a .kind ≡ refusedWith x → a .table ≡ ms → a .state ≡ st → feed ms st sent ≡ refusal ms st count x
+  refused-is : (l : Line) (a : Answer) (x : Refusal) → Run ms st sent l a → a .kind ≡ refusedWith x → a .table ≡ ms → a .state ≡ st → a .traceText ≡ none → feed ms st sent ≡ refusal ms st count x
       → a ≡ feed ms st sent
   unfolding refusal
-  refused-is l a x r k m s f = answer-same a (refusal ms st count x) k (passes-are l a r) m s ∙ sym f
+  refused-is l a x r k m s w f = answer-same a (refusal ms st count x) k (passes-are l a r) m s w ∙ sym f
 
   -- a refusal before any pass
-  early-is : (a : Answer) (x : Refusal) → a .kind ≡ refusedWith x → a .table ≡ ms → a .state ≡ st → a .passes ≡ 0 → feed ms st sent ≡ refusal ms st 0 x → a ≡ feed ms st sent
+  early-is : (a : Answer) (x : Refusal) → a .kind ≡ refusedWith x → a .table ≡ ms → a .state ≡ st → a .passes ≡ 0 → a .traceText ≡ none → feed ms st sent ≡ refusal ms st 0 x → a ≡ feed ms st sent
   unfolding refusal
-  early-is a x k m s p f = answer-same a (refusal ms st 0 x) k p m s ∙ sym f
+  early-is a x k m s p w f = answer-same a (refusal ms st 0 x) k p m s w ∙ sym f
 
   fixed : (l : Line) (a : Answer) (k : Kind) → a .kind ≡ k → ByKind ms st sent l a k → a ≡ feed ms st sent
   unfolding answered ofOrder
   fixed l a (refusedWith (ofHost badMemory)) e h = absurd (h .2)
   fixed l a (refusedWith (ofHost badTable)) e h = absurd (h .2)
   fixed l a (refusedWith (ofHost badState)) e h = absurd (h .2)
-  fixed l a (refusedWith (ofHost budgetTooLarge)) e h = early-is a (ofHost budgetTooLarge) e (h .0) (h .1) (h .2 .1) (feed-costly ms st sent (h .2 .0))
-  fixed l a (refusedWith (ofLine lineTooLong)) e h = early-is a (ofLine lineTooLong) e (h .0) (h .1) (h .2 .2) (feed-long ms st sent (h .2 .0) (h .2 .1))
-  fixed l a (refusedWith (ofLine badByte)) e h = early-is a (ofLine badByte) e (h .0) (h .1) (h .2 .3) (feed-bad ms st sent (h .2 .0) (h .2 .1) (h .2 .2))
+  fixed l a (refusedWith (ofHost budgetTooLarge)) e h = early-is a (ofHost budgetTooLarge) e (h .0) (h .1) (h .2 .1) (h .3) (feed-costly ms st sent (h .2 .0))
+  fixed l a (refusedWith (ofLine lineTooLong)) e h = early-is a (ofLine lineTooLong) e (h .0) (h .1) (h .2 .2) (h .3) (feed-long ms st sent (h .2 .0) (h .2 .1))
+  fixed l a (refusedWith (ofLine badByte)) e h = early-is a (ofLine badByte) e (h .0) (h .1) (h .2 .3) (h .3) (feed-bad ms st sent (h .2 .0) (h .2 .1) (h .2 .2))
   fixed l a (refusedWith (ofLine badControl)) e h =
       let c = h .2 .1 in
-      refused-is l a (ofLine badControl) (h .2 .0) e (h .0) (h .1)
-      (feed-ends l a (h .2 .0) (control (c .0) (c .1)) (c .2 .final) ∙ ap (ofOrder ms st count) (says-order ms (c .1) (c .0) (wrong (ofLine badControl)) (c .2 .misordered)))
+      refused-is l a (ofLine badControl) (h .2 .0) e (h .0) (h .1) (h .3)
+      (feed-ends l a (h .2 .0) (control (c .0) (c .1)) (c .2 .final) ∙ ap (ofOrder ms st made) (says-order ms (c .1) (c .0) (wrong (ofLine badControl)) (c .2 .misordered)))
   fixed l a (refusedWith (ofFile r p)) e h =
       let c = h .2 .1 in
-      refused-is l a (ofFile r p) (h .2 .0) e (h .0) (h .1)
-      (feed-ends l a (h .2 .0) (control (c .0) (c .1)) (c .2 .final) ∙ ap (ofOrder ms st count) (says-order ms (c .1) (c .0) (wrong (ofFile r p)) (c .2 .misordered)))
-  fixed l a (refusedWith (ofWork r)) e h = refused-is l a (ofWork r) (h .2 .0) e (h .0) (h .1) (feed-ends l a (h .2 .0) (refused r) (h .2 .1))
-  fixed l a (out s) e h = finished-is l a s (h .0) (h .1)
-  fixed l a withheld e h = finished-is l a (h .1 .0) (h .0) (h .1 .1)
+      refused-is l a (ofFile r p) (h .2 .0) e (h .0) (h .1) (h .3)
+      (feed-ends l a (h .2 .0) (control (c .0) (c .1)) (c .2 .final) ∙ ap (ofOrder ms st made) (says-order ms (c .1) (c .0) (wrong (ofFile r p)) (c .2 .misordered)))
+  fixed l a (refusedWith (ofWork r)) e h = refused-is l a (ofWork r) (h .2 .0) e (h .0) (h .1) (h .3) (feed-ends l a (h .2 .0) (refused r) (h .2 .1))
+  fixed l a (out s) e h = finished-is l a s (h .0) (h .1) (h .2)
+  fixed l a withheld e h = finished-is l a (h .1 .0) (h .0) (h .1 .1) (h .2)
   fixed l a controlled e h =
       let c = h .1 in
-      answer-same a (record { kind = controlled; passes = count; table = a .table; state = a .state }) e (passes-are l a (h .0)) refl refl
-      ∙ sym (feed-ends l a (h .0) (control (c .0) (c .1)) (c .2 .final) ∙ ap (ofOrder ms st count) (says-order ms (c .1) (c .0) (orders (a .table) (a .state)) (c .2 .ordered)))
+      answer-same a (record { kind = controlled; passes = count; table = a .table; state = a .state; traceText = tracing st made }) e (passes-are l a (h .0)) refl refl (trace-is l a (h .0) (h .2))
+      ∙ sym (feed-ends l a (h .0) (control (c .0) (c .1)) (c .2 .final) ∙ ap (ofOrder ms st made) (says-order ms (c .1) (c .0) (orders (a .table) (a .state)) (c .2 .ordered)))
 
 -- THE LAW
 pub one-answer : OneAnswer

@@ -3,16 +3,17 @@ use Prim.Native.Nat.{ℕ, zero, suc, _≤_}
 use mathlib.Core.Path.{_≡_, refl, subst}
 use mathlib.Core.Bool.{Bool, true, false}
 use mathlib.Core.Logic.{_⊎_, inl, inr}
+use mathlib.Core.Option.{Option, some}
 use mathlib.Core.List.{List}
 use native.Mathlib.Omega.{arith}
 use lib.ListN.{length}
-use Rattle.macros.specs.Bounds.{mostLineBytes}
+use Rattle.macros.specs.Bounds.{mostLineBytes, mostTraceBytes}
 use Rattle.macros.specs.Refusals.{LineRefusal, FileRefusal, WorkRefusal, Refusal, number, place, hostNumber, lineNumber, fileNumber, workNumber}
 use Rattle.macros.specs.Refusals.Refusal.{ofHost, ofLine, ofFile, ofWork}
 use Rattle.macros.specs.Refusals.HostRefusal.{budgetTooLarge}
 use Rattle.macros.specs.Refusals.LineRefusal.{lineTooLong, badByte, badControl}
 use Rattle.macros.specs.Refusals.FileRefusal.{fileTooLong, zeroByte, incomplete, badClass, noUnit, badBrace, badCall, noElement, macroTooLong, tooManyMacros}
-use Rattle.macros.specs.Refusals.WorkRefusal.{budgetUsedUp, newLineTooLong, tagTooLong, pointerTooHigh, counterTooHigh}
+use Rattle.macros.specs.Refusals.WorkRefusal.{budgetUsedUp, newLineTooLong, tagTooLong, pointerTooHigh, counterTooHigh, traceTooLong}
 use Rattle.macros.specs.Macro.{Table}
 use Rattle.macros.specs.Formed.{Between, Bytes}
 use Rattle.macros.specs.Accepted.{Accepted}
@@ -56,13 +57,14 @@ pub file-number : (r : FileRefusal) (p : ℕ) → Shows r → OfLine (ofFile r p
 unfolding number
 file-number r p h = let k = file-between r h in (inr (inr (inl k)), inl (omega arith))
 
-work-between : (r : WorkRefusal) → Between 31 35 (workNumber r)
+work-between : (r : WorkRefusal) → Between 31 36 (workNumber r)
 unfolding workNumber
 work-between budgetUsedUp = omega arith
 work-between newLineTooLong = omega arith
 work-between tagTooLong = omega arith
 work-between pointerTooHigh = omega arith
 work-between counterTooHigh = omega arith
+work-between traceTooLong = omega arith
 
 pub work-number : (r : WorkRefusal) → OfLine (ofWork r)
 unfolding number place
@@ -101,16 +103,17 @@ done-taken (suc n) false t b h = tt
 pub refusal-kept : {ms : Table} {st : State} {sent : Sent} (n : ℕ) (r : Refusal) → Accepted ms → InRange st → n ≤ sent .budget → OfLine r → Kept ms st sent (refusal ms st n r)
 unfolding refusal numberOf placeOf outputOf
 refusal-kept n r a i h g =
-    record { table = a; state = i; fits = omega arith; bytes = tt; passes = h; refused = λ q e. (refl, refl); number = g .0; place = g .1 }
+    record { table = a; state = i; fits = omega arith; bytes = tt; trace = λ s e. absurd (let z : _≡_ {A = ℕ} 0 1 = cc in omega arith); passes = h; refused = λ q e. (refl, refl); number = g .0; place = g .1 }
 
-pub taken-kept : {ms : Table} {st : State} {sent : Sent} (k : Kind) (n : ℕ) (ks : Table) (s : State) → Accepted ks → InRange s → n ≤ sent .budget → Taken k
-    → Kept ms st sent (record { kind = k; passes = n; table = ks; state = s })
-taken-kept k n ks s a i h g =
+pub taken-kept : {ms : Table} {st : State} {sent : Sent} (k : Kind) (n : ℕ) (ks : Table) (s : State) → Accepted ks → InRange s → n ≤ sent .budget → Taken k → (tr : Option (List ℕ))
+    → ((x : List ℕ) → tr ≡ some x → length x ≤ mostTraceBytes) → Kept ms st sent (record { kind = k; passes = n; table = ks; state = s; traceText = tr })
+taken-kept k n ks s a i h g tr b =
     record {
       table = a;
       state = i;
       fits = taken-output k g .1;
       bytes = taken-output k g .0;
+      trace = b;
       passes = h;
       refused = λ r e. absurd (subst Taken e g);
       number = inl (taken-number k g .0);

@@ -8,36 +8,31 @@ use native.Mathlib.Omega.{arith}
 use borrow.Author.Tests.{leb-true, leb-false}
 use lib.Dec.{leb}
 use lib.ListN.{length}
-use Rattle.macros.specs.Bounds.{mostLineBytes, mostBudget}
+use Rattle.macros.specs.Bounds.{mostLineBytes, mostBudget, mostTraceBytes}
 use Rattle.macros.specs.Refusals.{WorkRefusal, Refusal, hostNumber, lineNumber, fileNumber, workNumber, number}
 use Rattle.macros.specs.Refusals.Refusal.{ofHost, ofLine, ofFile, ofWork}
 use Rattle.macros.specs.Refusals.HostRefusal.{badMemory, badTable, badState, budgetTooLarge}
 use Rattle.macros.specs.Refusals.LineRefusal.{lineTooLong, badByte, badControl}
 use Rattle.macros.specs.Refusals.FileRefusal.{fileTooLong, zeroByte, incomplete, badClass, noUnit, badBrace, badCall, noElement, macroTooLong, tooManyMacros}
-use Rattle.macros.specs.Refusals.WorkRefusal.{budgetUsedUp, newLineTooLong, tagTooLong, pointerTooHigh, counterTooHigh}
+use Rattle.macros.specs.Refusals.WorkRefusal.{budgetUsedUp, newLineTooLong, tagTooLong, pointerTooHigh, counterTooHigh, traceTooLong}
 use Rattle.macros.specs.Macro.{Table}
 use Rattle.lines.specs.State.{State}
-use Rattle.lines.specs.Replacing.{Work, Done}
-use Rattle.lines.specs.Replacing.Done.{bad, good}
-use Rattle.lines.specs.Pass.{pass, occurred, outcome}
-use Rattle.lines.specs.Line.{Sent, Numbered, Ending, Line, passed, refused, done, control, newestFirst, closedBy, isControl, textOf, passes, lineOf, passesOf, hadOccurrence, ending}
+use Rattle.lines.specs.Line.{Sent, Numbered, Pass, Ending, Line, passed, refused, done, control, newestFirst, lineOf, passesOf, ending}
 use Rattle.lines.specs.Line.{Line.ended as lineEnded}
+use Rattle.lines.specs.Trace.{isOn, historyOf}
 use Rattle.lines.specs.Feeding.{Kind, refusedWith, out, withheld, controlled, Answer, numberOf, refusal, ofOrder, answered, answer, hasBadByte, feed}
 use Rattle.lines.specs.Feeding.{Order, wrong, orders, orderOf}
 use Rattle.lines.specs.Demand.{passCount, endOfLine, HasBadByte, Fits, History, ByKind}
 use Rattle.lines.specs.LargerBudget.{withBudget, Settled, LargerBudget, Smallest, SmallestBudget, StillDue, UsedUpExact, UsedUpPasses}
-use Rattle.lines.proofs.NextLaws.{to-control, to-done, to-used, made, to-refused, to-next, to-again}
+use Rattle.lines.proofs.NumberLaws.{is-31}
+use Rattle.lines.proofs.BudgetSteps.{Used, from, Next, stops, fails, goes, next}
 use Rattle.lines.proofs.LineLaws.{pass-count, end-of-line}
-use Rattle.lines.proofs.BudgetLaws.{line-budgeted}
+use Rattle.lines.proofs.TraceLaws.{history-budgeted}
 use Rattle.lines.proofs.Demand3.{bad-byte, no-bad-byte, line-history, fed-holds}
 use Rattle.lines.proofs.OneLaws.{one-line}
 use Rattle.lines.proofs.AnswerLaws.{feed-costly, feed-long, feed-bad, feed-runs}
 
 -- OF THE PASSES
-
--- 31 ends the line
-abbrev Used : Line → Type 0
-Used l = ending l ≡ refused budgetUsedUp
 
 abbrev count : Line → ℕ
 count l = length (passesOf l)
@@ -46,7 +41,7 @@ count l = length (passesOf l)
 record Least (given : ℕ → Line) (n : ℕ) : Type 0 where
   more : (k : ℕ) → given (n + k) ≡ given n
   own : given (count (given n)) ≡ given n
-  fewer : (k : ℕ) → k < count (given n) → Used (given k)
+  fewer : (k : ℕ) → k < count (given n) → Used (ending (given k))
 
 -- a line without a pass, whatever the budget
 ends-at-once : (given : ℕ → Line) (n : ℕ) (e : Ending) → ((k : ℕ) → given k ≡ lineEnded e) → Least given n
@@ -59,86 +54,53 @@ ends-at-once given n e h =
     }
 
 -- a pass, and then the line of one budget less
-one-pass : (given rest : ℕ → Line) (n : ℕ) (x : Line → Line) → ((l : Line) → count (x l) ≡ suc (count l)) → ((l : Line) → ending (x l) ≡ ending l)
-    → ((k : ℕ) → given (suc k) ≡ x (rest k)) → Used (given 0) → Least rest n → Least given (suc n)
-one-pass given rest n x c f step none h =
+one-pass : (given rest : ℕ → Line) (n : ℕ) (x : Pass) → given 0 ≡ lineEnded (refused budgetUsedUp) → ((k : ℕ) → given (suc k) ≡ passed x (rest k))
+    → Least rest n → Least given (suc n)
+unfolding passesOf ending
+one-pass given rest n x none step h =
     record {
-      more = λ k. ap given (let z : suc n + k ≡ suc (n + k) = omega arith in z) ∙ step (n + k) ∙ ap x (h .more k) ∙ sym (step n);
-      own = ap given counted ∙ step (count (rest n)) ∙ ap x (h .own) ∙ sym (step n);
+      more = λ k. ap given (let z : suc n + k ≡ suc (n + k) = omega arith in z) ∙ step (n + k) ∙ ap (passed x) (h .more k) ∙ sym (step n);
+      own = ap given counted ∙ step (count (rest n)) ∙ ap (passed x) (h .own) ∙ sym (step n);
       fewer = fewer;
     }
   where
     counted : count (given (suc n)) ≡ suc (count (rest n))
-    counted = ap count (step n) ∙ c (rest n)
+    counted = ap count (step n)
 
-    fewer : (k : ℕ) → k < count (given (suc n)) → Used (given k)
-    fewer zero l = none
-    fewer (suc k) l = ap ending (step k) ∙ f (rest k) ∙ h .fewer k (omega (arith, counted))
+    fewer : (k : ℕ) → k < count (given (suc n)) → Used (ending (given k))
+    fewer zero l = ap ending none
+    fewer (suc k) l = ap ending (step k) ∙ h .fewer k (omega (arith, counted))
 
--- a pass that refuses the line
-refused-pass : (given : ℕ → Line) (n : ℕ) (l : Line) → count l ≡ 1 → ((k : ℕ) → given (suc k) ≡ l) → Used (given 0) → Least given (suc n)
-refused-pass given n l c step none =
-    record {
-      more = λ k. ap given (let z : suc n + k ≡ suc (n + k) = omega arith in z) ∙ step (n + k) ∙ sym (step n);
-      own = ap given (ap count (step n) ∙ c) ∙ step 0 ∙ sym (step n);
-      fewer = fewer;
-    }
-  where
-    fewer : (k : ℕ) → k < count (given (suc n)) → Used (given k)
-    fewer zero l = none
-    fewer (suc k) l = absurd (omega (arith, ap count (step n) ∙ c))
-
-module _ (ms : Table) where
-  abbrev from : List ℕ → List Numbered → State → List ℕ → ℕ → Line
-  from closed todo st t n = passes ms n closed todo st t
-
+module _ (ms : Table) (b : Bool) where
   abbrev Law : ℕ → Type 0
-  Law n = (closed : List ℕ) (todo : List Numbered) (st : State) (t : List ℕ) → (Used (from closed todo st t n) → ⊥) → Least (from closed todo st t) n
-
-  -- with no budget a line that is not refused with 31 has no pass to make
-  law-zero : Law 0
-  unfolding ending
-  law-zero closed todo st t h = go (isControl t) refl todo h
-    where
-      go : (b : Bool) → isControl t ≡ b → (todo : List Numbered) → (Used (from closed todo st t 0) → ⊥) → Least (from closed todo st t) 0
-      go true c todo h = ends-at-once (from closed todo st t) 0 _ (λ k. to-control ms closed st t k todo c)
-      go false c [] h = ends-at-once (from closed [] st t) 0 _ (λ k. to-done ms closed st t k c)
-      go false c (e ∷ es) h = absurd (h (ap ending (to-used ms closed st t e es c)))
-
-  law-suc : (n : ℕ) → Law n → Law (suc n)
-  unfolding ending passesOf
-  law-suc n ih closed todo st t h = go (isControl t) refl todo h
-    where
-      pass-by : (e : Numbered) (es : List Numbered) (c : isControl t ≡ false) → (Used (from closed (e ∷ es) st t (suc n)) → ⊥)
-          → (d : Done) → outcome (pass (e .macro) t st) ≡ d → (o : Bool) → occurred (pass (e .macro) t st) ≡ o → Least (from closed (e ∷ es) st t) (suc n)
-      pass-by e es c h (bad r v) x o y =
-          refused-pass (from closed (e ∷ es) st t) n (passed (made ms closed st t e es c) (lineEnded (refused r))) refl
-          (λ k. to-refused ms closed st t e es c k r v x) (ap ending (to-used ms closed st t e es c))
-      pass-by e es c h (good v) x false y =
-          one-pass (from closed (e ∷ es) st t) (from closed es st t) n (passed (made ms closed st t e es c)) (λ l. refl) (λ l. refl)
-          (λ k. to-next ms closed st t e es c k v x y) (ap ending (to-used ms closed st t e es c))
-          (ih closed es st t (λ u. h (ap ending (to-next ms closed st t e es c n v x y) ∙ u)))
-      pass-by e es c h (good v) x true y =
-          let cs : List ℕ = closedBy e closed in
-          one-pass (from closed (e ∷ es) st t) (from cs (newestFirst cs ms) (v .state) (textOf v)) n (passed (made ms closed st t e es c)) (λ l. refl) (λ l. refl)
-          (λ k. to-again ms closed st t e es c k v x y) (ap ending (to-used ms closed st t e es c))
-          (ih cs (newestFirst cs ms) (v .state) (textOf v) (λ u. h (ap ending (to-again ms closed st t e es c n v x y) ∙ u)))
-
-      go : (b : Bool) → isControl t ≡ b → (todo : List Numbered) → (Used (from closed todo st t (suc n)) → ⊥) → Least (from closed todo st t) (suc n)
-      go true c todo h = ends-at-once (from closed todo st t) (suc n) _ (λ k. to-control ms closed st t k todo c)
-      go false c [] h = ends-at-once (from closed [] st t) (suc n) _ (λ k. to-done ms closed st t k c)
-      go false c (e ∷ es) h = pass-by e es c h (outcome (pass (e .macro) t st)) refl (occurred (pass (e .macro) t st)) refl
+  Law n =
+      (room : ℕ) (closed : List ℕ) (todo : List Numbered) (st : State) (t : List ℕ) → (Used (ending (from ms b room closed todo st t n)) → ⊥)
+      → Least (from ms b room closed todo st t) n
 
   law : (n : ℕ) → Law n
-  law zero = law-zero
-  law (suc n) = law-suc n (law n)
+  unfolding ending
+  law zero room closed todo st t free = go (next ms b room closed todo st t)
+    where
+      go : Next ms b (from ms b room closed todo st t) → Least (from ms b room closed todo st t) 0
+      go (stops e f h) = ends-at-once (from ms b room closed todo st t) 0 e h
+      go (fails x r f z h) = absurd (free (ap ending z))
+      go (goes x k cs es s u z h) = absurd (free (ap ending z))
+  law (suc n) room closed todo st t free = go (law n) (next ms b room closed todo st t)
+    where
+      go : Law n → Next ms b (from ms b room closed todo st t) → Least (from ms b room closed todo st t) (suc n)
+      go ih (stops e f h) = ends-at-once (from ms b room closed todo st t) (suc n) e h
+      go ih (fails x r f z h) =
+          one-pass (from ms b room closed todo st t) (λ (k : ℕ). lineEnded (refused r)) n x z h
+          (ends-at-once (λ (k : ℕ). lineEnded (refused r)) n (refused r) (λ k. refl))
+      go ih (goes x k cs es s u z h) =
+          one-pass (from ms b room closed todo st t) (from ms b k cs es s u) n x z h (ih k cs es s u (λ v. free (ap ending (h n) ∙ v)))
 
 -- OF THE LINE THAT IS FED
 
 module _ (ms : Table) (st : State) (sent : Sent) where
-  line-law : (Used (lineOf ms st sent) → ⊥) → Least (λ (n : ℕ). lineOf ms st (withBudget n sent)) (sent .budget)
-  unfolding lineOf
-  line-law h = law ms (sent .budget) [] (newestFirst [] ms) st (sent .line) h
+  line-law : (Used (ending (historyOf ms st sent)) → ⊥) → Least (λ (n : ℕ). historyOf ms st (withBudget n sent)) (sent .budget)
+  unfolding historyOf lineOf
+  line-law h = law ms (isOn (st .trace)) (sent .budget) mostTraceBytes [] (newestFirst [] ms) st (sent .line) h
 
 -- what is looked at before the passes
 data Looked (sent : Sent) : Type 0 where
@@ -166,11 +128,11 @@ fits-with : (n : ℕ) (sent : Sent) → n ≤ mostBudget → Fits sent → Fits 
 fits-with n sent l f = record { few = l; short = f .short; clean = f .clean }
 
 -- a line that 31 ends is answered with 31
-used-number : (ms : Table) (st : State) (sent : Sent) → Fits sent → Used (lineOf ms st sent) → numberOf (feed ms st sent .kind) ≡ 31
+used-number : (ms : Table) (st : State) (sent : Sent) → Fits sent → Used (ending (historyOf ms st sent)) → numberOf (feed ms st sent .kind) ≡ 31
 unfolding answer answered refusal numberOf number workNumber
 used-number ms st sent f u =
     ap (λ (a : Answer). numberOf (a .kind)) (feed-runs ms st sent f)
-    ∙ ap (λ (e : Ending). numberOf (answered ms st (count (lineOf ms st sent)) (hadOccurrence (passesOf (lineOf ms st sent))) e .kind)) u
+    ∙ ap (λ (e : Ending). numberOf (answered ms st (passesOf (historyOf ms st sent)) e .kind)) u
 
 4-number : (ms : Table) (st : State) (sent : Sent) → mostBudget < sent .budget → numberOf (feed ms st sent .kind) ≡ 4
 unfolding refusal numberOf number hostNumber
@@ -188,26 +150,26 @@ larger-budget ms st sent settled n l k = go (looked sent)
         let h = line-law ms st sent (λ u. settled .1 (used-number ms st sent f u)) in
         let z : sent .budget + (n - sent .budget) ≡ n = omega arith in
         feed-runs ms st (withBudget n sent) (fits-with n sent k f)
-        ∙ ap (answer ms st) (ap (λ (j : ℕ). lineOf ms st (withBudget j sent)) (sym z) ∙ h .more (n - sent .budget))
+        ∙ ap (answer ms st) (ap (λ (j : ℕ). historyOf ms st (withBudget j sent)) (sym z) ∙ h .more (n - sent .budget))
         ∙ sym (feed-runs ms st sent f)
 
 -- the passes that an answer carries
-order-passes : (ms : Table) (st : State) (n : ℕ) (o : Order) → ofOrder ms st n o .passes ≡ n
+order-passes : (ms : Table) (st : State) (xs : List Pass) (o : Order) → ofOrder ms st xs o .passes ≡ length xs
 unfolding ofOrder refusal
-order-passes ms st n (wrong r) = refl
-order-passes ms st n (orders ks x) = refl
+order-passes ms st xs (wrong r) = refl
+order-passes ms st xs (orders ks x) = refl
 
-answered-passes : (ms : Table) (st : State) (n : ℕ) (o : Bool) (e : Ending) → answered ms st n o e .passes ≡ n
+answered-passes : (ms : Table) (st : State) (xs : List Pass) (e : Ending) → answered ms st xs e .passes ≡ length xs
 unfolding answered refusal
-answered-passes ms st n o (refused r) = refl
-answered-passes ms st n o (done t x) = refl
-answered-passes ms st n o (control t x) = order-passes ms st n (orderOf ms x t)
+answered-passes ms st xs (refused r) = refl
+answered-passes ms st xs (done t x) = refl
+answered-passes ms st xs (control t x) = order-passes ms st xs (orderOf ms x t)
 
-passes-of : (ms : Table) (st : State) (sent : Sent) → Fits sent → feed ms st sent .passes ≡ count (lineOf ms st sent)
+passes-of : (ms : Table) (st : State) (sent : Sent) → Fits sent → feed ms st sent .passes ≡ count (historyOf ms st sent)
 unfolding answer
 passes-of ms st sent f =
     ap (λ (a : Answer). a .passes) (feed-runs ms st sent f)
-    ∙ answered-passes ms st (count (lineOf ms st sent)) (hadOccurrence (passesOf (lineOf ms st sent))) (ending (lineOf ms st sent))
+    ∙ answered-passes ms st (passesOf (historyOf ms st sent)) (ending (historyOf ms st sent))
 
 -- an answer before any pass, which the budget 0 gives too
 at-start : (ms : Table) (st : State) (sent : Sent) (r : Refusal) → feed ms st sent ≡ refusal ms st 0 r → feed ms st (withBudget 0 sent) ≡ refusal ms st 0 r
@@ -231,18 +193,18 @@ smallest-budget ms st sent settled = go (looked sent)
         }
       where
         c : ℕ
-        c = count (lineOf ms st sent)
+        c = count (historyOf ms st sent)
 
         p : feed ms st sent .passes ≡ c
         p = passes-of ms st sent f
 
-        h : Least (λ (n : ℕ). lineOf ms st (withBudget n sent)) (sent .budget)
+        h : Least (λ (n : ℕ). historyOf ms st (withBudget n sent)) (sent .budget)
         h = line-law ms st sent (λ u. settled .1 (used-number ms st sent f u))
 
         within : c ≤ mostBudget
         within =
-            let a = line-budgeted ms st sent .within in
-            let b : c ≡ passCount (lineOf ms st sent) = pass-count (lineOf ms st sent) in
+            let a = history-budgeted ms st sent .0 in
+            let b : c ≡ passCount (historyOf ms st sent) = pass-count (historyOf ms st sent) in
             let d = f .few in
             omega arith
 
@@ -254,47 +216,19 @@ smallest-budget ms st sent settled = go (looked sent)
 
 -- 31 ITSELF
 
-is-31 : (k : Kind) → numberOf k ≡ 31 → k ≡ refusedWith (ofWork budgetUsedUp)
-unfolding numberOf number hostNumber lineNumber fileNumber workNumber
-is-31 (out t) e = absurd (omega arith)
-is-31 withheld e = absurd (omega arith)
-is-31 controlled e = absurd (omega arith)
-is-31 (refusedWith (ofHost badMemory)) e = absurd (omega arith)
-is-31 (refusedWith (ofHost badTable)) e = absurd (omega arith)
-is-31 (refusedWith (ofHost badState)) e = absurd (omega arith)
-is-31 (refusedWith (ofHost budgetTooLarge)) e = absurd (omega arith)
-is-31 (refusedWith (ofLine lineTooLong)) e = absurd (omega arith)
-is-31 (refusedWith (ofLine badByte)) e = absurd (omega arith)
-is-31 (refusedWith (ofLine badControl)) e = absurd (omega arith)
-is-31 (refusedWith (ofFile fileTooLong p)) e = absurd (omega arith)
-is-31 (refusedWith (ofFile zeroByte p)) e = absurd (omega arith)
-is-31 (refusedWith (ofFile incomplete p)) e = absurd (omega arith)
-is-31 (refusedWith (ofFile badClass p)) e = absurd (omega arith)
-is-31 (refusedWith (ofFile noUnit p)) e = absurd (omega arith)
-is-31 (refusedWith (ofFile badBrace p)) e = absurd (omega arith)
-is-31 (refusedWith (ofFile badCall p)) e = absurd (omega arith)
-is-31 (refusedWith (ofFile noElement p)) e = absurd (omega arith)
-is-31 (refusedWith (ofFile macroTooLong p)) e = absurd (omega arith)
-is-31 (refusedWith (ofFile tooManyMacros p)) e = absurd (omega arith)
-is-31 (refusedWith (ofWork budgetUsedUp)) e = refl
-is-31 (refusedWith (ofWork newLineTooLong)) e = absurd (omega arith)
-is-31 (refusedWith (ofWork tagTooLong)) e = absurd (omega arith)
-is-31 (refusedWith (ofWork pointerTooHigh)) e = absurd (omega arith)
-is-31 (refusedWith (ofWork counterTooHigh)) e = absurd (omega arith)
-
 still-due : (ms : Table) (st : State) (sent : Sent) → numberOf (feed ms st sent .kind) ≡ 31 → StillDue ms st sent
 still-due ms st sent e =
-    let l : Line = lineOf ms st sent in
+    let l : Line = historyOf ms st sent in
     let z = subst (λ (k : Kind). ByKind ms st sent l (feed ms st sent) k) (is-31 (feed ms st sent .kind) e) (fed-holds ms st sent) in
     let h = z .2 .0 .history in
-    record { fits = h .fits; history = l; passes = h .passes; begun = h .usedUp (z .2 .1); due = z .2 .1 }
+    record { fits = h .fits; history = l; passes = h .passes; begun = h .usedUp (z .2 .1); due = z .2 .1; traces = h .traces }
 
 due-31 : (ms : Table) (st : State) (sent : Sent) → StillDue ms st sent → numberOf (feed ms st sent .kind) ≡ 31
 due-31 ms st sent d =
     let n = d .begun in
-    let h : History ms st sent (d .history) = record { fits = d .fits; passes = d .passes; within = omega arith; usedUp = λ e. d .begun } in
-    let l = one-line ms st sent (d .history) (lineOf ms st sent) h (line-history ms st sent (d .fits)) in
-    used-number ms st sent (d .fits) (end-of-line (lineOf ms st sent) ∙ ap endOfLine (sym l) ∙ d .due)
+    let h : History ms st sent (d .history) = record { fits = d .fits; passes = d .passes; within = omega arith; usedUp = λ e. d .begun; traces = d .traces } in
+    let l = one-line ms st sent (d .history) (historyOf ms st sent) h (line-history ms st sent (d .fits)) in
+    used-number ms st sent (d .fits) (end-of-line (historyOf ms st sent) ∙ ap endOfLine (sym l) ∙ d .due)
 
 -- THE LAW
 pub used-up-exact : UsedUpExact
@@ -303,6 +237,6 @@ used-up-exact ms st sent = (still-due ms st sent, due-31 ms st sent)
 pub used-up-passes : UsedUpPasses
 used-up-passes ms st sent e =
     let d = still-due ms st sent e in
-    let h : History ms st sent (d .history) = record { fits = d .fits; passes = d .passes; within = (let n = d .begun in omega arith); usedUp = λ e. d .begun } in
-    let l = one-line ms st sent (d .history) (lineOf ms st sent) h (line-history ms st sent (d .fits)) in
-    passes-of ms st sent (d .fits) ∙ pass-count (lineOf ms st sent) ∙ ap passCount (sym l) ∙ d .begun
+    let h : History ms st sent (d .history) = record { fits = d .fits; passes = d .passes; within = (let n = d .begun in omega arith); usedUp = λ e. d .begun; traces = d .traces } in
+    let l = one-line ms st sent (d .history) (historyOf ms st sent) h (line-history ms st sent (d .fits)) in
+    passes-of ms st sent (d .fits) ∙ pass-count (historyOf ms st sent) ∙ ap passCount (sym l) ∙ d .begun

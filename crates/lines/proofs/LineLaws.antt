@@ -10,7 +10,7 @@ use borrow.Author.Tests.{eqb-true, eq-eqb}
 use lib.ListN.{length, getElem?}
 use lib.Seq.{slice, take-length}
 use Rattle.macros.specs.Refusals.{WorkRefusal}
-use Rattle.macros.specs.Refusals.WorkRefusal.{budgetUsedUp}
+use Rattle.macros.specs.Refusals.WorkRefusal.{budgetUsedUp, traceTooLong}
 use Rattle.macros.specs.Macro.{Symbol, Macro, Table, pick}
 use Rattle.macros.specs.Macro.Symbol.{equal, less}
 use Rattle.lines.specs.State.{State}
@@ -97,9 +97,10 @@ module _ (ms : Table) (closed since : List ℕ) (st : State) (t : List ℕ) wher
       (ons : (w : Work) → Passes ms closed (e .number ∷ since) t st (on w)) (agains : (w : Work) → Passes ms (closedBy e closed) [] (textOf w) (w .state) (again w)) where
     follow-holds : (a : Done) (o : Bool) → outcome k ≡ a → occurred k ≡ o → NoBudget a
         → ((v : Work) × EndsIn k v × Passes ms (closedIf o (e .macro .symbol) (e .number) closed) (pick o [] (e .number ∷ since)) (newLine v) (v .state) (follow a o on again))
-        ⊎ ((r : WorkRefusal) × (v : Work) × FailsIn k r v × (r ≡ budgetUsedUp → ⊥) × (follow a o on again ≡ lineEnded (refused r)))
+        ⊎ ((r : WorkRefusal) × (v : Work) × FailsIn k r v × (follow a o on again ≡ lineEnded (refused r)))
+        ⊎ ((v : Work) × EndsIn k v × (follow a o on again ≡ lineEnded (refused traceTooLong)))
     unfolding follow pick
-    follow-holds (bad r w) o ea eo n = inr (r, w, fails-in k r w ea, n, refl)
+    follow-holds (bad r w) o ea eo n = inr (inl (r, w, fails-in k r w ea, refl))
     follow-holds (good w) false ea eo n =
         let c = nothing-changed (e .macro) t st k walks w (ends-in k w .0 ea) eo in
         inl (w, ends-in k w .0 ea, subst (λ (s : List ℕ). Passes ms closed (e .number ∷ since) s (w .state) (on w)) (sym (c .0)) (subst (λ (s : State). Passes ms closed (e .number ∷ since) t s (on w)) (sym (c .1)) (ons w)))
@@ -189,7 +190,7 @@ module _ (ms : Table) (s : List ℕ) (z : State) (i : ℕ) (m : Macro) (at : get
       either (h .1)
       (λ u. left-nothing (closedAfter x closed) (sinceAfter x since) (newLine (u .0)) (u .0 .state) l (u .2)
       (empty-next ms closed since t st x (h .0) (u .0) (u .1) g (occurred (x .events)) refl) e f)
-      (λ u. absurd (refused-not-done l (u .0) s z (u .4) e))
+      (λ y. either y (λ u. absurd (refused-not-done l (u .0) s z (u .3) e)) (λ u. absurd (refused-not-done l traceTooLong s z (u .2) e)))
 
 -- WHAT A LINE COMES TO, joined to the demand's own notions
 

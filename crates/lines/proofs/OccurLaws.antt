@@ -11,7 +11,7 @@ use lib.Dec.{leb, ltb}
 use lib.ListN.{length}
 use Rattle.macros.specs.Bounds.{mostLineBytes, mostEntries, mostEntryBytes, mostCounter}
 use Rattle.macros.specs.Refusals.{WorkRefusal}
-use Rattle.macros.specs.Refusals.WorkRefusal.{budgetUsedUp, newLineTooLong, tagTooLong, pointerTooHigh, counterTooHigh}
+use Rattle.macros.specs.Refusals.WorkRefusal.{budgetUsedUp, newLineTooLong, tagTooLong, pointerTooHigh, counterTooHigh, traceTooLong}
 use Rattle.macros.specs.Macro.{Mark, Piece, Sign, Move, Call, Action, Macro}
 use Rattle.macros.specs.Macro.Mark.{stack, counter}
 use Rattle.macros.specs.Macro.Sign.{plus, minus}
@@ -257,41 +257,54 @@ comes-same xs w (bad r v) (bad s u) h g = breaks-same xs w r v s u h g
 pub occur-is : (m : Macro) (t : List ℕ) (d : Division) (w : Work) (a : Done) → ComesTo (stepsOf m t d) w a → occur m t d w ≡ a
 occur-is m t d w a h = comes-same (stepsOf m t d) w (occur m t d w) a (occur-steps m t d w) h
 
--- NO STEP IS REFUSED WITH 31
+-- NO STEP IS REFUSED WITH 31 OR 36
 
--- the refusal of a step, if it is refused, is not 31
+-- 32 to 35 alone
+abbrev pub OfStep : WorkRefusal → Type 0
+OfStep r = (r ≡ budgetUsedUp → ⊥) × (r ≡ traceTooLong → ⊥)
+
+-- the refusal of a step, if it is refused, is one of them
 abbrev pub NoBudget : Done → Type 0
-NoBudget (bad r w) = r ≡ budgetUsedUp → ⊥
+NoBudget (bad r w) = OfStep r
 NoBudget (good w) = Unit {0}
 
-room-not-31 : newLineTooLong ≡ budgetUsedUp → ⊥
-room-not-31 e = let z : _≡_ {A = ℕ} 0 1 = cc in omega arith
+of-room : OfStep newLineTooLong
+of-room = (λ e. let z : _≡_ {A = ℕ} 0 1 = cc in omega arith, λ e. let z : _≡_ {A = ℕ} 0 1 = cc in omega arith)
 
-why-not-31 : (x : Step) (w : Work) (r : WorkRefusal) → Why x w r → r ≡ budgetUsedUp → ⊥
-why-not-31 (insertsText s) w r h e = room-not-31 (sym (h .0) ∙ e)
-why-not-31 (insertsCurrent m i) w r h e = room-not-31 (sym (h .0) ∙ e)
-why-not-31 (storesText i s) w r h e = let f : tagTooLong ≡ budgetUsedUp = sym (h .0) ∙ e in let z : _≡_ {A = ℕ} 0 1 = cc in omega arith
-why-not-31 (movesIt stack plus i) w r h e = let f : pointerTooHigh ≡ budgetUsedUp = sym (h .0) ∙ e in let z : _≡_ {A = ℕ} 0 1 = cc in omega arith
-why-not-31 (movesIt stack minus i) w r h e = h
-why-not-31 (movesIt counter plus i) w r h e = let f : counterTooHigh ≡ budgetUsedUp = sym (h .0) ∙ e in let z : _≡_ {A = ℕ} 0 1 = cc in omega arith
-why-not-31 (movesIt counter minus i) w r h e = h
-why-not-31 (setsIt m i n) w r h e = h
-why-not-31 (setsIncrement i n) w r h e = h
+of-tag : OfStep tagTooLong
+of-tag = (λ e. let z : _≡_ {A = ℕ} 0 1 = cc in omega arith, λ e. let z : _≡_ {A = ℕ} 0 1 = cc in omega arith)
 
-breaks-not-31 : (xs : List Step) (w : Work) (r : WorkRefusal) (v : Work) → Breaks xs w r v → r ≡ budgetUsedUp → ⊥
-breaks-not-31 [] w r v h e = h
-breaks-not-31 (x ∷ xs) w r v (inl h) e = why-not-31 x w r (h .1) e
-breaks-not-31 (x ∷ xs) w r v (inr h) e = breaks-not-31 xs (h .0) r v (h .2) e
+of-pointer : OfStep pointerTooHigh
+of-pointer = (λ e. let z : _≡_ {A = ℕ} 0 1 = cc in omega arith, λ e. let z : _≡_ {A = ℕ} 0 1 = cc in omega arith)
 
-comes-not-31 : (xs : List Step) (w : Work) (a : Done) → ComesTo xs w a → NoBudget a
-comes-not-31 xs w (good v) h = tt
-comes-not-31 xs w (bad r v) h = breaks-not-31 xs w r v h
+of-counter : OfStep counterTooHigh
+of-counter = (λ e. let z : _≡_ {A = ℕ} 0 1 = cc in omega arith, λ e. let z : _≡_ {A = ℕ} 0 1 = cc in omega arith)
+
+why-step : (x : Step) (w : Work) (r : WorkRefusal) → Why x w r → OfStep r
+why-step (insertsText s) w r h = subst OfStep (sym (h .0)) of-room
+why-step (insertsCurrent m i) w r h = subst OfStep (sym (h .0)) of-room
+why-step (storesText i s) w r h = subst OfStep (sym (h .0)) of-tag
+why-step (movesIt stack plus i) w r h = subst OfStep (sym (h .0)) of-pointer
+why-step (movesIt stack minus i) w r h = absurd h
+why-step (movesIt counter plus i) w r h = subst OfStep (sym (h .0)) of-counter
+why-step (movesIt counter minus i) w r h = absurd h
+why-step (setsIt m i n) w r h = absurd h
+why-step (setsIncrement i n) w r h = absurd h
+
+breaks-step : (xs : List Step) (w : Work) (r : WorkRefusal) (v : Work) → Breaks xs w r v → OfStep r
+breaks-step [] w r v h = absurd h
+breaks-step (x ∷ xs) w r v (inl h) = why-step x w r (h .1)
+breaks-step (x ∷ xs) w r v (inr h) = breaks-step xs (h .0) r v (h .2)
+
+comes-no : (xs : List Step) (w : Work) (a : Done) → ComesTo xs w a → NoBudget a
+comes-no xs w (good v) h = tt
+comes-no xs w (bad r v) h = breaks-step xs w r v h
 
 occur-no : (m : Macro) (t : List ℕ) (d : Division) (w : Work) → NoBudget (occur m t d w)
-occur-no m t d w = comes-not-31 (stepsOf m t d) w (occur m t d w) (occur-steps m t d w)
+occur-no m t d w = comes-no (stepsOf m t d) w (occur m t d w) (occur-steps m t d w)
 
 put-no : (b : ℕ) (w : Work) → NoBudget (put b w)
-put-no b w = comes-not-31 (insertsText (b ∷ []) ∷ []) w (put b w) (put-step b w)
+put-no b w = comes-no (insertsText (b ∷ []) ∷ []) w (put b w) (put-step b w)
 
 -- A PASS
 

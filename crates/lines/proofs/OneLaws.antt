@@ -9,9 +9,9 @@ use native.Mathlib.Omega.{arith}
 use lib.Dec.{eqb}
 use lib.ListN.{length, getElem?}
 use lib.Seq.{slice, length-slice}
-use Rattle.macros.specs.Bounds.{mostLineBytes}
+use Rattle.macros.specs.Bounds.{mostLineBytes, mostTraceBytes}
 use Rattle.macros.specs.Refusals.{WorkRefusal}
-use Rattle.macros.specs.Refusals.WorkRefusal.{budgetUsedUp}
+use Rattle.macros.specs.Refusals.WorkRefusal.{budgetUsedUp, traceTooLong}
 use Rattle.macros.specs.Macro.{Macro, Table, pick}
 use Rattle.lines.specs.State.{State}
 use Rattle.lines.specs.Matching.{span, Division, Fewer, Divides}
@@ -22,9 +22,11 @@ use Rattle.lines.specs.Line.{Numbered, Pass, Line, passed, refused, done
 use Rattle.lines.specs.Line.{Line.ended as lineEnded}
 use Rattle.lines.specs.Steps.{newLine, Copied}
 use Rattle.lines.specs.Demand.{onwardFrom, NoneAhead, Stands, Replaces, stopOf, nextPlace, behind, Fails, Full, Walks, EndsIn, FailsIn}
-use Rattle.lines.specs.Demand.{PassHolds, closedAfter, sinceAfter, Passes, passCount, endOfLine}
+use Rattle.lines.specs.Demand.{PassHolds, closedAfter, sinceAfter, Passes, passCount, endOfLine, TraceFits, FitsIf}
+use Rattle.lines.specs.Trace.{linesOf}
 use Rattle.lines.specs.OneLine.{OneLine}
 use Rattle.lines.proofs.LineLaws.{either}
+use Rattle.lines.proofs.TellLaws.{fits-lines}
 use Rattle.lines.proofs.OccurLaws.{copied-same, occur-is}
 
 -- MOMENTS AND DIVISIONS
@@ -261,38 +263,78 @@ spent-rest n x l h = record { within = omega (arith, h .within); usedUp = λ e. 
 spent-all : (n : ℕ) (r : WorkRefusal) (x : Pass) (l : Line) → r ≡ budgetUsedUp → Spent n (lineEnded (refused r)) → Spent n (passed x l) → ⊥
 spent-all n r x l e h g = let a : 0 ≡ n = h .usedUp (ap refused e) in let b = g .within in omega arith
 
-line-same : (ms : Table) (n : ℕ) (closed since : List ℕ) (t : List ℕ) (st : State) (l k : Line) → Passes ms closed since t st l → Passes ms closed since t st k → Spent n l → Spent n k → l ≡ k
-line-same ms n closed since t st (lineEnded (done s x)) (lineEnded (done a y)) h g u v = cc
-line-same ms n closed since t st (lineEnded (done s x)) (lineEnded (control a y)) h g u v = absurd (h .2 (g .2))
-line-same ms n closed since t st (lineEnded (done s x)) (lineEnded (refused r)) h g u v = absurd (h .3 (g .2 .0) (g .2 .1) (g .2 .2))
-line-same ms n closed since t st (lineEnded (done s x)) (passed y k) h g u v = absurd (h .3 (y .which .number) (y .which .macro) (g .0 .due))
-line-same ms n closed since t st (lineEnded (control s x)) (lineEnded (done a y)) h g u v = absurd (g .2 (h .2))
-line-same ms n closed since t st (lineEnded (control s x)) (lineEnded (control a y)) h g u v = cc
-line-same ms n closed since t st (lineEnded (control s x)) (lineEnded (refused r)) h g u v = absurd (g .1 (h .2))
-line-same ms n closed since t st (lineEnded (control s x)) (passed y k) h g u v = absurd (g .0 .plain (h .2))
-line-same ms n closed since t st (lineEnded (refused r)) (lineEnded (done a y)) h g u v = absurd (g .3 (h .2 .0) (h .2 .1) (h .2 .2))
-line-same ms n closed since t st (lineEnded (refused r)) (lineEnded (control a y)) h g u v = absurd (h .1 (g .2))
-line-same ms n closed since t st (lineEnded (refused r)) (lineEnded (refused s)) h g u v = cc
-line-same ms n closed since t st (lineEnded (refused r)) (passed y k) h g u v = absurd (spent-all n r y k (h .0) u v)
-line-same ms n closed since t st (passed x l) (lineEnded (done a y)) h g u v = absurd (g .3 (x .which .number) (x .which .macro) (h .0 .due))
-line-same ms n closed since t st (passed x l) (lineEnded (control a y)) h g u v = absurd (h .0 .plain (g .2))
-line-same ms n closed since t st (passed x l) (lineEnded (refused r)) h g u v = absurd (spent-all n r x l (g .0) v u)
-line-same ms n closed since t st (passed x l) (passed y k) h g u v =
+-- 36 comes behind a pass only, and not where the line goes on
+not-36 : (ms : Table) (closed since : List ℕ) (t : List ℕ) (st : State) (l : Line) → Passes ms closed since t st l → l ≡ lineEnded (refused traceTooLong) → ⊥
+not-36 ms closed since t st (lineEnded (refused r)) h e = let a = h .0 in let z : _≡_ {A = ℕ} 0 1 = cc in omega arith
+not-36 ms closed since t st (lineEnded (done s x)) h e = let z : _≡_ {A = ℕ} 0 1 = cc in omega arith
+not-36 ms closed since t st (lineEnded (control s x)) h e = let z : _≡_ {A = ℕ} 0 1 = cc in omega arith
+not-36 ms closed since t st (passed x l) h e = let z : _≡_ {A = ℕ} 0 1 = cc in omega arith
+
+-- the line behind a pass goes on, so the lines of that pass fit
+traces-rest : (f n : ℕ) (x : Pass) (l : Line) → (l ≡ lineEnded (refused traceTooLong) → ⊥) → FitsIf f n (passed x l) → FitsIf f (n - length (linesOf x)) l
+traces-rest zero n x l e h = h
+traces-rest (suc f) n x l e h = either (fits-lines n x l h) (λ u. u .1) (λ u. absurd (e (u .1)))
+
+-- the trace says whether 36 comes behind a pass
+traces-both : (f n : ℕ) (x : Pass) (l k : Line) → (l ≡ lineEnded (refused traceTooLong) → ⊥) → k ≡ lineEnded (refused traceTooLong) → FitsIf f n (passed x l) → FitsIf f n (passed x k) → ⊥
+traces-both zero n x l k e q h g = g (ap endOfLine q)
+traces-both (suc f) n x l k e q h g =
+    either (fits-lines n x k g) (λ u. subst (TraceFits (n - length (linesOf x))) q (u .1) refl)
+    (λ u. either (fits-lines n x l h) (λ v. let a = v .0 in let b = u .0 in omega arith) (λ v. e (v .1)))
+
+-- what is left of the budget, and of the trace
+record Bound (f n room : ℕ) (l : Line) : Type 0 where
+  spent : Spent n l
+  traces : FitsIf f room l
+
+line-same : (ms : Table) (f n room : ℕ) (closed since : List ℕ) (t : List ℕ) (st : State) (l k : Line) → Passes ms closed since t st l → Passes ms closed since t st k
+    → Bound f n room l → Bound f n room k → l ≡ k
+line-same ms f n room closed since t st (lineEnded (done s x)) (lineEnded (done a y)) h g u v = cc
+line-same ms f n room closed since t st (lineEnded (done s x)) (lineEnded (control a y)) h g u v = absurd (h .2 (g .2))
+line-same ms f n room closed since t st (lineEnded (done s x)) (lineEnded (refused r)) h g u v = absurd (h .3 (g .2 .0) (g .2 .1) (g .2 .2))
+line-same ms f n room closed since t st (lineEnded (done s x)) (passed y k) h g u v = absurd (h .3 (y .which .number) (y .which .macro) (g .0 .due))
+line-same ms f n room closed since t st (lineEnded (control s x)) (lineEnded (done a y)) h g u v = absurd (g .2 (h .2))
+line-same ms f n room closed since t st (lineEnded (control s x)) (lineEnded (control a y)) h g u v = cc
+line-same ms f n room closed since t st (lineEnded (control s x)) (lineEnded (refused r)) h g u v = absurd (g .1 (h .2))
+line-same ms f n room closed since t st (lineEnded (control s x)) (passed y k) h g u v = absurd (g .0 .plain (h .2))
+line-same ms f n room closed since t st (lineEnded (refused r)) (lineEnded (done a y)) h g u v = absurd (g .3 (h .2 .0) (h .2 .1) (h .2 .2))
+line-same ms f n room closed since t st (lineEnded (refused r)) (lineEnded (control a y)) h g u v = absurd (h .1 (g .2))
+line-same ms f n room closed since t st (lineEnded (refused r)) (lineEnded (refused s)) h g u v = cc
+line-same ms f n room closed since t st (lineEnded (refused r)) (passed y k) h g u v = absurd (spent-all n r y k (h .0) (u .spent) (v .spent))
+line-same ms f n room closed since t st (passed x l) (lineEnded (done a y)) h g u v = absurd (g .3 (x .which .number) (x .which .macro) (h .0 .due))
+line-same ms f n room closed since t st (passed x l) (lineEnded (control a y)) h g u v = absurd (h .0 .plain (g .2))
+line-same ms f n room closed since t st (passed x l) (lineEnded (refused r)) h g u v = absurd (spent-all n r x l (g .0) (v .spent) (u .spent))
+line-same ms f n room closed since t st (passed x l) (passed y k) h g u v =
     let e : x ≡ y = pass-same ms closed since t st x y (h .0) (g .0) in
     let z = subst (λ (a : Pass). Passes ms closed since t st (passed a k)) (sym e) g in
-    let i : l ≡ k =
-    either (h .1)
+    let w : Bound f n room (passed x k) = subst (λ (a : Pass). Bound f n room (passed a k)) (sym e) v in
+    let i : l ≡ k = either (h .1)
+    (λ a.
+    let no = not-36 ms (closedAfter x closed) (sinceAfter x since) (newLine (a .0)) (a .0 .state) l (a .2) in
+    either (z .1)
+    (λ b.
+    let p = subst (λ (c : Work). Passes ms (closedAfter x closed) (sinceAfter x since) (newLine c) (c .state) k) (ends-same (x .events) (b .0) (a .0) (b .1) (a .1)) (b .2) in
+    let nk = not-36 ms (closedAfter x closed) (sinceAfter x since) (newLine (a .0)) (a .0 .state) k p in
+    line-same ms f (n - 1) (room - length (linesOf x)) (closedAfter x closed) (sinceAfter x since) (newLine (a .0)) (a .0 .state) l k (a .2) p
+    (record { spent = spent-rest n x l (u .spent); traces = traces-rest f room x l no (u .traces) })
+    (record { spent = spent-rest n x k (w .spent); traces = traces-rest f room x k nk (w .traces) }))
+    (λ b. either b (λ c. absurd (ends-fails (x .events) (a .0) (c .0) (c .1) (a .1) (c .2)))
+    (λ c. absurd (traces-both f room x l k no (c .2) (u .traces) (w .traces)))))
+    (λ a. either a
+    (λ a. either (z .1) (λ b. absurd (ends-fails (x .events) (b .0) (a .0) (a .1) (b .1) (a .2)))
+    (λ b. either b
+    (λ b. a .3 ∙ ap (λ (r : WorkRefusal). lineEnded (refused r)) (fails-same (x .events) (a .0) (a .1) (b .0) (b .1) (a .2) (b .2)) ∙ sym (b .3))
+    (λ b. absurd (ends-fails (x .events) (b .0) (a .0) (a .1) (b .1) (a .2)))))
     (λ a. either (z .1)
-    (λ b. line-same ms (n - 1) (closedAfter x closed) (sinceAfter x since) (newLine (a .0)) (a .0 .state) l k (a .2)
-    (subst (λ (c : Work). Passes ms (closedAfter x closed) (sinceAfter x since) (newLine c) (c .state) k) (ends-same (x .events) (b .0) (a .0) (b .1) (a .1)) (b .2))
-    (spent-rest n x l u) (spent-rest n y k v))
-    (λ b. absurd (ends-fails (x .events) (a .0) (b .0) (b .1) (a .1) (b .2))))
-    (λ a. either (z .1)
-    (λ b. absurd (ends-fails (x .events) (b .0) (a .0) (a .1) (b .1) (a .2)))
-    (λ b. a .4 ∙ ap (λ (r : WorkRefusal). lineEnded (refused r)) (fails-same (x .events) (a .0) (a .1) (b .0) (b .1) (a .2) (b .2)) ∙ sym (b .4))) in
+    (λ b.
+    let nk = not-36 ms (closedAfter x closed) (sinceAfter x since) (newLine (b .0)) (b .0 .state) k (b .2) in
+    absurd (traces-both f room x k l nk (a .2) (w .traces) (u .traces)))
+    (λ b. either b (λ b. absurd (ends-fails (x .events) (a .0) (b .0) (b .1) (a .1) (b .2))) (λ b. a .2 ∙ sym (b .2))))) in
     ap (λ (a : Pass). passed a l) e ∙ ap (passed y) i
 
 -- THE LAW
 pub one-line : OneLine
 one-line ms st sent l k h g =
-    line-same ms (sent .budget) [] [] (sent .line) st l k (h .passes) (g .passes) (record { within = h .within; usedUp = h .usedUp }) (record { within = g .within; usedUp = g .usedUp })
+    line-same ms (st .trace) (sent .budget) mostTraceBytes [] [] (sent .line) st l k (h .passes) (g .passes)
+    (record { spent = record { within = h .within; usedUp = h .usedUp }; traces = h .traces })
+    (record { spent = record { within = g .within; usedUp = g .usedUp }; traces = g .traces })

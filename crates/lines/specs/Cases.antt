@@ -24,8 +24,9 @@ use Rattle.lines.specs.Pass.{barred, unlessBarred, counting, match, goOn
 use Rattle.lines.specs.Pass.{occurred, outcome}
 use Rattle.lines.specs.Line.{Sent, isIn, unlessClosed, openFrom, newestFirst, closing as closingMacro, closedBy, isControl, due}
 use Rattle.lines.specs.Line.{follow, afterPass, textOf, passes, lineOf, passesOf, hadOccurrence, ending}
+use Rattle.lines.specs.Trace.{traceLine, threeLines, linesIf, linesOf, traceOf, cutAt, isOn, cutIf, historyOf, traceIf}
 use Rattle.lines.specs.Feeding.{Kind, Answer, bytes, same, withTrace, withNflag, flagOrder, macroOrder, orderOf, numberOf, placeOf}
-use Rattle.lines.specs.Feeding.{kindNumber, outputOf, kindOfDone, refusal, ofOrder, answered, answer, hasBadByte, feed, feeds}
+use Rattle.lines.specs.Feeding.{kindNumber, outputOf, kindOfDone, refusal, tracing, ofOrder, answered, answer, hasBadByte, feed, feeds}
 
 -- the name that opens all definitions for a computed case
 unfoldable pub everything : ℕ
@@ -33,9 +34,9 @@ unfolding macrosOpen kindOf freshStack freshCounter fresh stackOf counterOf curr
     width Copies Allowed Satisfies Divides endOf Fewer then more spare repeated isEnd chosen closing tagText unless onto puts put withStack
     withCounter withPointer withValue withIncrement withEntry fallen moves early late stores callActs acts replaces commandsAct occur barred
     unlessBarred counting match goOn matched atEnd onward atByte walk pass occurrences occurred outcome isIn unlessClosed openFrom
-    newestFirst closingMacro closedBy isControl due follow afterPass textOf passes lineOf passesOf hadOccurrence ending same withTrace
-    withNflag flagOrder macroOrder orderOf numberOf placeOf kindNumber outputOf kindOfDone refusal ofOrder answered answer hasBadByte feed
-    feeds
+    newestFirst closingMacro closedBy isControl due follow afterPass textOf passes lineOf passesOf hadOccurrence ending traceLine threeLines
+    linesIf linesOf traceOf cutAt isOn cutIf historyOf traceIf same withTrace withNflag flagOrder macroOrder orderOf numberOf placeOf
+    kindNumber outputOf kindOfDone refusal tracing ofOrder answered answer hasBadByte feed feeds
 everything = 0
 
 -- WHAT A CASE SHOWS

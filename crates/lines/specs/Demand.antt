@@ -18,13 +18,14 @@
 -- "its text and the new table and state"                 | Finished; of a control line Controlled (Controls)
 -- "the number of passes"                                 | Run, number
 -- "fed in turn from a fresh state and any accepted table"| Lines, Demand3; from any state: Resumed
+-- 02, N1: what the trace holds; when 36 comes            | ByKind, WritesTrace; History, traces
 --
 -- Borrowed is what one copy of a unit is (fits, width; contents with digits), what of a state is looked at and how it is changed
 -- (stackOf, counterOf; withPointer, withValue, withIncrement, withEntry), where a division ends (endOf, stops), a tag's text (tagText),
 -- and reading (readOnto). Cases hold all but the last two; TagsRun holds tagText, and crates/macros reading.
--- OneLine needs size [size_free], newest [any_macro_next] and usedUp [any_budget].
+-- OneLine needs size [size_free], newest [any_macro_next], usedUp [any_budget] and traces [trace_free].
 use mathlib.Core.Path.{_≡_}
-use Prim.Native.Nat.{ℕ, suc, _+_, _≤_, _<_}
+use Prim.Native.Nat.{ℕ, zero, suc, _+_, _-_, _≤_, _<_}
 use mathlib.Core.Bool.{Bool, true, false}
 use mathlib.Core.Logic.{_⊎_, _↔_}
 use mathlib.Core.List.{List, [], _∷_, _++_, reverse}
@@ -32,14 +33,15 @@ use mathlib.Core.Option.{Option, none, some}
 use lib.Dec.{eqb}
 use lib.ListN.{length, getElem?}
 use lib.Seq.{slice}
-use Rattle.macros.specs.Bounds.{mostLineBytes, mostBudget}
+use Rattle.macros.specs.Bounds.{mostLineBytes, mostBudget, mostTraceBytes}
 use Rattle.macros.specs.Refusals.{WorkRefusal, Refusal}
 use Rattle.macros.specs.Refusals.Refusal.{ofHost, ofLine, ofFile, ofWork}
 use Rattle.macros.specs.Refusals.HostRefusal.{badMemory, badTable, badState, budgetTooLarge}
 use Rattle.macros.specs.Refusals.LineRefusal.{lineTooLong, badByte, badControl}
-use Rattle.macros.specs.Refusals.WorkRefusal.{budgetUsedUp, newLineTooLong}
+use Rattle.macros.specs.Refusals.WorkRefusal.{budgetUsedUp, newLineTooLong, traceTooLong}
 use Rattle.macros.specs.Macro.{Symbol, Macro, Table, pick}
 use Rattle.macros.specs.Macro.Symbol.{equal, less}
+use Rattle.macros.specs.Write.{digits}
 use Rattle.macros.specs.Accepted.{Accepted}
 use Rattle.lines.specs.State.{State, InRange, fresh}
 use Rattle.lines.specs.Matching.{Division, Divides, Fewer, endOf}
@@ -51,7 +53,7 @@ use Rattle.lines.specs.Pass.Walk.{ended, occurs}
 use Rattle.lines.specs.Line.{Sent, Pass, Ending, Line}
 use Rattle.lines.specs.Line.Ending.{refused, done, control}
 use Rattle.lines.specs.Line.{Line.ended as lineEnded, Line.passed as passed}
-use Rattle.lines.specs.Feeding.{Kind, Answer, feeds}
+use Rattle.lines.specs.Feeding.{Kind, Answer, bytes, feeds}
 use Rattle.lines.specs.Feeding.Kind.{refusedWith, out, withheld, controlled}
 use Rattle.lines.specs.Steps.{newLine, Copied, stepsOf, Acts, Breaks}
 use Rattle.lines.specs.Controls.{Ordered, Misordered}
@@ -211,11 +213,13 @@ sinceAfter x since = pick (occurred (x .events)) [] (x .which .number ∷ since)
 
 -- the passes, and then the line's end, from the text t and the state st on
 abbrev pub Passes : Table → (closed since : List ℕ) → List ℕ → State → Line → Type 0
--- a pass, and then the line from the text and the state that it makes; or else the pass is refused, with 32 to 35, and the line with it
+-- a pass, and then the line from the text and the state that it makes; or else the pass is refused, with 32 to 35, and the line with it;
+-- or 36 "shows at that pass's end" (02, N1): whether it does, says traces of History
 Passes ms closed since t st (passed x l) =
     PassHolds ms closed since t st x
     × (((v : Work) × EndsIn (x .events) v × Passes ms (closedAfter x closed) (sinceAfter x since) (newLine v) (v .state) l)
-    ⊎ ((r : WorkRefusal) × (v : Work) × FailsIn (x .events) r v × (r ≡ budgetUsedUp → ⊥) × (l ≡ lineEnded (refused r))))
+    ⊎ ((r : WorkRefusal) × (v : Work) × FailsIn (x .events) r v × (l ≡ lineEnded (refused r)))
+    ⊎ ((v : Work) × EndsIn (x .events) v × (l ≡ lineEnded (refused traceTooLong))))
 -- "The line is done when every open macro has passed without one since the line's last occurrence" (01, part 6)
 Passes ms closed since t st (lineEnded (done s x)) =
     (s ≡ t) × (x ≡ st) × (Dollar t → ⊥) × ((i : ℕ) (m : Macro) → Due ms closed since i m → ⊥)
@@ -262,6 +266,42 @@ pub record Fits (sent : Sent) : Type 0 where
   pub short : length (sent .line) ≤ mostLineBytes
   pub clean : HasBadByte (sent .line) → ⊥
 
+-- THE TRACE OF A LINE (02, N1)
+
+-- the lines that the pass x writes
+pub record Tells (x : Pass) (s : List ℕ) : Type 0 where
+  -- "each pass with an occurrence gives three lines", the text before it, "the macro's number, oldest 1", and the text after it
+  pub three :
+      (v : Work) → occurred (x .events) ≡ true → EndsIn (x .events) v
+      → s
+      ≡ bytes "oldline:" ++ x .text ++ bytes "\nmacro #:" ++ digits (suc (x .which .number)) ++ bytes "\nnewline:" ++ newLine v ++ bytes "\n"
+  -- "and no other"
+  pub without : occurred (x .events) ≡ false → s ≡ []
+  -- a pass that is refused has no text after it, and its line no trace
+  pub refused : (r : WorkRefusal) (v : Work) → FailsIn (x .events) r v → s ≡ []
+
+-- the lines of each pass fit, room bytes being left for them; or "the three lines of a pass do not fit", and the line ends with 36
+abbrev pub TraceFits : (room : ℕ) → Line → Type 0
+TraceFits room (lineEnded e) = e ≡ refused traceTooLong → ⊥
+TraceFits room (passed x l) =
+    (s : List ℕ) × Tells x s
+    × (((length s ≤ room) × TraceFits (room - length s) l) ⊎ ((room < length s) × (l ≡ lineEnded (refused traceTooLong))))
+
+-- by the flag TRACE "when the line comes": without a trace 36 does not come
+abbrev pub FitsIf : (flag room : ℕ) → Line → Type 0
+FitsIf zero room l = endOfLine l ≡ refused traceTooLong → ⊥
+FitsIf (suc n) room l = TraceFits room l
+
+-- the line's trace: "every such pass of the line, in order, and no other"
+abbrev pub TraceIs : Line → List ℕ → Type 0
+TraceIs (lineEnded e) t = t ≡ []
+TraceIs (passed x l) t = (s : List ℕ) × (rest : List ℕ) × Tells x s × TraceIs l rest × (t ≡ s ++ rest)
+
+-- what a line that is taken writes: its trace, or nothing "With TRACE 0 when the line comes" [trace_flag_at_end]
+abbrev pub WritesTrace : (flag : ℕ) → Line → Option (List ℕ) → Type 0
+WritesTrace zero l text = text ≡ none
+WritesTrace (suc n) l text = (t : List ℕ) × TraceIs l t × (text ≡ some t)
+
 -- the history of a line that nothing refuses before its passes
 pub record History (ms : Table) (st : State) (sent : Sent) (l : Line) : Type 0 where
   pub fits : Fits sent
@@ -269,6 +309,8 @@ pub record History (ms : Table) (st : State) (sent : Sent) (l : Line) : Type 0 w
   -- "Each pass costs one of the budget" (01, part 6), and 31 says that it is used up [budget_off_by_one, budget_one_short]
   pub within : passCount l ≤ sent .budget
   pub usedUp : endOfLine l ≡ refused budgetUsedUp → passCount l ≡ sent .budget
+  -- 36 comes at the first pass whose lines do not fit behind those before, and only there (02, N1) [trace_one_more]
+  pub traces : FitsIf (st .trace) mostTraceBytes l
 
 -- its history, and "the answer carries the number of passes", also where it is refused [passes_not_counted, refused_passes_0]
 pub record Run (ms : Table) (st : State) (sent : Sent) (l : Line) (a : Answer) : Type 0 where
@@ -312,18 +354,21 @@ Reason ms st sent l a (ofLine badByte) =
 -- 23, and 10 to 19 with their place: "Later, of a control line", behind its passes
 Reason ms st sent l a (ofLine badControl) = Run ms st sent l a × ((s : List ℕ) × (x : State) × Miscontrolled ms l (ofLine badControl) s x)
 Reason ms st sent l a (ofFile r p) = Run ms st sent l a × ((s : List ℕ) × (x : State) × Miscontrolled ms l (ofFile r p) s x)
--- 31: by usedUp of History the passes are the budget, by Passes another one is due; 32 to 35: its last pass is refused so, by Walks
+-- 31: by usedUp of History the passes are the budget, by Passes another one is due; 32 to 35: its last pass is refused so, by Walks;
+-- 36: by traces of History
 Reason ms st sent l a (ofWork r) = Run ms st sent l a × (endOfLine l ≡ refused r)
 
 -- what holds of a line and its answer, by the answer's kind
 abbrev pub ByKind : Table → State → Sent → Line → Answer → Kind → Type 0
--- "a refused line leaves table, state and output as they were" (a refusal has no output) [refused_line_keeps_state]
-ByKind ms st sent l a (refusedWith r) = (a .table ≡ ms) × (a .state ≡ st) × Reason ms st sent l a r
+-- "a refused line leaves table, state and output as they were" (a refusal has no output) [refused_line_keeps_state], and the trace
+-- [trace_of_refused]
+ByKind ms st sent l a (refusedWith r) = (a .table ≡ ms) × (a .state ≡ st) × Reason ms st sent l a r × (a .traceText ≡ none)
 -- "If it goes out or is withheld"
-ByKind ms st sent l a (out s) = Run ms st sent l a × Finished ms l a s
-ByKind ms st sent l a withheld = Run ms st sent l a × ((s : List ℕ) × Finished ms l a s)
+ByKind ms st sent l a (out s) = Run ms st sent l a × Finished ms l a s × WritesTrace (st .trace) l (a .traceText)
+ByKind ms st sent l a withheld = Run ms st sent l a × ((s : List ℕ) × Finished ms l a s) × WritesTrace (st .trace) l (a .traceText)
 -- or is a control line
-ByKind ms st sent l a controlled = Run ms st sent l a × ((s : List ℕ) × (x : State) × Controlled ms l a s x)
+ByKind ms st sent l a controlled =
+    Run ms st sent l a × ((s : List ℕ) × (x : State) × Controlled ms l a s x) × WritesTrace (st .trace) l (a .traceText)
 
 -- "The passes and replacements meant are those by which 01's rules make the line's answer": some history's, and by OneLine no other's
 abbrev pub LineHolds : Table → State → Sent → Answer → Type 0

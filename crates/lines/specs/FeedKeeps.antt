@@ -4,8 +4,9 @@ use Prim.Native.Nat.{ℕ, _≤_}
 use mathlib.Core.Path.{_≡_}
 use mathlib.Core.Logic.{_⊎_}
 use mathlib.Core.List.{List, [], _∷_}
+use mathlib.Core.Option.{some}
 use lib.ListN.{length}
-use Rattle.macros.specs.Bounds.{mostLineBytes}
+use Rattle.macros.specs.Bounds.{mostLineBytes, mostTraceBytes}
 use Rattle.macros.specs.Refusals.{Refusal}
 use Rattle.macros.specs.Macro.{Table}
 use Rattle.macros.specs.Formed.{Between, Bytes, Octets}
@@ -23,7 +24,7 @@ Placed n = Between 10 19 n
 -- not 10 or 11: a control line has at most 1,054 bytes, and none is 0; not 1, 2 or 3, which are about memories: here the table is accepted
 -- and the state in range
 abbrev pub Number : ℕ → Type 0
-Number n = (n ≡ 0) ⊎ (n ≡ 4) ⊎ Between 12 19 n ⊎ Between 21 23 n ⊎ Between 31 35 n
+Number n = (n ≡ 0) ⊎ (n ≡ 4) ⊎ Between 12 19 n ⊎ Between 21 23 n ⊎ Between 31 36 n
 
 -- the answer a to a line that was fed to the table ms and the state st
 pub record Kept (ms : Table) (st : State) (sent : Sent) (a : Answer) : Type 0 where
@@ -35,6 +36,8 @@ pub record Kept (ms : Table) (st : State) (sent : Sent) (a : Answer) : Type 0 wh
   pub fits : length (outputOf (a .kind)) ≤ mostLineBytes
   -- and none of them is 0
   pub bytes : Bytes (outputOf (a .kind))
+  -- the trace that it writes has at most 65,536 bytes (02, N1) [trace_one_more]
+  pub trace : (s : List ℕ) → a .traceText ≡ some s → length s ≤ mostTraceBytes
   -- the passes are at most the budget [budget_off_by_one]
   pub passes : a .passes ≤ sent .budget
   -- a refused line leaves table and state as they were [refused_line_keeps_state]

@@ -2,23 +2,23 @@
 use Prim.Native.Nat.{ℕ, zero, suc}
 use mathlib.Core.Bool.{Bool, true, false, _||_}
 use mathlib.Core.List.{List, [], _∷_}
+use mathlib.Core.Option.{Option, none}
 use lib.Dec.{leb, eqb}
 use lib.ListN.{length, drop}
-use Prim.Native.String.{String}
-use Prim.Native.String as Str
-use Prim.Native.Char.{code}
 use Rattle.macros.specs.Bounds.{mostLineBytes, mostBudget}
 use Rattle.macros.specs.Refusals.{Refusal, number, place}
 use Rattle.macros.specs.Refusals.Refusal.{ofHost, ofLine, ofFile, ofWork}
 use Rattle.macros.specs.Refusals.HostRefusal.{budgetTooLarge}
 use Rattle.macros.specs.Refusals.LineRefusal.{lineTooLong, badByte, badControl}
 use Rattle.macros.specs.Macro.{Table, pick}
+pub use Rattle.macros.specs.Quoted.{bytes}
 use Rattle.macros.specs.Read.{Read, readOnto}
 use Rattle.macros.specs.ReadFile.Read.{refusedAt, table}
 use Rattle.lines.specs.State.{State}
 use Rattle.lines.specs.Matching.{begins}
-use Rattle.lines.specs.Line.{Sent, Ending, Line, passesOf, hadOccurrence, ending, lineOf}
+use Rattle.lines.specs.Line.{Sent, Pass, Ending, Line, passesOf, hadOccurrence, ending}
 use Rattle.lines.specs.Line.Ending.{refused, done, control}
+use Rattle.lines.specs.Trace.{isOn, historyOf, traceIf}
 
 -- CONTROL LINES
 
@@ -26,10 +26,6 @@ use Rattle.lines.specs.Line.Ending.{refused, done, control}
 pub data Order : Type 0 where
   wrong : Refusal → Order
   orders : Table → State → Order
-
-abbrev pub bytes : String → List ℕ
-bytes Str.[] = []
-bytes (Str._∷_ c s) = code c ∷ bytes s
 
 unfoldable pub same : List ℕ → List ℕ → Bool
 same [] [] = true
@@ -72,12 +68,13 @@ pub data Kind : Type 0 where
   out : List ℕ → Kind
   withheld controlled : Kind
 
--- a line's answer, with the table and the state after it
+-- a line's answer, with the table and the state after it; and the trace that it writes, if it writes one (02, N1)
 pub record Answer : Type 0 where
   pub kind : Kind
   pub passes : ℕ
   pub table : Table
   pub state : State
+  pub traceText : Option (List ℕ)
 
 -- 01's number, 0 if the line is taken
 unfoldable pub numberOf : Kind → ℕ
@@ -112,22 +109,30 @@ kindOfDone zero o t = out t
 kindOfDone (suc n) true t = out t
 kindOfDone (suc n) false t = withheld
 
--- a refusal after n passes begun leaves table and state
+-- a refusal after n passes begun leaves table and state, and writes no trace
 unfoldable pub refusal : Table → State → ℕ → Refusal → Answer
-refusal ms old n r = record { kind = refusedWith r; passes = n; table = ms; state = old }
+refusal ms old n r = record { kind = refusedWith r; passes = n; table = ms; state = old; traceText = none }
 
-unfoldable pub ofOrder : Table → State → ℕ → Order → Answer
-ofOrder ms old n (wrong r) = refusal ms old n r
-ofOrder ms old n (orders ks st) = record { kind = controlled; passes = n; table = ks; state = st }
+-- the trace of the passes xs, by the flag "when the line comes" (02, N1)
+unfoldable pub tracing : State → List Pass → Option (List ℕ)
+tracing old xs = traceIf (isOn (old .trace)) xs
 
--- the answer that a line's history makes
-unfoldable pub answered : Table → State → ℕ → Bool → Ending → Answer
-answered ms old n o (refused r) = refusal ms old n (ofWork r)
-answered ms old n o (done t st) = record { kind = kindOfDone (st .nflag) o t; passes = n; table = ms; state = st }
-answered ms old n o (control t st) = ofOrder ms old n (orderOf ms st t)
+-- the answer to a control line behind the passes xs
+unfoldable pub ofOrder : Table → State → List Pass → Order → Answer
+ofOrder ms old xs (wrong r) = refusal ms old (length xs) r
+ofOrder ms old xs (orders ks st) = record { kind = controlled; passes = length xs; table = ks; state = st; traceText = tracing old xs }
 
+-- the answer that a line's history makes: of its passes and its end
+unfoldable pub answered : Table → State → List Pass → Ending → Answer
+answered ms old xs (refused r) = refusal ms old (length xs) (ofWork r)
+answered ms old xs (done t st) =
+    let k : Kind = kindOfDone (st .nflag) (hadOccurrence xs) t in
+    record { kind = k; passes = length xs; table = ms; state = st; traceText = tracing old xs }
+answered ms old xs (control t st) = ofOrder ms old xs (orderOf ms st t)
+
+-- the answer to a line with the history l
 unfoldable pub answer : Table → State → Line → Answer
-answer ms old l = answered ms old (length (passesOf l)) (hadOccurrence (passesOf l)) (ending l)
+answer ms old l = answered ms old (passesOf l) (ending l)
 
 -- FEEDING
 
@@ -145,7 +150,7 @@ feed ms st sent =
         | false ↦ refusal ms st 0 (ofLine lineTooLong)
         | true ↦ elim (hasBadByte (sent .line)) [
           | true ↦ refusal ms st 0 (ofLine badByte)
-          | false ↦ answer ms st (lineOf ms st sent)
+          | false ↦ answer ms st (historyOf ms st sent)
         ]
       ]
     ]

@@ -4,14 +4,14 @@ use Prim.Native.Nat.{ℕ, _≤_, _<_}
 use mathlib.Core.Path.{_≡_}
 use mathlib.Core.Logic.{_↔_}
 use mathlib.Core.List.{[]}
-use Rattle.macros.specs.Bounds.{mostBudget}
+use Rattle.macros.specs.Bounds.{mostBudget, mostTraceBytes}
 use Rattle.macros.specs.Refusals.WorkRefusal.{budgetUsedUp}
 use Rattle.macros.specs.Macro.{Table}
 use Rattle.lines.specs.State.{State}
 use Rattle.lines.specs.Line.{Sent, Line}
 use Rattle.lines.specs.Line.Ending.{refused}
 use Rattle.lines.specs.Feeding.{Answer, numberOf, feed}
-use Rattle.lines.specs.Demand.{Fits, Passes, passCount, endOfLine}
+use Rattle.lines.specs.Demand.{Fits, Passes, passCount, endOfLine, FitsIf}
 
 -- the line that is sent, with another budget and all else the same
 abbrev pub withBudget : ℕ → Sent → Sent
@@ -21,8 +21,8 @@ withBudget n sent = record { line = sent .line; budget = n }
 abbrev pub Settled : Answer → Type 0
 Settled a = (numberOf (a .kind) ≡ 4 → ⊥) × (numberOf (a .kind) ≡ 31 → ⊥)
 
--- THE LAW: such an answer "is also the answer under every larger budget up to 1,000,000, with passes, output, table and state,
--- for refusals as much as for lines" [budget_as_passes, largest_budget_oldest_first]
+-- THE LAW: such an answer "is also the answer under every larger budget up to 1,000,000, with passes, output, table and state",
+-- and with the trace (02, N1), "for refusals as much as for lines" [budget_as_passes, largest_budget_oldest_first]
 abbrev pub LargerBudget : Type 0
 LargerBudget =
     (ms : Table) (st : State) (sent : Sent) → Settled (feed ms st sent)
@@ -47,6 +47,8 @@ pub record StillDue (ms : Table) (st : State) (sent : Sent) : Type 0 where
   pub passes : Passes ms [] [] (sent .line) st history
   pub begun : passCount history ≡ sent .budget
   pub due : endOfLine history ≡ refused budgetUsedUp
+  -- and the lines of its passes fit in the trace (02, N1)
+  pub traces : FitsIf (st .trace) mostTraceBytes history
 
 -- THE LAW: 31 comes exactly then [done_is_31, budget_one_short]
 abbrev pub UsedUpExact : Type 0

@@ -4,6 +4,7 @@ pub mod Choosing
 pub mod Replacing
 pub mod Pass
 pub mod Line
+pub mod Trace
 pub mod Feeding
 pub mod Choice
 pub mod Tags
@@ -19,3 +20,4 @@ pub mod LargerBudget
 pub mod TagsAtWork
 pub mod Cases
 pub mod LineCases
+pub mod TraceCases

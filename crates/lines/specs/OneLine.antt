@@ -11,7 +11,7 @@ use Rattle.lines.specs.Demand.{History, LineHolds, Lines}
 abbrev pub OneLine : Type 0
 OneLine = (ms : Table) (st : State) (sent : Sent) (l k : Line) → History ms st sent l → History ms st sent k → l ≡ k
 
--- THE LAW: two answers to a line of which the demand holds are the same: kind, passes, table and state
+-- THE LAW: two answers to a line of which the demand holds are the same: kind, passes, table, state and trace
 abbrev pub OneAnswer : Type 0
 OneAnswer = (ms : Table) (st : State) (sent : Sent) (a b : Answer) → LineHolds ms st sent a → LineHolds ms st sent b → a ≡ b
 

@@ -18,7 +18,8 @@ use Rattle.macros.specs.ReadFile.Read.{refusedAt, table}
 use Rattle.macros.specs.Accepted.{Accepted}
 use Rattle.lines.specs.State.{State, InRange}
 use Rattle.lines.specs.Matching.{begins}
-use Rattle.lines.specs.Line.{Sent, Ending, passesOf, hadOccurrence, ending, lineOf}
+use Rattle.lines.specs.Line.{Sent, Pass, Ending, passesOf, hadOccurrence, ending}
+use Rattle.lines.specs.Trace.{historyOf}
 use Rattle.lines.specs.Line.Ending.{refused, done, control}
 use Rattle.lines.specs.Feeding.{Order, Answer, bytes, flagOrder, macroOrder, orderOf, placeOf, kindOfDone, refusal, ofOrder, answered, answer, hasBadByte, feed}
 use Rattle.lines.specs.Feeding.Order.{wrong, orders}
@@ -55,10 +56,10 @@ abbrev InFile : Answer → Type 0
 InFile a = placeOf (a .kind) ≤ mostFileBytes
 
 module _ (ms : Table) (st : State) where
-  ruled-place : (n : ℕ) (o : Order) → Near o → InFile (ofOrder ms st n o)
+  ruled-place : (xs : List Pass) (o : Order) → Near o → InFile (ofOrder ms st xs o)
   unfolding ofOrder orderPlace refusal placeOf
-  ruled-place n (wrong r) h = h
-  ruled-place n (orders ks s) h = omega arith
+  ruled-place xs (wrong r) h = h
+  ruled-place xs (orders ks s) h = omega arith
 
   done-place : (f : ℕ) (o : Bool) (t : List ℕ) → placeOf (kindOfDone f o t) ≤ mostFileBytes
   unfolding kindOfDone placeOf
@@ -66,11 +67,11 @@ module _ (ms : Table) (st : State) where
   done-place (suc f) true t = omega arith
   done-place (suc f) false t = omega arith
 
-  answered-place : (n : ℕ) (o : Bool) (e : Ending) → InFile (answered ms st n o e)
+  answered-place : (xs : List Pass) (e : Ending) → InFile (answered ms st xs e)
   unfolding answered refusal placeOf place
-  answered-place n o (refused r) = omega arith
-  answered-place n o (done t s) = done-place (s .nflag) o t
-  answered-place n o (control t s) = ruled-place n (orderOf ms s t) (order-near ms s t)
+  answered-place xs (refused r) = omega arith
+  answered-place xs (done t s) = done-place (s .nflag) (hadOccurrence xs) t
+  answered-place xs (control t s) = ruled-place xs (orderOf ms s t) (order-near ms s t)
 
   pub feed-place : (sent : Sent) → placeOf (feed ms st sent .kind) ≤ mostFileBytes
   unfolding feed answer refusal placeOf place
@@ -78,7 +79,7 @@ module _ (ms : Table) (st : State) where
       by-elim InFile (leb (sent .budget) mostBudget) _ _
       (λ e. by-elim InFile (leb (length (sent .line)) mostLineBytes) _ _
       (λ f. by-elim InFile (hasBadByte (sent .line)) _ _ (λ g. omega arith)
-      (λ g. answered-place (length (passesOf (lineOf ms st sent))) (hadOccurrence (passesOf (lineOf ms st sent))) (ending (lineOf ms st sent))))
+      (λ g. answered-place (passesOf (historyOf ms st sent)) (ending (historyOf ms st sent))))
       (λ f. omega arith))
       (λ e. omega arith)
 

@@ -7,13 +7,13 @@ use native.Mathlib.Omega.{arith}
 use borrow.Author.Tests.{eq-eqb, ne-eqb, eqb-true}
 use lib.Dec.{eqb}
 use lib.ListN.{length}
-use Rattle.macros.specs.Bounds.{mostLineBytes}
+use Rattle.macros.specs.Bounds.{mostLineBytes, mostTraceBytes}
 use Rattle.macros.specs.Refusals.{number, hostNumber}
 use Rattle.macros.specs.Macro.{Table, pick}
 use Rattle.macros.specs.Formed.{Octets}
 use Rattle.form_table.specs.Form.{tableBytes}
 use Rattle.form_table.specs.Check.{checks}
-use Rattle.form_table.proofs.Basics.{clash, and-right}
+use Rattle.form_table.proofs.Basics.{clash, and-left, and-right}
 use Rattle.form_table.proofs.Tables.{checkExact}
 use Rattle.lines.specs.Line.{Sent}
 use Rattle.lines.specs.Feeding.{Kind, numberOf, placeOf, kindNumber, feed}
@@ -24,7 +24,7 @@ use Rattle.form_state.specs.Check.{stateChecks}
 use Rattle.form_state.proofs.Decode.{state-check-exact}
 use Rattle.form_state.proofs.Held.{passed-is}
 use Rattle.line_memory.specs.Memory.{Memories, Feeding, IsTable}
-use Rattle.line_feed.specs.Contract.{Lent, Answers}
+use Rattle.line_feed.specs.Contract.{Untraced, Lent, Answers}
 use Rattle.line_answer.specs.Fed.{kindOf, passesOf, sizeOf}
 use Rattle.line_feed.specs.Contract.{Feeds as FeedsLine}
 use Rattle.line_answer.specs.declared.Fed.{Fed}
@@ -55,7 +55,7 @@ place-any (Withheld p) o = refl
 place-any (Control p) o = refl
 place-any (Refused w p) o = refl
 
-module _ {a : Answered} {m m′ : Memories} {r : Fed} (h : Answers a m m′ r) where
+module _ {a : Answered} {m m′ : Untraced} {r : Fed} (h : Answers a m m′ r) where
   told-is : told r ≡ answerOf a
   unfolding answerOf
   told-is =
@@ -116,12 +116,20 @@ module _ (sent : Sent) (m : Memories) where
           }
 
       module _ (v : stateChecks (m .state) ≡ true) where
+        last-two : (eqb (length (m .output)) mostLineBytes && eqb (length (m .trace)) mostTraceBytes) ≡ true
+        unfolding sizedToFeed
+        last-two = and-right (eqb (length (m .state)) stateBytes) _ (and-right (eqb (length (m .table)) tableBytes) _ all-sized)
+
         room : length (m .output) ≡ mostLineBytes
         unfolding sizedToFeed
-        room = eqb-true _ _ (and-right (eqb (length (m .state)) stateBytes) _ (and-right (eqb (length (m .table)) tableBytes) _ all-sized))
+        room = eqb-true _ _ (and-left (eqb (length (m .output)) mostLineBytes) _ last-two)
+
+        traceRoom : length (m .trace) ≡ mostTraceBytes
+        unfolding sizedToFeed
+        traceRoom = eqb-true _ _ (and-right (eqb (length (m .output)) mostLineBytes) _ last-two)
 
         lends : Lent m
-        lends = record { table = some-table; state = passed-is (m .state) ob v; room = room }
+        lends = record { own = record { table = some-table; state = passed-is (m .state) ob v; room = room }; room = traceRoom }
 
         module _ {m′ : Memories} {r : Fed} (w : FeedsLine (record { sent = sent; lent = m; left = m′ }) r) where
           small : Octets (sent .line) → Small r
@@ -150,6 +158,7 @@ module _ (sent : Sent) (m : Memories) where
                       tableHolds = d .table;
                       stateHolds = d .state;
                       outputHolds = d .output;
+                      traceHolds = w .traces ms f st s;
                     };
               }
 
@@ -207,15 +216,20 @@ module _ (m : Memories) where
       due-output f = rw (eq-eqb _ _ g, eq-eqb _ _ h, ne-eqb _ _ f) refl
 
       module _ (k : length (m .output) ≡ mostLineBytes) where
-        pub due-none : {y : Bool} → y ≡ checks (m .table) → y ≡ false → 1 ≡ hostRefusal m
+        pub due-trace : (length (m .trace) ≡ mostTraceBytes → ⊥) → 3 ≡ hostRefusal m
         unfolding hostRefusal sizedToFeed pick
-        due-none e f = rw (eq-eqb _ _ g, eq-eqb _ _ h, eq-eqb _ _ k, sym e ∙ f) refl
+        due-trace f = rw (eq-eqb _ _ g, eq-eqb _ _ h, eq-eqb _ _ k, ne-eqb _ _ f) refl
 
-        module _ {y : Bool} (e : y ≡ checks (m .table)) (f : y ≡ true) where
-          pub due-other : {z : Bool} → z ≡ stateChecks (m .state) → z ≡ false → 2 ≡ hostRefusal m
+        module _ (l : length (m .trace) ≡ mostTraceBytes) where
+          pub due-none : {y : Bool} → y ≡ checks (m .table) → y ≡ false → 1 ≡ hostRefusal m
           unfolding hostRefusal sizedToFeed pick
-          due-other i j = rw (eq-eqb _ _ g, eq-eqb _ _ h, eq-eqb _ _ k, sym e ∙ f, sym i ∙ j) refl
+          due-none e f = rw (eq-eqb _ _ g, eq-eqb _ _ h, eq-eqb _ _ k, eq-eqb _ _ l, sym e ∙ f) refl
 
-          pub due-nothing : {z : Bool} → z ≡ stateChecks (m .state) → z ≡ true → 0 ≡ hostRefusal m
-          unfolding hostRefusal sizedToFeed pick
-          due-nothing i j = rw (eq-eqb _ _ g, eq-eqb _ _ h, eq-eqb _ _ k, sym e ∙ f, sym i ∙ j) refl
+          module _ {y : Bool} (e : y ≡ checks (m .table)) (f : y ≡ true) where
+            pub due-other : {z : Bool} → z ≡ stateChecks (m .state) → z ≡ false → 2 ≡ hostRefusal m
+            unfolding hostRefusal sizedToFeed pick
+            due-other i j = rw (eq-eqb _ _ g, eq-eqb _ _ h, eq-eqb _ _ k, eq-eqb _ _ l, sym e ∙ f, sym i ∙ j) refl
+
+            pub due-nothing : {z : Bool} → z ≡ stateChecks (m .state) → z ≡ true → 0 ≡ hostRefusal m
+            unfolding hostRefusal sizedToFeed pick
+            due-nothing i j = rw (eq-eqb _ _ g, eq-eqb _ _ h, eq-eqb _ _ k, eq-eqb _ _ l, sym e ∙ f, sym i ∙ j) refl

@@ -5,7 +5,7 @@ use mathlib.Core.Path.{_≡_}
 use mathlib.Core.Bool.{Bool, true, false, _&&_}
 use lib.Dec.{eqb}
 use lib.ListN.{length}
-use Rattle.macros.specs.Bounds.{mostLineBytes}
+use Rattle.macros.specs.Bounds.{mostLineBytes, mostTraceBytes}
 use Rattle.macros.specs.Refusals.{HostRefusal, number}
 use Rattle.macros.specs.Refusals.Refusal.{ofHost}
 use Rattle.macros.specs.Refusals.HostRefusal.{badMemory, badTable, badState}
@@ -17,7 +17,7 @@ use Rattle.lines.specs.Feeding.{Answer as Answered}
 use Rattle.form_state.specs.Form.{stateBytes}
 use Rattle.form_state.specs.Access.{Holds}
 use Rattle.line_memory.specs.Memory.{Memories, Feeding, IsTable}
-use Rattle.line_feed.specs.Contract.{laidOut}
+use Rattle.line_feed.specs.Contract.{laidOut, tracedOut}
 use Rattle.line_answer.specs.declared.Answer.{Answer}
 
 -- a call: the line that it feeds, with the memories at entry and at exit, and the answer
@@ -35,6 +35,8 @@ pub record Returns (c : Call) (a : Answered) : Type 0 where
   pub tableHolds : IsTable (c .feeding .left .table) (a .table)
   pub stateHolds : Holds (c .feeding .left .state) (a .state)
   pub outputHolds : c .feeding .left .output ≡ laidOut (a .kind) (c .feeding .lent .output)
+  -- 02, N1
+  pub traceHolds : c .feeding .left .trace ≡ tracedOut (a .traceText) (c .feeding .lent .trace)
 
 -- the call returns a host's refusal, and every memory is as it was
 pub record Refuses (c : Call) (r : HostRefusal) : Type 0 where
@@ -43,7 +45,9 @@ pub record Refuses (c : Call) (r : HostRefusal) : Type 0 where
 
 -- the memories have the sizes that the docs state
 unfoldable pub sizedToFeed : Memories → Bool
-sizedToFeed m = eqb (length (m .table)) tableBytes && (eqb (length (m .state)) stateBytes && eqb (length (m .output)) mostLineBytes)
+sizedToFeed m =
+    eqb (length (m .table)) tableBytes
+    && (eqb (length (m .state)) stateBytes && (eqb (length (m .output)) mostLineBytes && eqb (length (m .trace)) mostTraceBytes))
 
 pub record Feeds (c : Call) : Type 0 where
   -- 3, a lent memory of another size

@@ -6,7 +6,7 @@ pub mod looking;
 pub mod read;
 pub mod write;
 
-// The bytes of a table's memory, of a file's to write to, of a state's, and of a line's.
+// The bytes of a table's memory, of a file's to write to, of a state's, of a line's, and of a trace's.
 pub(crate) const TABLE_BYTES: usize = 98304;
 
 pub(crate) const FILE_BYTES: usize = 32768;
@@ -14,3 +14,5 @@ pub(crate) const FILE_BYTES: usize = 32768;
 pub(crate) const STATE_BYTES: usize = 26236;
 
 pub(crate) const LINE_BYTES: usize = 1054;
+
+pub(crate) const TRACE_BYTES: usize = 65536;

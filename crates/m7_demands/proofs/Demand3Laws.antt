@@ -3,13 +3,14 @@ use Prim.Native.Nat.{ℕ}
 use mathlib.Core.Path.{_≡_, refl, sym, ap, subst, _∙_}
 use mathlib.Core.Bool.{Bool, true, false}
 use mathlib.Core.List.{List, [], _∷_}
+use mathlib.Core.Option.{Option}
 use Rattle.macros.specs.Macro.{Table}
 use Rattle.macros.specs.Refusals.{place}
 use Rattle.macros.specs.Refusals.Refusal.{ofHost}
 use Rattle.macros.specs.Refusals.HostRefusal.{badMemory}
 use Rattle.lines.specs.State.{State, fresh}
 use Rattle.form_table.specs.Form.{form}
-use Rattle.lines.specs.Line.{lineOf}
+use Rattle.lines.specs.Trace.{historyOf}
 use Rattle.lines.specs.Feeding.{Kind, feed, refusal, numberOf, placeOf, kindNumber, outputOf}
 use Rattle.lines.specs.Feeding.Kind.{refusedWith, out, withheld, controlled}
 use Rattle.lines.specs.Feeding.{Answer as Answered}
@@ -19,7 +20,7 @@ use Rattle.form_state.specs.Form.{stateForm}
 use Rattle.form_state.specs.Access.{Holds}
 use Rattle.lines.proofs.KeepState.{fresh-in-range}
 use Rattle.line_memory.specs.Memory.{Memories, IsTable}
-use Rattle.line_feed.specs.Contract.{laidOut}
+use Rattle.line_feed.specs.Contract.{laidOut, tracedOut}
 use Rattle.m7.specs.Feeding.{Call, Feeds, Returns, Refuses, sizedToFeed, answerOf}
 use Rattle.m7_demands.specs.Demand3.{InTurn, CallHolds, Keeps, Holds3, Resumed, Demand3}
 use Rattle.m7_demands.proofs.OneFeed.{memories-same}
@@ -43,17 +44,18 @@ module _ (ms : Table) (st : State) (c : Call) (f : IsTable (c .feeding .lent .ta
     number-is k e = ap (λ (a : Answer). a .number) (r .answers) ∙ ap numberOf e
 
     by-kind : (k : Kind) → fed .kind ≡ k → Keeps c
-    unfolding numberOf laidOut
+    unfolding numberOf laidOut tracedOut
     by-kind (refusedWith x) e n =
-        let z = subst (λ (k : Kind). ByKind ms st (c .feeding .sent) (lineOf ms st (c .feeding .sent)) fed k) e (fed-holds ms st (c .feeding .sent)) in
+        let z = subst (λ (k : Kind). ByKind ms st (c .feeding .sent) (historyOf ms st (c .feeding .sent)) fed k) e (fed-holds ms st (c .feeding .sent)) in
         memories-same (c .feeding .left) (c .feeding .lent) (sym (r .tableHolds .form) ∙ (ap form (z .0) ∙ f .form)) (sym (r .stateHolds .form) ∙ (ap stateForm (z .1) ∙ h .form))
         (r .outputHolds ∙ ap (λ (k : Kind). laidOut k (c .feeding .lent .output)) e)
+        (r .traceHolds ∙ ap (λ (t : Option (List ℕ)). tracedOut t (c .feeding .lent .trace)) (z .3))
     by-kind (out t) e n = absurd (n (number-is (out t) e))
     by-kind withheld e n = absurd (n (number-is withheld e))
     by-kind controlled e n = absurd (n (number-is controlled e))
 
 one : (ms : Table) (st : State) (c : Call) → IsTable (c .feeding .lent .table) ms → Holds (c .feeding .lent .state) st → Feeds c → One ms st c
-unfolding refusal answerOf laidOut numberOf placeOf kindNumber outputOf place
+unfolding refusal answerOf laidOut tracedOut numberOf placeOf kindNumber outputOf place
 one ms st c f h k = go (sizedToFeed (c .feeding .lent)) refl
   where
     go : (b : Bool) → sizedToFeed (c .feeding .lent) ≡ b → One ms st c
@@ -62,7 +64,7 @@ one ms st c f h k = go (sizedToFeed (c .feeding .lent)) refl
         let r : Refuses c badMemory = k .otherSize e in
         record {
           answer = refusal ms st 0 (ofHost badMemory);
-          returned = record { answers = r .answer; tableHolds = rw (r .memories) f; stateHolds = rw (r .memories) h; outputHolds = ap (λ (m : Memories). m .output) (r .memories) };
+          returned = record { answers = r .answer; tableHolds = rw (r .memories) f; stateHolds = rw (r .memories) h; outputHolds = ap (λ (m : Memories). m .output) (r .memories); traceHolds = ap (λ (m : Memories). m .trace) (r .memories) };
           line = rw e refl;
           keeps = λ n. r .memories;
         }

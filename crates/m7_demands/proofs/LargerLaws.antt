@@ -22,7 +22,7 @@ use Rattle.m7_demands.proofs.OneFeed.{both-refuse, both-return, Called,
 
 -- a call that returns the answer a carries its number and its passes
 module _ (sent : Sent) (m : Memories) (w : Returned) (a : Answered) (f : Returns (calledWith sent m w) a) where
-  number-is : w .answer .number ≡ numberOf (a .kind)
+  pub number-is : w .answer .number ≡ numberOf (a .kind)
   unfolding answerOf
   number-is = ap (λ (r : Answer). r .number) (f .answers)
 

@@ -2,3 +2,4 @@ pub mod Demand2
 pub mod OneFeed
 pub mod LargerLaws
 pub mod Demand3Laws
+pub mod TraceLaws

@@ -20,8 +20,8 @@ use Rattle.m7.specs.Feeding.{Feeds, Returns, Refuses, sizedToFeed}
 use Rattle.m7_demands.specs.OneFeed.{Returned, calledWith, Same, OneFeed}
 
 -- the memories are equal by their parts
-pub memories-same : (x y : Memories) → x .table ≡ y .table → x .state ≡ y .state → x .output ≡ y .output → x ≡ y
-memories-same x y t s o = λ i. record { table = t i; state = s i; output = o i }
+pub memories-same : (x y : Memories) → x .table ≡ y .table → x .state ≡ y .state → x .output ≡ y .output → x .trace ≡ y .trace → x ≡ y
+memories-same x y t s o r = λ i. record { table = t i; state = s i; output = o i; trace = r i }
 
 -- two calls that are lent the same memories, with a line each
 module _ (x y : Sent) (m : Memories) (w v : Returned) where
@@ -36,7 +36,7 @@ module _ (x y : Sent) (m : Memories) (w v : Returned) where
         answers = f .answers ∙ sym (g .answers);
         memories =
             memories-same (w .memories) (v .memories) (sym (f .tableHolds .form) ∙ g .tableHolds .form) (sym (f .stateHolds .form) ∙ g .stateHolds .form)
-            (f .outputHolds ∙ sym (g .outputHolds));
+            (f .outputHolds ∙ sym (g .outputHolds)) (f .traceHolds ∙ sym (g .traceHolds));
       }
 
 -- what the memories alone tell of every call that is lent them

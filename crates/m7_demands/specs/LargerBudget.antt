@@ -1,4 +1,4 @@
--- 02, N10, FOR THE ENGINE: of calls of m7_feed that are lent the same table, state, line and output and differ in the budget alone.
+-- 02, N10, FOR THE ENGINE: of calls of m7_feed that are lent the same table, state, line, output and trace and differ in the budget alone.
 -- It rules out, among others, the edits smaller_budget_too (a smaller budget gives the same result), settled_31 (31 stays 31 under every
 -- larger budget), one_pass_less (one pass less than those begun is enough), smaller_taken (a smaller budget gives 0), late_by_one (31 comes
 -- with one pass more than the budget) and due_elsewhere (31 comes where another line has a pass due).

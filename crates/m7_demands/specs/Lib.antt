@@ -3,3 +3,4 @@ pub mod OneFeed
 pub mod LargerBudget
 pub mod Demand2
 pub mod Demand3
+pub mod Trace

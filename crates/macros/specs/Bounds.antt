@@ -1,4 +1,4 @@
--- 01, "Bounds and the fresh state": each bound once.
+-- 01, "Bounds and the fresh state", and N1 of 02: each bound once.
 use Prim.Native.Nat.{ℕ}
 
 -- the bytes of a macro file
@@ -40,3 +40,7 @@ mostCounter = 999999999
 -- the largest budget
 abbrev pub mostBudget : ℕ
 mostBudget = 1000000
+
+-- the bytes of a line's trace: "at least 65,536 bytes, the size fixed in the docs" (02, N1)
+abbrev pub mostTraceBytes : ℕ
+mostTraceBytes = 65536

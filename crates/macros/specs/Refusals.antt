@@ -13,9 +13,9 @@ pub data LineRefusal : Type 0 where
 pub data FileRefusal : Type 0 where
   fileTooLong zeroByte incomplete badClass noUnit badBrace badCall noElement macroTooLong tooManyMacros : FileRefusal
 
--- the table's at work
+-- the table's at work; the last one is N1's (02)
 pub data WorkRefusal : Type 0 where
-  budgetUsedUp newLineTooLong tagTooLong pointerTooHigh counterTooHigh : WorkRefusal
+  budgetUsedUp newLineTooLong tagTooLong pointerTooHigh counterTooHigh traceTooLong : WorkRefusal
 
 -- a refusal; the table writer's has a place
 pub data Refusal : Type 0 where
@@ -53,6 +53,7 @@ workNumber newLineTooLong = 32
 workNumber tagTooLong = 33
 workNumber pointerTooHigh = 34
 workNumber counterTooHigh = 35
+workNumber traceTooLong = 36
 
 -- "It returns the number, the place (10 to 19, else 0) .."
 unfoldable pub number : Refusal → ℕ

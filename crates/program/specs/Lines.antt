@@ -34,9 +34,12 @@ pub record Put (answer : Answer) (text : List ℕ) (number : ℕ) (out : List �
 pub record Answered (line : List ℕ) (number : ℕ) (table state out : List ℕ) (used : ℕ) (table′ state′ out′ : List ℕ) (used′ : ℕ) : Type 0 where
   pub output : List ℕ
   pub output′ : List ℕ
+  pub trace : List ℕ
+  pub trace′ : List ℕ
   pub answer : Answer
   pub sized : length output ≡ 1054
-  pub fed : Feeds (record { feeding = record { sent = record { line = line; budget = 10000 }; lent = record { table = table; state = state; output = output }; left = record { table = table′; state = state′; output = output′ } }; answer = answer })
+  pub traceSized : length trace ≡ 65536
+  pub fed : Feeds (record { feeding = record { sent = record { line = line; budget = 10000 }; lent = record { table = table; state = state; output = output; trace = trace }; left = record { table = table′; state = state′; output = output′; trace = trace′ } }; answer = answer })
   pub said : Put answer output′ number out used out′ used′
 
 -- a line was read and answered

@@ -90,7 +90,8 @@ fn answer_line(
     ensures { λ r. ⌜ r ≤ 65536 ⌝ }
 {
     let mut text: [u8; 1054] = [0; 1054];
-    let answer = m7::feed::m7_feed(table, state, &line[..held], BUDGET, &mut text);
+    let mut trace: [u8; 65536] = [0; 65536];
+    let answer = m7::feed::m7_feed(table, state, &line[..held], BUDGET, &mut text, &mut trace);
     put_said(answer, &text, number, out, used)
 }
 

@@ -16,5 +16,6 @@ pub(crate) fn no_state() -> Answer {
     let mut table: [u8; 98304] = [0; 98304];
     let mut state: [u8; 26236] = [0; 26236];
     let mut text: [u8; 1054] = [0; 1054];
-    m7::feed::m7_feed(&mut table, &mut state, b"do", 1, &mut text)
+    let mut trace: [u8; 65536] = [0; 65536];
+    m7::feed::m7_feed(&mut table, &mut state, b"do", 1, &mut text, &mut trace)
 }

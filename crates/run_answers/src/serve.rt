@@ -23,6 +23,7 @@ pub(crate) fn obey(
     requires { ⌜ held ≤ length (now command) ⌝ }
 {
     let mut text: [u8; 32768] = [0; 32768];
+    let mut trace: [u8; 65536] = [0; 65536];
     let mut out: [u8; 4096] = [0; 4096];
     let asked = asked_of(command, held);
     let which = asked.which;
@@ -32,6 +33,7 @@ pub(crate) fn obey(
         state,
         &command[..size],
         &mut text,
+        &mut trace,
         which,
         asked.budget,
     );
@@ -82,6 +84,7 @@ fn call(
     state: &mut [u8],
     bytes: &[u8],
     text: &mut [u8],
+    trace: &mut [u8],
     which: u8,
     budget: u32,
 ) -> Answer
@@ -89,7 +92,7 @@ fn call(
 {
     match which {
         1 => m7::read::m7_read(bytes, table),
-        2 => m7::feed::m7_feed(table, state, bytes, budget, &mut text[..1054]),
+        2 => m7::feed::m7_feed(table, state, bytes, budget, &mut text[..1054], trace),
         3 => m7::fresh::m7_fresh(state),
         4 => m7::write::m7_write(table, text),
         _ => nothing(),

@@ -1,5 +1,5 @@
 //! `m7-generate SEED COUNT` prints generated cases as protocol commands;
-//! with the word `words` behind them, lines to look up words in.
+//! with the word `words` after them, lines to look up words in.
 
 use m7_reference::generate::{any_case, any_file, any_look, bound_case, Random};
 use m7_reference::protocol::hex;
@@ -28,7 +28,7 @@ fn print(random: &mut Random, case: usize, output: &mut impl Write) -> io::Resul
     };
     writeln!(output, "read {}\nfresh", hex(&case.file))?;
     for (budget, line) in &case.lines {
-        writeln!(output, "feed {budget} {}", hex(line))?;
+        writeln!(output, "feed {budget} {}\ntrace", hex(line))?;
     }
     writeln!(output, "state\nwrite")
 }

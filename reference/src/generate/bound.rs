@@ -1,4 +1,4 @@
-//! Cases at the bounds of 01, a little below and a little past them.
+//! Cases at the bounds of 01 and of the trace memory, a little below and a little past them.
 
 use super::{Case, Random};
 
@@ -14,7 +14,7 @@ fn case(file: String, lines: Vec<(u64, String)>) -> Case {
 
 /// One case near one bound.
 pub fn bound_case(random: &mut Random) -> Case {
-    match random.below(9) {
+    match random.below(10) {
         0 => macro_bytes(random),
         1 => macros(random),
         2 => line_bytes(random),
@@ -23,6 +23,7 @@ pub fn bound_case(random: &mut Random) -> Case {
         5 => pointers(random),
         6 => counters(random),
         7 => file_bytes(random),
+        8 => trace_bytes(random),
         _ => closures(random),
     }
 }
@@ -127,4 +128,19 @@ fn closures(random: &mut Random) -> Case {
     let file = format!("'{}{last}{close}'<'-';", unit.repeat(count));
     let line = format!("{}{}", "a".repeat(near(random, 100)), random.pick(&["b", "bb", "", "c"]));
     case(file, vec![(3, line), (3, "1a".repeat(near(random, 300)))])
+}
+
+/// Passes whose lines fill the trace memory nearly, exactly or too much: each
+/// macro occurs once, and only the last changes the text.
+fn trace_bytes(random: &mut Random) -> Case {
+    let count = 32 + random.below(30);
+    let digits: usize = (1..=count).map(|number| number.to_string().len()).sum();
+    let (fixed, each) = (27 * count + digits, 2 * count);
+    let length = (65_536 - fixed) / each - random.below(2);
+    let more = 65_536 - fixed - each * length;
+    let more = if random.one_in(2) { near(random, more.max(3)) } else { more + random.below(2) };
+    let file = format!("'$'<'{}';{}", "x".repeat(more.min(500)), "'^'<'';".repeat(count - 1));
+    let end = *random.pick(&["$TRACE 0", "$NFLAG 1"]);
+    let lines = [("$TRACE 1", 1), ("a", length), (end, 1), ("a", length)];
+    case(file, lines.map(|(line, times)| (99, line.repeat(times))).to_vec())
 }

@@ -93,18 +93,33 @@ pub fn any_budget(random: &mut Random) -> u64 {
     }
 }
 
-/// A file that reading mostly takes, and lines for it.
+/// The oldest macro of a table that makes control lines.
+const MAKES_CONTROL: &[u8] = b"'@'<'$';";
+
+/// A file that reading mostly takes, and lines for it. In some a pass makes
+/// the `$` of a control line.
 pub fn any_case(random: &mut Random, macros: usize, lines: usize) -> Case {
     let odd = random.one_in(6);
     let count = if random.one_in(12) { 0 } else { 1 + random.below(macros) };
     let mut file = good_file(random, odd, count);
+    let makes_control = random.one_in(6);
+    if makes_control {
+        file.splice(..0, MAKES_CONTROL.iter().copied());
+    }
     if random.one_in(20) {
         file = damaged_file(random, file);
     }
     let table = read_file(&file).unwrap_or_default();
     let mut fed = Vec::new();
+    if random.one_in(4) {
+        fed.push((5, b"$TRACE 1".to_vec()));
+    }
     for _ in 0..1 + random.below(lines) {
-        fed.push((any_budget(random), any_line(random, &table)));
+        let mut line = any_line(random, &table);
+        if makes_control && line.first() == Some(&b'$') && random.one_in(2) {
+            line[0] = b'@';
+        }
+        fed.push((any_budget(random), line));
     }
     Case { file, lines: fed }
 }

@@ -77,6 +77,16 @@ line-reply-requires-7 c κs = (no-place, c .before .before .before .before .pre 
 returns-7 : tie.Need-returns-7
 returns-7 c = because-work (c .before .before .before .w2 .given .1) (c .before .work-number .ensures) (c .line-reply7 .ensures)
 
+enum-told-6 : tie.Need-enum-told-6
+enum-told-6 c = c .match .keys8
+
+line-reply-requires-8 : tie.Need-line-reply-requires-8
+line-reply-requires-8 c κs = (no-place, c .before .before .pre .1, no-size)
+
+returns-8 : tie.Need-returns-8
+unfolding number place workNumber
+returns-8 c = because (c .before .enum-told6 .given .1) (c .line-reply8 .ensures)
+
 pub refused-spec : {M : Type 1} → statement M
 refused-spec =
     tie.close
@@ -103,4 +113,7 @@ refused-spec =
     enum-known-w-2
     work-number-requires
     line-reply-requires-7
-    returns-7)
+    returns-7
+    enum-told-6
+    line-reply-requires-8
+    returns-8)

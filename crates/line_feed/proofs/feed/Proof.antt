@@ -16,19 +16,22 @@ returns-3 : tie.Need-returns-3
 returns-3 c = feeds-byte _ _ (c .before .before .before .if1 .left) (c .before .before .if2 .left) (sym (c .before .has-bad-byte .ensures .says) ∙ c .if3 .taken)
 
 take-line-requires : tie.Need-take-line-requires
-take-line-requires c κs = (c .before .before .before .before .before .before .before .before .before .before .before .pre, record { short = c .before .before .before .before .before .if2 .left; bytes = c .before .before .before .before .has-bad-byte .ensures .bytes (c .before .before .before .if3 .left) })
+take-line-requires c κs = (c .before .before .before .before .before .before .before .before .before .before .before .before .before .pre, record { short = c .before .before .before .before .before .before .if2 .left; bytes = c .before .before .before .before .before .has-bad-byte .ensures .bytes (c .before .before .before .before .if3 .left) })
 
 same-length : tie.Need-same-length
-same-length c = c .before .before .before .before .before .before .take-line .kept .0
+same-length c = c .before .before .before .before .before .before .before .before .take-line .kept .0
 
 same-length-2 : tie.Need-same-length-2
-same-length-2 c = c .before .before .before .before .before .before .take-line .kept .1 .0
+same-length-2 c = c .before .before .before .before .before .before .before .before .take-line .kept .1 .0
 
 same-length-3 : tie.Need-same-length-3
-same-length-3 c = c .before .before .before .before .before .before .take-line .kept .1 .1 .1 .1 .0
+same-length-3 c = c .before .before .before .before .before .before .before .before .take-line .kept .1 .1 .1 .1 .0
+
+same-length-4 : tie.Need-same-length-4
+same-length-4 c = c .before .before .before .before .before .before .before .before .take-line .kept .1 .1 .1 .1 .1 .0
 
 returns-4 : tie.Need-returns-4
-returns-4 c = feeds-taken _ _ (c .before .before .before .before .before .before .before .before .before .before .before .before .before .if1 .left) (c .before .before .before .before .before .before .before .before .before .before .before .before .if2 .left) (sym (c .before .before .before .before .before .before .before .before .before .before .before .has-bad-byte .ensures .says) ∙ c .before .before .before .before .before .before .before .before .before .before .if3 .left) (c .before .before .before .before .before .before .take-line .ensures)
+returns-4 c = feeds-taken _ _ (c .before .before .before .before .before .before .before .before .before .before .before .before .before .before .before .before .if1 .left) (c .before .before .before .before .before .before .before .before .before .before .before .before .before .before .before .if2 .left) (sym (c .before .before .before .before .before .before .before .before .before .before .before .before .before .before .has-bad-byte .ensures .says) ∙ c .before .before .before .before .before .before .before .before .before .before .before .before .before .if3 .left) (c .before .before .before .before .before .before .before .before .take-line .ensures)
 
 pub feed-spec : {M : Type 1} → statement M
 feed-spec =
@@ -42,4 +45,5 @@ feed-spec =
     same-length
     same-length-2
     same-length-3
+    same-length-4
     returns-4)

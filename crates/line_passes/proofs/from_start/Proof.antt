@@ -18,16 +18,19 @@ slice-aggregate-all-passes-3 : tie.Need-slice-aggregate-all-passes-3
 slice-aggregate-all-passes-3 c = sym (length-replicate {A = ℕ} 96 0)
 
 all-passes-requires : tie.Need-all-passes-requires
-all-passes-requires c κs = ready-start (c .before .before .before .before .before .before .before .before .before .before .pre) (c .before .before .before .before .before .before .kind-table .ensures) (c .before .before .before .before .before .before .before .before .before .before .args .budget)
+all-passes-requires c κs = ready-start (c .before .before .before .before .before .before .before .before .before .before .before .before .pre) (c .before .before .before .before .before .before .before .kind-table .ensures) (c .before .before .before .before .before .before .before .before .before .before .before .before .args .budget)
 
 same-length : tie.Need-same-length
-same-length c = c .before .before .before .before .before .before .before .all-passes .kept .1 .1 .1 .0
+same-length c = c .before .before .before .before .before .before .before .before .before .all-passes .kept .1 .1 .1 .0
 
 same-length-2 : tie.Need-same-length-2
-same-length-2 c = c .before .before .before .before .before .before .before .all-passes .kept .1 .1 .1 .1 .0
+same-length-2 c = c .before .before .before .before .before .before .before .before .before .all-passes .kept .1 .1 .1 .1 .0
+
+same-length-3 : tie.Need-same-length-3
+same-length-3 c = c .before .before .before .before .before .before .before .before .before .all-passes .kept .1 .1 .1 .1 .1 .1 .1 .1 .0
 
 returns : tie.Need-returns
-returns c = runs-start refl (c .before .before .before .before .before .before .before .all-passes .ensures)
+returns c = runs-start refl (c .before .before .before .before .before .before .before .before .before .before .before .before .before .before .before .before .before .before .before .before .before .before .pre .flag) (c .before .before .before .before .before .before .before .before .before .all-passes .ensures)
 
 pub from-start-spec : {M : Type 1} → statement M
 from-start-spec =
@@ -40,4 +43,5 @@ from-start-spec =
     all-passes-requires
     same-length
     same-length-2
+    same-length-3
     returns)

@@ -13,6 +13,9 @@ slice-aggregate-m7-feed c = sym (length-take-le _ _ (omega arith))
 slice-aggregate-m7-feed-2 : tie.Need-slice-aggregate-m7-feed-2
 slice-aggregate-m7-feed-2 c = search needs
 
+slice-aggregate-m7-feed-3 : tie.Need-slice-aggregate-m7-feed-3
+slice-aggregate-m7-feed-3 c = search needs
+
 m7-feed-requires : tie.Need-m7-feed-requires
 m7-feed-requires c κs = search needs
 
@@ -23,7 +26,7 @@ put-said-requires : tie.Need-put-said-requires
 put-said-requires c κs = search needs
 
 returns : tie.Need-returns
-returns c = (record { output = replicate {A = ℕ} 1054 0; output′ = c .before .before .before .before .m7-feed .last .1 .1 .1 .1 .0; answer = c .before .before .before .before .m7-feed .result; sized = length-replicate {A = ℕ} 1054 0; fed = c .before .before .before .before .m7-feed .ensures; said = c .put-said .ensures .0 }, c .put-said .ensures .1)
+returns c = (record { output = replicate {A = ℕ} 1054 0; output′ = c .before .before .before .before .before .m7-feed .last .1 .1 .1 .1 .0; trace = replicate {A = ℕ} 65536 0; trace′ = c .before .before .before .before .before .m7-feed .last .1 .1 .1 .1 .1 .0; answer = c .before .before .before .before .before .m7-feed .result; sized = length-replicate {A = ℕ} 1054 0; traceSized = length-replicate {A = ℕ} 65536 0; fed = c .before .before .before .before .before .m7-feed .ensures; said = c .put-said .ensures .0 }, c .put-said .ensures .1)
 
 pub answer-line-spec : {M : Type 1} → statement M
 answer-line-spec =
@@ -31,6 +34,7 @@ answer-line-spec =
     (tie.spec
     slice-aggregate-m7-feed
     slice-aggregate-m7-feed-2
+    slice-aggregate-m7-feed-3
     m7-feed-requires
     slice-aggregate-put-said
     put-said-requires

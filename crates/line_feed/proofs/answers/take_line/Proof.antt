@@ -1,55 +1,61 @@
-use Prim.Native.Nat.{ℕ}
-use mathlib.Core.Path.{sym, _∙_}
-use lib.ListN.{length-replicate}
-use Rattle.line_feed.proofs.Replying.{started, replying, taken}
+use mathlib.Core.Bool.{false≢true}
+use Rattle.line_feed.proofs.Replying.{flag-on, takes-untraced}
 use Rattle.line_feed.proofs.answers.take_line.Statement.{statement}
 use Rattle.line_feed.proofs.answers.take_line.Tie as tie
 
-count-macros-requires : tie.Need-count-macros-requires
-count-macros-requires c κs = c .before .before .before .before .before .pre .0 .table
+is-traced-requires : tie.Need-is-traced-requires
+is-traced-requires c κs = c .before .before .before .before .before .before .pre .0 .own .state
 
-slice-aggregate-run-line : tie.Need-slice-aggregate-run-line
-slice-aggregate-run-line c = sym (length-replicate {A = ℕ} 26236 0)
-
-slice-aggregate-run-line-2 : tie.Need-slice-aggregate-run-line-2
-slice-aggregate-run-line-2 c = sym (length-replicate {A = ℕ} 1054 0)
-
-run-line-requires : tie.Need-run-line-requires
-run-line-requires c κs = started _ (c .before .before .before .before .before .before .before .before .before .before .pre .0) (c .before .before .before .before .before .before .before .before .before .before .pre .1) (c .before .before .before .before .count-macros .ensures)
-
-slice-aggregate-reply : tie.Need-slice-aggregate-reply
-slice-aggregate-reply c = sym (c .before .before .before .before .before .before .run-line .kept .1 .1 .1 .1 .1 .0 ∙ length-replicate {A = ℕ} 26236 0)
-
-slice-aggregate-reply-2 : tie.Need-slice-aggregate-reply-2
-slice-aggregate-reply-2 c = sym (c .before .before .before .before .before .before .before .run-line .kept .1 .1 .1 .1 .1 .1 .0 ∙ length-replicate {A = ℕ} 1054 0)
-
-reply-requires : tie.Need-reply-requires
-reply-requires c κs = replying _ (c .before .before .before .before .before .before .before .before .before .before .before .before .before .before .before .before .before .before .pre .0) (c .before .before .before .before .before .before .before .before .before .before .before .before .before .before .before .before .before .before .pre .1) (c .before .before .before .before .before .before .before .before .before .before .before .before .count-macros .ensures) (c .before .before .before .before .before .before .before .run-line .ensures) (c .before .before .before .before .before .before .before .run-line .kept .1 .1 .1 .1 .1 .1 .0 ∙ length-replicate {A = ℕ} 1054 0)
+take-traced-requires : tie.Need-take-traced-requires
+take-traced-requires c κs = (c .before .before .before .before .before .before .before .before .before .before .before .before .pre .0, c .before .before .before .before .before .before .before .before .before .before .before .before .pre .1, flag-on (c .before .before .before .before .before .is-traced .ensures) (c .before .before .before .before .if1 .taken))
 
 same-length : tie.Need-same-length
-same-length c = c .before .before .before .before .before .before .before .reply .kept .0
+same-length c = c .before .before .before .before .before .before .before .before .take-traced .kept .0
 
 same-length-2 : tie.Need-same-length-2
-same-length-2 c = c .before .before .before .before .before .before .before .reply .kept .1 .1 .0
+same-length-2 c = c .before .before .before .before .before .before .before .before .take-traced .kept .1 .0
 
 same-length-3 : tie.Need-same-length-3
-same-length-3 c = c .before .before .before .before .before .before .before .reply .kept .1 .1 .1 .0
+same-length-3 c = c .before .before .before .before .before .before .before .before .take-traced .kept .1 .1 .1 .1 .0
+
+same-length-4 : tie.Need-same-length-4
+same-length-4 c = c .before .before .before .before .before .before .before .before .take-traced .kept .1 .1 .1 .1 .1 .0
 
 returns : tie.Need-returns
-returns c = taken _ (c .before .before .before .before .before .before .before .before .before .before .before .before .before .before .before .before .before .before .before .before .before .before .before .before .before .before .pre .0) (c .before .before .before .before .before .before .before .before .before .before .before .before .before .before .before .before .before .before .before .before .before .before .before .before .before .before .pre .1) (c .before .before .before .before .before .before .before .before .before .before .before .before .before .before .before .before .before .before .before .before .count-macros .ensures) (c .before .before .before .before .before .before .before .before .before .before .before .before .before .before .before .run-line .ensures) (c .before .before .before .before .before .before .before .reply .ensures)
+returns c = c .before .before .before .before .before .before .before .before .take-traced .ensures
+
+take-with-requires : tie.Need-take-with-requires
+take-with-requires c κs = (c .before .before .before .before .before .before .before .before .before .before .before .before .pre .0 .own, c .before .before .before .before .before .before .before .before .before .before .before .before .pre .1, record { flag = flag-on (c .before .before .before .before .before .is-traced .ensures) (c .before .before .before .before .if1 .left); clear = λ e. absurd (false≢true e) })
+
+same-length-5 : tie.Need-same-length-5
+same-length-5 c = c .before .before .before .before .before .before .before .before .take-with .kept .0
+
+same-length-6 : tie.Need-same-length-6
+same-length-6 c = c .before .before .before .before .before .before .before .before .take-with .kept .1 .0
+
+same-length-7 : tie.Need-same-length-7
+same-length-7 c = c .before .before .before .before .before .before .before .before .take-with .kept .1 .1 .1 .1 .0
+
+same-length-8 : tie.Need-same-length-8
+same-length-8 c = c .before .before .before .before .before .before .before .before .take-with .kept .1 .1 .1 .1 .1 .0
+
+returns-2 : tie.Need-returns-2
+returns-2 c = takes-untraced (c .before .before .before .before .before .before .before .before .take-with .ensures) (flag-on (c .before .before .before .before .before .before .before .before .before .before .before .before .before .before .is-traced .ensures) (c .before .before .before .before .before .before .before .before .before .before .before .before .before .if1 .left))
 
 pub take-line-spec : {M : Type 1} → statement M
 take-line-spec =
     tie.close
     (tie.spec
-    count-macros-requires
-    slice-aggregate-run-line
-    slice-aggregate-run-line-2
-    run-line-requires
-    slice-aggregate-reply
-    slice-aggregate-reply-2
-    reply-requires
+    is-traced-requires
+    take-traced-requires
     same-length
     same-length-2
     same-length-3
-    returns)
+    same-length-4
+    returns
+    take-with-requires
+    same-length-5
+    same-length-6
+    same-length-7
+    same-length-8
+    returns-2)

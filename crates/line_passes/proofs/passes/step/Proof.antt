@@ -5,13 +5,13 @@ use Rattle.line_passes.proofs.passes.step.Statement.{statement}
 use Rattle.line_passes.proofs.passes.step.Tie as tie
 
 slice-reshare-prefix-next-due : tie.Need-slice-reshare-prefix-next-due
-slice-reshare-prefix-next-due c = size-fits (c .before .before .before .before .before .before .pre)
+slice-reshare-prefix-next-due c = size-fits (c .before .before .before .before .before .before .before .pre)
 
 slice-aggregate-next-due : tie.Need-slice-aggregate-next-due
-slice-aggregate-next-due c = sym (length-take-le _ _ (size-fits (c .before .before .before .before .before .before .before .pre)))
+slice-aggregate-next-due c = sym (length-take-le _ _ (size-fits (c .before .before .before .before .before .before .before .before .pre)))
 
 next-due-requires : tie.Need-next-due-requires
-next-due-requires c κs = due-lent (c .before .before .before .before .before .before .before .before .pre)
+next-due-requires c κs = due-lent (c .before .before .before .before .before .before .before .before .before .pre)
 
 enum-known-due : tie.Need-enum-known-due
 enum-known-due c = c .match .keys1
@@ -23,16 +23,16 @@ same-length-2 : tie.Need-same-length-2
 same-length-2 c = refl
 
 returns : tie.Need-returns
-returns c = step-over (c .before .before .before .before .before .before .before .before .before .before .before .before .pre) (c .before .before .before .next-due .ensures) (c .before .due .given .1)
+returns c = step-over (c .before .before .before .before .before .before .before .before .before .before .before .before .before .pre) (c .before .before .before .next-due .ensures) (c .before .due .given .1)
 
 enum-known-due-2 : tie.Need-enum-known-due-2
 enum-known-due-2 c = c .match .keys2
 
 mul-a : tie.Need-mul-a
-mul-a c = start-fits (c .before .before .before .before .before .before .before .before .before .before .before .before .pre) (c .before .before .before .next-due .ensures) (c .before .due2 .given .1)
+mul-a c = start-fits (c .before .before .before .before .before .before .before .before .before .before .before .before .before .pre) (c .before .before .before .next-due .ensures) (c .before .due2 .given .1)
 
 add-pass : tie.Need-add-pass
-add-pass c = end-fits (c .before .before .before .before .before .before .before .before .before .before .before .before .pre) (c .before .before .before .next-due .ensures) (c .before .due2 .given .1)
+add-pass c = end-fits (c .before .before .before .before .before .before .before .before .before .before .before .before .before .pre) (c .before .before .before .next-due .ensures) (c .before .due2 .given .1)
 
 sub-pass : tie.Need-sub-pass
 sub-pass c = part-order (c .before .due2 .given .0 .0)
@@ -41,40 +41,43 @@ part-pass-start : tie.Need-part-pass-start
 part-pass-start c = part-order (c .before .due2 .given .0 .0)
 
 part-pass-end : tie.Need-part-pass-end
-part-pass-end c = in-table (c .before .before .before .before .before .before .before .before .before .before .before .before .pre) (c .before .before .before .next-due .ensures) (c .before .due2 .given .1)
+part-pass-end c = in-table (c .before .before .before .before .before .before .before .before .before .before .before .before .before .pre) (c .before .before .before .next-due .ensures) (c .before .due2 .given .1)
 
 slice-reshare-prefix-pass : tie.Need-slice-reshare-prefix-pass
-slice-reshare-prefix-pass c = size-fits (c .before .before .before .before .before .before .before .before .before .before .before .before .before .pre)
+slice-reshare-prefix-pass c = size-fits (c .before .before .before .before .before .before .before .before .before .before .before .before .before .before .pre)
 
 slice-aggregate-pass : tie.Need-slice-aggregate-pass
-slice-aggregate-pass c = sym (length-take-le _ _ (size-fits (c .before .before .before .before .before .before .before .before .before .before .before .before .before .before .pre)))
+slice-aggregate-pass c = sym (length-take-le _ _ (size-fits (c .before .before .before .before .before .before .before .before .before .before .before .before .before .before .before .pre)))
 
 pass-requires : tie.Need-pass-requires
-pass-requires c κs = pass-lent (c .before .before .before .before .before .before .before .before .before .before .before .before .before .before .before .before .before .pre) (c .before .before .before .before .before .before .before .before .next-due .ensures) (c .before .before .before .before .before .before .due2 .given .1)
+pass-requires c κs = pass-lent (c .before .before .before .before .before .before .before .before .before .before .before .before .before .before .before .before .before .before .pre) (c .before .before .before .before .before .before .before .before .next-due .ensures) (c .before .before .before .before .before .before .due2 .given .1)
 
-add-t22 : tie.Need-add-t22
-add-t22 c = begun-fits (c .before .before .before .before .before .before .before .before .before .before .before .before .before .before .before .before .before .before .before .before .before .before .before .before .before .pre) (c .before .before .before .before .before .before .before .before .before .before .before .before .before .before .before .before .next-due .ensures) (c .before .before .before .before .before .before .before .before .before .before .before .before .before .before .due2 .given .1) (c .before .before .before .before .before .before .before .before .before .before .before .before .before .before .before .before .before .before .before .before .before .before .before .before .before .fits .budget)
+add-t24 : tie.Need-add-t24
+add-t24 c = begun-fits (c .before .before .before .before .before .before .before .before .before .before .before .before .before .before .before .before .before .before .before .before .before .before .before .before .before .before .pre) (c .before .before .before .before .before .before .before .before .before .before .before .before .before .before .before .before .next-due .ensures) (c .before .before .before .before .before .before .before .before .before .before .before .before .before .before .due2 .given .1) (c .before .before .before .before .before .before .before .before .before .before .before .before .before .before .before .before .before .before .before .before .before .before .before .before .before .before .fits .budget)
 
 after-pass-requires : tie.Need-after-pass-requires
-after-pass-requires c κs = to-follow (c .before .before .before .before .before .before .before .before .before .before .before .before .before .before .before .before .before .before .before .before .before .before .before .before .before .before .before .before .pre) (c .before .before .before .before .before .before .before .before .before .before .before .before .before .before .before .before .before .before .before .next-due .ensures) (c .before .before .before .before .before .before .before .before .before .before .before .before .before .before .before .before .before .due2 .given .1) (c .before .before .before .before .before .before .before .before .before .before .pass .ensures) (c .before .before .before .before .before .before .before .before .before .before .pass .kept .1 .1 .1 .1 .0)
+after-pass-requires c κs = to-follow (c .before .before .before .before .before .before .before .before .before .before .before .before .before .before .before .before .before .before .before .before .before .before .before .before .before .before .before .before .before .before .pre) (c .before .before .before .before .before .before .before .before .before .before .before .before .before .before .before .before .before .before .before .before .next-due .ensures) (c .before .before .before .before .before .before .before .before .before .before .before .before .before .before .before .before .before .before .due2 .given .1) (c .before .before .before .before .before .before .before .before .before .before .before .pass .ensures) (c .before .before .before .before .before .before .before .before .before .before .before .pass .kept .1 .1 .1 .1 .0)
 
 same-length-3 : tie.Need-same-length-3
-same-length-3 c = c .before .before .before .before .before .before .before .before .before .before .before .before .before .before .before .pass .kept .1 .1 .1 .0
+same-length-3 c = c .before .before .before .before .before .before .before .before .before .before .before .before .before .before .before .before .before .before .pass .kept .1 .1 .1 .0
 
 same-length-4 : tie.Need-same-length-4
-same-length-4 c = c .before .before .before .before .after-pass .kept .1 .1 .0
+same-length-4 c = c .before .before .before .before .before .before .after-pass .kept .1 .1 .0
 
 same-length-5 : tie.Need-same-length-5
-same-length-5 c = c .before .before .before .before .before .before .before .before .before .before .before .before .before .before .before .pass .kept .1 .1 .1 .1 .0
+same-length-5 c = c .before .before .before .before .before .before .before .before .before .before .before .before .before .before .before .before .before .before .pass .kept .1 .1 .1 .1 .0
 
 same-length-6 : tie.Need-same-length-6
-same-length-6 c = c .before .before .before .before .before .before .before .before .before .before .before .before .before .before .before .pass .kept .1 .1 .1 .1 .1 .0
+same-length-6 c = c .before .before .before .before .before .before .before .before .before .before .before .before .before .before .before .before .before .before .pass .kept .1 .1 .1 .1 .1 .0
 
 same-length-7 : tie.Need-same-length-7
-same-length-7 c = c .before .before .before .before .after-pass .kept .1 .1 .1 .1 .0
+same-length-7 c = c .before .before .before .before .before .before .after-pass .kept .1 .1 .1 .1 .0
+
+same-length-8 : tie.Need-same-length-8
+same-length-8 c = c .before .before .before .before .before .before .after-pass .kept .1 .1 .1 .1 .1 .0
 
 returns-2 : tie.Need-returns-2
-returns-2 c = step-passed (c .before .before .before .before .before .before .before .before .before .before .before .before .before .before .before .before .before .before .before .before .before .before .before .before .before .before .before .before .before .before .before .before .before .pre) (c .before .before .before .before .before .before .before .before .before .before .before .before .before .before .before .before .before .before .before .before .before .before .before .before .next-due .ensures) (c .before .before .before .before .before .before .before .before .before .before .before .before .before .before .before .before .before .before .before .before .before .before .due2 .given .1) (c .before .before .before .before .before .before .before .before .before .before .before .before .before .before .before .pass .result) (c .before .before .before .before .before .before .before .before .before .before .before .before .before .before .before .pass .ensures) (c .before .before .before .before .before .before .before .before .before .before .before .before .before .before .before .pass .kept .1 .1 .1 .1 .0) (c .before .before .before .before .after-pass .ensures) (c .before .before .before .before .after-pass .kept .1 .1 .0) (c .before .before .before .before .after-pass .kept .1 .1 .1 .1 .0)
+returns-2 c = step-passed (c .before .before .before .before .before .before .before .before .before .before .before .before .before .before .before .before .before .before .before .before .before .before .before .before .before .before .before .before .before .before .before .before .before .before .before .before .before .pre) (c .before .before .before .before .before .before .before .before .before .before .before .before .before .before .before .before .before .before .before .before .before .before .before .before .before .before .before .next-due .ensures) (c .before .before .before .before .before .before .before .before .before .before .before .before .before .before .before .before .before .before .before .before .before .before .before .before .before .due2 .given .1) (c .before .before .before .before .before .before .before .before .before .before .before .before .before .before .before .before .before .before .pass .result) (c .before .before .before .before .before .before .before .before .before .before .before .before .before .before .before .before .before .before .pass .ensures) (c .before .before .before .before .before .before .before .before .before .before .before .before .before .before .before .before .before .before .pass .kept .1 .1 .1 .1 .0) (c .before .before .before .before .before .before .after-pass .ensures) (c .before .before .before .before .before .before .after-pass .kept .1 .1 .0) (c .before .before .before .before .before .before .after-pass .kept .1 .1 .1 .1 .0)
 
 pub step-spec : {M : Type 1} → statement M
 step-spec =
@@ -96,11 +99,12 @@ step-spec =
     slice-reshare-prefix-pass
     slice-aggregate-pass
     pass-requires
-    add-t22
+    add-t24
     after-pass-requires
     same-length-3
     same-length-4
     same-length-5
     same-length-6
     same-length-7
+    same-length-8
     returns-2)

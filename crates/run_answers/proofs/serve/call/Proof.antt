@@ -12,7 +12,7 @@ slice-relend-prefix-m7-feed : tie.Need-slice-relend-prefix-m7-feed
 slice-relend-prefix-m7-feed c = search needs
 
 slice-aggregate-m7-feed : tie.Need-slice-aggregate-m7-feed
-slice-aggregate-m7-feed c = sym (length-take-le 1054 (c .before .before .before .before .before .before .before .before .args .text .now) (omega arith))
+slice-aggregate-m7-feed c = sym (length-take-le 1054 (c .before .before .before .before .before .before .before .before .before .args .text .now) (omega arith))
 
 m7-feed-requires : tie.Need-m7-feed-requires
 m7-feed-requires c κs = search needs
@@ -41,20 +41,23 @@ same-length-3 c = search needs
 same-length-4 : tie.Need-same-length-4
 same-length-4 c = search needs
 
-returns-2 : tie.Need-returns-2
-returns-2 c = search needs
-
 same-length-5 : tie.Need-same-length-5
 same-length-5 c = search needs
 
-returns-3 : tie.Need-returns-3
-returns-3 c = search needs
+returns-2 : tie.Need-returns-2
+returns-2 c = search needs
 
 same-length-6 : tie.Need-same-length-6
 same-length-6 c = search needs
 
+returns-3 : tie.Need-returns-3
+returns-3 c = search needs
+
 same-length-7 : tie.Need-same-length-7
 same-length-7 c = search needs
+
+same-length-8 : tie.Need-same-length-8
+same-length-8 c = search needs
 
 returns-4 : tie.Need-returns-4
 returns-4 c = search needs
@@ -78,10 +81,11 @@ call-spec =
     same-length-2
     same-length-3
     same-length-4
-    returns-2
     same-length-5
-    returns-3
+    returns-2
     same-length-6
+    returns-3
     same-length-7
+    same-length-8
     returns-4
     returns-5)

@@ -17,6 +17,9 @@ slice-aggregate-call c = sym (length-take-le _ _ (omega arith))
 slice-aggregate-call-2 : tie.Need-slice-aggregate-call-2
 slice-aggregate-call-2 c = search needs
 
+slice-aggregate-call-3 : tie.Need-slice-aggregate-call-3
+slice-aggregate-call-3 c = search needs
+
 call-requires : tie.Need-call-requires
 call-requires c κs = search needs
 
@@ -37,6 +40,7 @@ obey-spec =
     slice-reshare-prefix-call
     slice-aggregate-call
     slice-aggregate-call-2
+    slice-aggregate-call-3
     call-requires
     write-reply-requires
     same-length
