@@ -12,11 +12,11 @@ use borrow.Author.Tests.{ne-eqb}
 use Rattle.macros.specs.Macro.{Macro, Mark, Move, Call, Sign, pick, within, lower, digit}
 use Rattle.macros.specs.Macro.Mark.{stack, counter}
 use Rattle.macros.specs.Macro.Move.{still, before, after}
-use Rattle.macros.specs.Macro.Call.{insert, setTo, setIncrement}
+use Rattle.macros.specs.Macro.Call.{insert, setTo, setIncrement, divide}
 use Rattle.macros.specs.Formed.{numberFits, limit}
 use Rattle.macros.specs.Read.{Part, CallSite, Phase, callByte, isCommand, isSign, isStill, numberEnd as closing}
 use Rattle.macros.specs.ReadSoFar.Part.{calling, callText}
-use Rattle.macros.specs.ReadSoFar.Phase.{begun, signed, named, equals, increment, tagged}
+use Rattle.macros.specs.ReadSoFar.Phase.{begun, signed, named, equals, increment, divisor, tagged}
 use Rattle.macros.specs.ReadCalls.Turn.{into, textOf, closed, wrong}
 use Rattle.form_table.specs.Form.{callItems, moveCode}
 use Rattle.read_scan.specs.Scan.{run, Here, Calls, faultOf, wrongCall}
@@ -35,7 +35,7 @@ use Rattle.read_file.specs.declared.Tail.the-variants.{Text, Set, Insert
 use Rattle.read_file.specs.declared.Ended.{Ended}
 use Rattle.read_file.specs.declared.Ended.the-variants.{Upto, Refused as NoEnd}
 use Rattle.read_scan.proofs.Laws.{here-on}
-use Rattle.read_number.proofs.Numbers.{tagState, eats-tagged, eats-equals, eats-increment}
+use Rattle.read_number.proofs.Numbers.{tagState, eats-tagged, eats-equals, eats-increment, eats-divisor}
 use Rattle.read_file.proofs.Naming.{turn-text, call-next, here-into, code-none, code-some}
 use Rattle.read_file.proofs.Ending.{ends-from, ends-none, ends-wrong, ends-closed, joined, names-stack, names-counter}
 
@@ -82,6 +82,18 @@ pub counter-unequal : (cmd : Bool) (i c m : ℕ) (v : Move) → c ≡ 61 → m �
 unfolding callByte pick isSign
 counter-unequal cmd i c m v e f g = rw (e, code-some v (omega (arith, f))) refl
 
+pub counter-colon : (cmd : Bool) (i c m : ℕ) (v : Move) → c ≡ 58 → m ≡ moveCode v → m ≤ 0 → cmd ≡ false → callByte cmd (named counter i v) c ≡ into (divisor i none)
+unfolding callByte pick isStill
+counter-colon cmd i c m v e f g h = rw (e, h, code-none v (omega (arith, f))) refl
+
+pub counter-uncolon : (cmd : Bool) (i c m : ℕ) (v : Move) → c ≡ 58 → m ≡ moveCode v → 0 < m → callByte cmd (named counter i v) c ≡ wrong
+unfolding callByte pick isSign
+counter-uncolon cmd i c m v e f g = rw (e, code-some v (omega (arith, f))) refl
+
+pub counter-no-colon : (cmd : Bool) (i c m : ℕ) (v : Move) → c ≡ 58 → m ≡ moveCode v → m ≤ 0 → cmd ≡ true → callByte cmd (named counter i v) c ≡ wrong
+unfolding callByte pick isStill isSign
+counter-no-colon cmd i c m v e f g h = rw (e, h, code-none v (omega (arith, f))) refl
+
 pub counter-command : (cmd : Bool) (i c : ℕ) (v : Move) → c ≡ 41 → cmd ≡ true → callByte cmd (named counter i v) c ≡ wrong
 unfolding callByte pick isSign
 counter-command cmd i c v e f = rw (e, f) refl
@@ -94,10 +106,10 @@ joined-late : (x y w : Bool) → (y ≡ true → (x && w) ≡ false) → (x && (
 joined-late x true w h = h refl
 joined-late x false w h = and-false x
 
-pub counter-strange : (cmd : Bool) (i c : ℕ) (v : Move) → (c ≡ 44 → ⊥) → (c ≡ 61 → ⊥) → (c ≡ 41 → ⊥) → (isStill v ≡ true → (isSign c && not cmd) ≡ false)
+pub counter-strange : (cmd : Bool) (i c : ℕ) (v : Move) → (c ≡ 44 → ⊥) → (c ≡ 61 → ⊥) → (c ≡ 58 → ⊥) → (c ≡ 41 → ⊥) → (isStill v ≡ true → (isSign c && not cmd) ≡ false)
     → callByte cmd (named counter i v) c ≡ wrong
 unfolding callByte pick
-counter-strange cmd i c v e f g h = simp (ne-eqb _ _ e, ne-eqb _ _ f, ne-eqb _ _ g, joined-late (isSign c) (isStill v) (not cmd) h)
+counter-strange cmd i c v e f k g h = simp (ne-eqb _ _ e, ne-eqb _ _ f, ne-eqb _ _ k, ne-eqb _ _ g, joined-late (isSign c) (isStill v) (not cmd) h)
 
 -- NUMBERS
 
@@ -108,6 +120,10 @@ sets-others cmd m i o b h e = simp (h, ne-eqb _ _ e)
 increment-others : (cmd : Bool) (i : ℕ) (o : Option ℕ) (b : ℕ) → digit b ≡ false → (b ≡ 41 → ⊥) → callByte cmd (increment i o) b ≡ wrong
 unfolding callByte pick
 increment-others cmd i o b h e = simp (h, ne-eqb _ _ e)
+
+divisor-others : (cmd : Bool) (i : ℕ) (o : Option ℕ) (b : ℕ) → digit b ≡ false → (b ≡ 41 → ⊥) → callByte cmd (divisor i o) b ≡ wrong
+unfolding callByte pick
+divisor-others cmd i o b h e = simp (h, ne-eqb _ _ e)
 
 pub sets-stack : (i : ℕ) → Sets 80 i 20 (equals stack i) (setTo stack i)
 unfolding callByte pick digit within numberFits limit callItems
@@ -137,6 +153,17 @@ sets-increment i =
     record {
       eats = λ pl. eats-increment pl i;
       others = λ cmd o b h e. increment-others cmd i o b h e;
+      closes = λ cmd o. refl;
+      fits = λ k v. refl;
+      items = λ v. refl;
+    }
+
+pub sets-divisor : (i : ℕ) → Sets 104 i 999999999 (divisor i) (divide i)
+unfolding callByte pick digit within numberFits limit callItems
+sets-divisor i =
+    record {
+      eats = λ pl. eats-divisor pl i;
+      others = λ cmd o b h e. divisor-others cmd i o b h e;
       closes = λ cmd o. refl;
       fits = λ k v. refl;
       items = λ v. refl;
