@@ -68,8 +68,8 @@ returns-9 c =
     let if9 = c .if9 in
     λ i v e l. counter-command _ i _ v (if8 .left) (if9 .taken)
 
-add-t10 : tie.Need-add-t10
-add-t10 c = search needs
+add-t8 : tie.Need-add-t8
+add-t8 c = search needs
 
 returns-10 : tie.Need-returns-10
 returns-10 c =
@@ -90,5 +90,5 @@ counter-tail-spec =
     returns-7
     returns-8
     returns-9
-    add-t10
+    add-t8
     returns-10)
