@@ -1,14 +1,14 @@
 -- Calls behind `&(` and `#(`.
 -- Assumes nothing.
 use mathlib.Core.Path.{_≡_, refl, ap, sym, _∙_}
-use mathlib.Core.Bool.{Bool, true, false, not, _&&_, true≢false, and-true, and-false}
+use mathlib.Core.Bool.{Bool, true, false, not, _&&_, _||_, true≢false, and-true, and-false}
 use mathlib.Core.List.{List, [], _∷_}
 use mathlib.Core.Option.{Option, none, some}
 use Prim.Native.Nat.{ℕ, _+_, _-_, _*_, _≤_, _<_}
 use native.Mathlib.Omega.{arith}
-use lib.Dec.{eqb}
+use lib.Dec.{eqb, ltb}
 use lib.ListN.{length}
-use borrow.Author.Tests.{ne-eqb}
+use borrow.Author.Tests.{ne-eqb, ltb-true, ltb-false}
 use Rattle.macros.specs.Macro.{Macro, Mark, Move, Call, Sign, pick, within, lower, digit}
 use Rattle.macros.specs.Macro.Mark.{stack, counter}
 use Rattle.macros.specs.Macro.Move.{still, before, after}
@@ -82,17 +82,22 @@ pub counter-unequal : (cmd : Bool) (i c m : ℕ) (v : Move) → c ≡ 61 → m �
 unfolding callByte pick isSign
 counter-unequal cmd i c m v e f g = rw (e, code-some v (omega (arith, f))) refl
 
-pub counter-colon : (cmd : Bool) (i c m : ℕ) (v : Move) → c ≡ 58 → m ≡ moveCode v → m ≤ 0 → cmd ≡ false → callByte cmd (named counter i v) c ≡ into (divisor i none)
-unfolding callByte pick isStill
-counter-colon cmd i c m v e f g h = rw (e, h, code-none v (omega (arith, f))) refl
+-- whether a `:` may stand
+colon : (cmd : Bool) (m : ℕ) (v : Move) → m ≡ moveCode v → (isStill v && not cmd) ≡ not (ltb 0 m || cmd)
+unfolding isStill
+colon cmd m v f = by (ltb 0 m) refl
+  where
+    by : (x : Bool) → ltb 0 m ≡ x → (isStill v && not cmd) ≡ not (x || cmd)
+    by true e = rw (code-some v (let g = ltb-true 0 m e in omega (arith, f))) refl
+    by false e = rw (code-none v (let g = ltb-false 0 m e in omega (arith, f))) refl
 
-pub counter-uncolon : (cmd : Bool) (i c m : ℕ) (v : Move) → c ≡ 58 → m ≡ moveCode v → 0 < m → callByte cmd (named counter i v) c ≡ wrong
+pub counter-colon : (cmd : Bool) (i c m : ℕ) (v : Move) → c ≡ 58 → m ≡ moveCode v → (ltb 0 m || cmd) ≡ false → callByte cmd (named counter i v) c ≡ into (divisor i none)
+unfolding callByte pick
+counter-colon cmd i c m v e f g = rw (e, colon cmd m v f, g) refl
+
+pub counter-uncolon : (cmd : Bool) (i c m : ℕ) (v : Move) → c ≡ 58 → m ≡ moveCode v → (ltb 0 m || cmd) ≡ true → callByte cmd (named counter i v) c ≡ wrong
 unfolding callByte pick isSign
-counter-uncolon cmd i c m v e f g = rw (e, code-some v (omega (arith, f))) refl
-
-pub counter-no-colon : (cmd : Bool) (i c m : ℕ) (v : Move) → c ≡ 58 → m ≡ moveCode v → m ≤ 0 → cmd ≡ true → callByte cmd (named counter i v) c ≡ wrong
-unfolding callByte pick isStill isSign
-counter-no-colon cmd i c m v e f g h = rw (e, h, code-none v (omega (arith, f))) refl
+counter-uncolon cmd i c m v e f g = rw (e, colon cmd m v f, g) refl
 
 pub counter-command : (cmd : Bool) (i c : ℕ) (v : Move) → c ≡ 41 → cmd ≡ true → callByte cmd (named counter i v) c ≡ wrong
 unfolding callByte pick isSign

@@ -377,10 +377,7 @@ fn counter_tail(c: u8, m: u8, cmd: bool) -> Tail
         return Tail::Set(SET_VALUE, MOST_COUNTER);
     }
     if c == b':' {
-        if 0 < m {
-            return Tail::Wrong;
-        }
-        if cmd {
+        if (0 < m) | cmd {
             return Tail::Wrong;
         }
         return Tail::Set(DIVIDE, MOST_COUNTER);

@@ -4,7 +4,7 @@ use Prim.Native.Nat.{_+_}
 use Rattle.macros.specs.Macro.Mark.{counter}
 use Rattle.macros.specs.Macro.Call.{setTo, setIncrement, divide}
 use Rattle.macros.specs.ReadSoFar.Phase.{equals, increment, divisor}
-use Rattle.read_file.proofs.Marks.{counter-comma, counter-uncomma, counter-equal, counter-unequal, counter-colon, counter-uncolon, counter-no-colon, counter-command, counter-close, counter-strange, sets-counter, sets-increment, sets-divisor, insert-counter}
+use Rattle.read_file.proofs.Marks.{counter-comma, counter-uncomma, counter-equal, counter-unequal, counter-colon, counter-uncolon, counter-command, counter-close, counter-strange, sets-counter, sets-increment, sets-divisor, insert-counter}
 use native.Mathlib.Omega.{arith}
 use borrow.Author.Needs.{needs}
 use Rattle.read_file.proofs.calls.counter_tail.Statement.{statement}
@@ -42,40 +42,32 @@ returns-5 c =
 
 returns-6 : tie.Need-returns-6
 returns-6 c =
-    let if5 = c .before .before .if5 in
-    let if6 = c .before .if6 in
-    let if7 = c .if7 in
-    λ i v e l. counter-no-colon _ i _ _ v (if5 .taken) e (if6 .left) (if7 .taken)
+    let if5 = c .before .if5 in
+    let if6 = c .if6 in
+    (omega arith, λ i v e. (divisor i, divide i, sets-divisor i, counter-colon _ i _ _ v (if5 .taken) e (if6 .left)))
 
 returns-7 : tie.Need-returns-7
 returns-7 c =
-    let if5 = c .before .before .if5 in
-    let if6 = c .before .if6 in
-    let if7 = c .if7 in
-    (omega arith, λ i v e. (divisor i, divide i, sets-divisor i, counter-colon _ i _ _ v (if5 .taken) e (if6 .left) (if7 .left)))
-
-returns-8 : tie.Need-returns-8
-returns-8 c =
     let if1 = c .before .before .before .if1 in
     let if3 = c .before .before .if3 in
     let if5 = c .before .if5 in
+    let if7 = c .if7 in
+    λ i v e l. counter-strange _ i _ v (if1 .left) (if3 .left) (if5 .left) (if7 .taken) l
+
+returns-8 : tie.Need-returns-8
+returns-8 c =
+    let if7 = c .before .if7 in
     let if8 = c .if8 in
-    λ i v e l. counter-strange _ i _ v (if1 .left) (if3 .left) (if5 .left) (if8 .taken) l
+    λ i v e l. counter-command _ i _ v (if7 .left) (if8 .taken)
+
+add-t9 : tie.Need-add-t9
+add-t9 c = search needs
 
 returns-9 : tie.Need-returns-9
 returns-9 c =
-    let if8 = c .before .if8 in
-    let if9 = c .if9 in
-    λ i v e l. counter-command _ i _ v (if8 .left) (if9 .taken)
-
-add-t8 : tie.Need-add-t8
-add-t8 c = search needs
-
-returns-10 : tie.Need-returns-10
-returns-10 c =
-    let if8 = c .before .if8 in
-    let if9 = c .if9 in
-    λ i v e. (counter-close _ i _ v (if8 .left) (if9 .left), insert-counter i v ∙ ap (λ x. (56 + x) ∷ i ∷ []) (sym e))
+    let if7 = c .before .if7 in
+    let if8 = c .if8 in
+    λ i v e. (counter-close _ i _ v (if7 .left) (if8 .left), insert-counter i v ∙ ap (λ x. (56 + x) ∷ i ∷ []) (sym e))
 
 pub counter-tail-spec : {M : Type 1} → statement M
 counter-tail-spec =
@@ -89,6 +81,5 @@ counter-tail-spec =
     returns-6
     returns-7
     returns-8
-    returns-9
-    add-t8
-    returns-10)
+    add-t9
+    returns-9)
