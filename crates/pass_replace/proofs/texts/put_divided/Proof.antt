@@ -19,7 +19,9 @@ slice-aggregate-put-figures : tie.Need-slice-aggregate-put-figures
 slice-aggregate-put-figures c = search needs
 
 put-figures-requires : tie.Need-put-figures-requires
-put-figures-requires c κs = let a = c .before .before in (omega (arith, a .pre .0, div-le-self (a .args .v) (a .args .n)), omega arith, omega arith)
+put-figures-requires c κs =
+    let a = c .before .before in
+    (omega (arith, a .pre .0, div-le-self (a .args .v) (a .args .n), mod-le (a .args .v) (a .args .n)), omega arith, omega arith)
 
 array-write-text : tie.Need-array-write-text
 array-write-text c = omega (arith, c .before .put-figures .ensures .few)
@@ -35,7 +37,7 @@ put-figures-requires-2 c κs =
     let a = c .before .before .before .before .before in
     let q = c .before .before .put-figures in
     let l = length-set (q .last .0) (q .result) 32 in (
-      omega (arith, a .pre .0, mod-le (a .args .v) (a .args .n)),
+      omega (arith, a .pre .0, div-le-self (a .args .v) (a .args .n), mod-le (a .args .v) (a .args .n)),
       omega (arith, q .ensures .few, q .kept .0, l),
       omega (arith, q .kept .0, l),
     )
