@@ -31,12 +31,12 @@ use Rattle.lines.specs.Feeding.{kindNumber, outputOf, kindOfDone, refusa
 -- the name that opens all definitions for a computed case
 unfoldable pub everything : ℕ
 unfolding macrosOpen kindOf freshStack freshCounter fresh stackOf counterOf currentEntry contents byteFits begins isMember inClass fits
-    width Copies Allowed Satisfies Divides endOf Fewer then more spare repeated isEnd chosen closing tagText dividedText unless onto puts put withStack
-    withCounter withPointer withValue withIncrement withEntry fallen moves early late stores callActs acts replaces commandsAct occur barred
-    unlessBarred counting match goOn matched atEnd onward atByte walk pass occurrences occurred outcome isIn unlessClosed openFrom
-    newestFirst closingMacro closedBy isControl due follow afterPass textOf passes lineOf passesOf hadOccurrence ending same withTrace
-    withNflag flagOrder macroOrder orderOf numberOf placeOf kindNumber outputOf kindOfDone refusal ofOrder answered answer hasBadByte feed
-    feeds
+    width Copies Allowed Satisfies Divides endOf Fewer then more spare repeated isEnd chosen closing tagText dividedText unless onto puts
+    put withStack withCounter withPointer withValue withIncrement withEntry fallen moves early late stores callActs acts replaces
+    commandsAct occur barred unlessBarred counting match goOn matched atEnd onward atByte walk pass occurrences occurred outcome isIn
+    unlessClosed openFrom newestFirst closingMacro closedBy isControl due follow afterPass textOf passes lineOf passesOf hadOccurrence
+    ending same withTrace withNflag flagOrder macroOrder orderOf numberOf placeOf kindNumber outputOf kindOfDone refusal ofOrder answered
+    answer hasBadByte feed feeds
 everything = 0
 
 -- WHAT A CASE SHOWS

@@ -19,7 +19,7 @@ pub record Divided (v n : ℕ) (s : List ℕ) : Type 0 where
   pub value : quotient * n + remainder ≡ v
   -- "and the remainder is below n"; n is 1 or more
   pub below : 0 < n → remainder < n
-  -- no macro has n 0
+  -- of n 0, which no macro has: so that there is one text
   pub byNone : n ≡ 0 → quotient ≡ 0
 
 -- THE LAW: that text and no other
