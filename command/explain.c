@@ -64,12 +64,12 @@ static const struct number numbers[] = {
     {M7_BAD_CALL, writer,
      "&(..) calls a stack and #(..) a counter; i is a letter from a to z.\n"
      "  in a pattern       &(i) #(i)\n"
-     "  in a replacement   {n} &(i) &(n,i) &(i=n) &(i:text:) #(i) #(i=n) #(i,n)\n"
+     "  in a replacement   {n} &(i) &(n,i) &(i=n) &(i:text:) #(i) #(i=n) #(i,n) #(i:n)\n"
      "  as a command       &(n,i) &(i=n) &(i:text:) #(i=n) #(i,n)\n"
      "Except in a pattern, one + or - may stand before or after the i of &(i), &(n,i),\n"
      "&(i:text:) and #(i). The n of {n} and &(n,i) is a tag that the pattern has, that\n"
-     "of &(i=n) is 1 to 20, that of #(i=n) and #(i,n) 1 to 999,999,999. A text has at\n"
-     "most 50 bytes. Write \\{ for a brace, and \\& or \\# where no call is meant.\n",
+     "of &(i=n) is 1 to 20, that of #(i=n), #(i,n) and #(i:n) 1 to 999,999,999. A text\n"
+     "has at most 50 bytes. Write \\{ for a brace, and \\& or \\# where no call is meant.\n",
      "'a'='{2}';", NULL, NULL, NULL},
     {M7_NO_ELEMENT, writer,
      "Between its quotes a pattern has something to match. Braces alone do not count;\n"

@@ -117,7 +117,7 @@ static const char *call_forms(const struct table *table, const struct part *call
     }
     if (quoted)
         return is_stack ? "note: a stack call here is &(i), &(n,i), &(i=n) or &(i:text:)"
-                        : "note: a counter call here is #(i), #(i=n) or #(i,n)";
+                        : "note: a counter call here is #(i), #(i=n), #(i,n) or #(i:n)";
     return is_stack ? "note: a command on a stack is &(n,i), &(i=n) or &(i:text:)"
                     : "note: a command on a counter is #(i=n) or #(i,n)";
 }

@@ -88,6 +88,8 @@ pub enum Action {
     Value(u8, Option<Move>),
     SetCounter(u8, u64),
     SetIncrement(u8, u64),
+    /// `#(i:n)`: the value divided by n, a space, and what is left over.
+    Divided(u8, u64),
 }
 
 #[derive(Clone, Debug, PartialEq, Eq)]

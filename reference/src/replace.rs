@@ -65,6 +65,10 @@ impl<'a> Occurrence<'a> {
             Action::Value(i, step) => insert_value(state, *i, *step, new)?,
             Action::SetCounter(i, n) => state.counter_mut(*i).value = *n,
             Action::SetIncrement(i, n) => state.counter_mut(*i).increment = *n,
+            Action::Divided(i, n) => {
+                let value = state.counter(*i).value;
+                new.append(format!("{} {}", value / n, value % n).as_bytes())?;
+            }
         }
         Ok(())
     }

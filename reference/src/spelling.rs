@@ -138,6 +138,7 @@ impl Speller<'_> {
             Action::Value(i, step) => format!("#({})", moved(*i, *step)),
             Action::SetCounter(i, n) => format!("#({}={n})", *i as char),
             Action::SetIncrement(i, n) => format!("#({},{n})", *i as char),
+            Action::Divided(i, n) => format!("#({}:{n})", *i as char),
         };
         self.put(&text);
     }

@@ -141,7 +141,8 @@ fn among_all_short_texts_none_is_shorter() {
     let classes = fewest_bytes("'[", "]'='';", b"ac\\]~-[", 6);
     let replacements = fewest_bytes("'{a}'='", "';", b"a\\&#():{}1", 5);
     let texts = fewest_bytes("'a'='&(a:", ":)';", b"a\\:/&({", 5);
-    println!("{patterns} {signs} {classes} {replacements} {texts} macros");
+    let counters = fewest_bytes("'a'='#(", ")';", b"a:,=10 +/", 5);
+    println!("{patterns} {signs} {classes} {replacements} {texts} {counters} macros");
     assert!(patterns > 1000 && signs > 1000 && classes > 1000 && replacements > 1000);
 }
 
@@ -186,6 +187,9 @@ fn some_macros_are_spelled_by_no_file() {
         of_actions(0, vec![Action::Literal(0)], Vec::new()),
         of_actions(0, vec![Action::SetPointer(b'a', 21)], Vec::new()),
         of_actions(0, vec![Action::SetCounter(b'a', 1_000_000_000)], Vec::new()),
+        of_actions(0, vec![Action::Divided(b'a', 1_000_000_000)], Vec::new()),
+        of_actions(0, vec![Action::Divided(b'a', 0)], Vec::new()),
+        of_actions(0, Vec::new(), vec![Action::Divided(b'a', 4)]),
         of_actions(0, Vec::new(), vec![Action::Entry(b'a', None)]),
         of_actions(0, Vec::new(), vec![Action::Literal(b'a')]),
         of_pattern(Vec::new()),

@@ -102,5 +102,6 @@ fn action_items(action: &Action) -> Vec<u8> {
         Action::SetPointer(letter, n) => set(80, *letter, *n as u64),
         Action::SetCounter(letter, n) => set(88, *letter, *n),
         Action::SetIncrement(letter, n) => set(96, *letter, *n),
+        Action::Divided(letter, n) => set(104, *letter, *n),
     }
 }

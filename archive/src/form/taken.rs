@@ -126,6 +126,7 @@ fn action(items: &mut Items) -> Option<Action> {
         10 => Action::SetPointer(operand, items.four()? as usize),
         11 => Action::SetCounter(operand, items.four()?),
         12 => Action::SetIncrement(operand, items.four()?),
+        13 => Action::Divided(operand, items.four()?),
         _ => return None,
     })
 }

@@ -1,7 +1,7 @@
 -- Each way through the code's step against the definition's. Assumes nothing.
 use Prim.Native.Nat.{ℕ, zero, suc, _+_, _-_, _/_, _%_, _≤_, _<_}
 use mathlib.Core.Path.{_≡_, refl, sym, _∙_}
-use mathlib.Core.Bool.{Bool, true, false, not, _||_}
+use mathlib.Core.Bool.{Bool, true, false, not, _&&_, _||_}
 use mathlib.Core.Option.{Option, none, some}
 use native.Mathlib.Omega.{arith}
 use borrow.Author.Tests.{eq-eqb, ne-eqb, le-leb, lt-leb}
@@ -10,7 +10,7 @@ use Rattle.macros.specs.Macro.{Mark, Move, pick, within, asciiLower}
 use Rattle.macros.specs.Macro.Mark.{stack, counter}
 use Rattle.macros.specs.Macro.Sign.{plus, minus}
 use Rattle.macros.specs.Macro.Move.{still, before, after}
-use Rattle.macros.specs.Macro.Call.{setTo, setIncrement}
+use Rattle.macros.specs.Macro.Call.{setTo, setIncrement, divide}
 use Rattle.macros.specs.Read.{isStill}
 use Rattle.macros.specs.Formed.{limit}
 use Rattle.form_table.specs.Walk.{given, bit}
@@ -65,6 +65,11 @@ unfolding given calledStep callAt
 number-added cmd n o true = refl
 number-added cmd n o false = refl
 
+number-divides : (cmd : Bool) (n o : ℕ) (t : Bool) → calledStep cmd n (given t (divide o 0)) ≡ given (t && not cmd) (actionAt (n + 5) (lowDue (limit counter)))
+unfolding given calledStep callAt
+number-divides cmd n o true = refl
+number-divides cmd n o false = refl
+
 module _ (cmd : Bool) (n c m o : ℕ) where
   pub call-unmoved : 4 < m → callStep cmd n c o (moveOf m) ≡ none
   unfolding moveOf pick callStep
@@ -117,10 +122,16 @@ module _ (cmd : Bool) (n c m o r : ℕ) (four : m ≤ 4) (low : 97 ≤ o) (high 
   unfolding callAs pick limit
   call-increment p = known ∙ rw (p, moved m four .stays) (number-added cmd n o (eqb m 0))
 
+  pub call-divide : c ≡ 13 → callStep cmd n c o (moveOf m) ≡ given (eqb m 0 && not cmd) (actionAt (n + 5) (lowDue 999999999))
+  unfolding callAs pick limit
+  call-divide p = known ∙ rw (p, moved m four .stays) (number-divides cmd n o (eqb m 0))
+
   pub call-not :
-      (c ≡ 6 → ⊥) → (c ≡ 7 → ⊥) → (c ≡ 8 → ⊥) → (c ≡ 9 → ⊥) → (c ≡ 10 → ⊥) → (c ≡ 11 → ⊥) → (c ≡ 12 → ⊥) → callStep cmd n c o (moveOf m) ≡ none
+      (c ≡ 6 → ⊥) → (c ≡ 7 → ⊥) → (c ≡ 8 → ⊥) → (c ≡ 9 → ⊥) → (c ≡ 10 → ⊥) → (c ≡ 11 → ⊥) → (c ≡ 12 → ⊥) → (c ≡ 13 → ⊥)
+      → callStep cmd n c o (moveOf m) ≡ none
   unfolding calledStep callAs pick
-  call-not a b f g h i k = known ∙ simp (ne-eqb c 6 a, ne-eqb c 7 b, ne-eqb c 8 f, ne-eqb c 9 g, ne-eqb c 10 h, ne-eqb c 11 i, ne-eqb c 12 k)
+  call-not a b f g h i k l =
+      known ∙ simp (ne-eqb c 6 a, ne-eqb c 7 b, ne-eqb c 8 f, ne-eqb c 9 g, ne-eqb c 10 h, ne-eqb c 11 i, ne-eqb c 12 k, ne-eqb c 13 l)
 
 -- THE FIRST ITEM OF AN ACTION
 

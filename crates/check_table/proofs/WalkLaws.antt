@@ -13,7 +13,7 @@ use Rattle.macros.specs.Macro.{Closure, PatternUnit, Move, Call, pick, among, w
 use Rattle.macros.specs.Macro.Closure.{once, oneOrMore, zeroOrMore}
 use Rattle.macros.specs.Macro.PatternUnit.{literal, kind, class, callOf}
 use Rattle.macros.specs.Macro.Move.{still, before, after}
-use Rattle.macros.specs.Macro.Call.{insert, storeTag, setTo, storeText, setIncrement}
+use Rattle.macros.specs.Macro.Call.{insert, storeTag, setTo, storeText, setIncrement, divide}
 use Rattle.macros.specs.Read.{signs}
 use Rattle.form_table.specs.Walk.{given, bit, walk}
 use Rattle.form_table.specs.PatternWalk.{Joint, Inside, PatternState, closureLength, literalLength, joinsAt, elementAt, elementStep, signStep, pieceStep, owed, atStart, memberLength, memberStep, rangeStep, patternStep, patternStart, unitOf, closureOf}
@@ -207,6 +207,7 @@ module _ (cmd : Bool) (n : ℕ) where
   call-grows (storeText i v t) = omega (arith, move-most v)
   call-grows (setTo m i k) = omega arith
   call-grows (setIncrement i k) = omega arith
+  call-grows (divide i k) = within-given size _ (not cmd) (omega arith)
 
   called-grows : (c : Option Call) → Within size (n + 11) (calledStep cmd n c)
   unfolding calledStep

@@ -118,6 +118,17 @@ fn number_step(n: u32, m: u8, l: u32) -> ActionNext
     ActionNext::Refused
 }
 
+// The call that divides, in a replacement only.
+fn divide_step(cmd: bool, n: u32, m: u8) -> ActionNext
+    requires { ⌜ n ≤ 100000 ⌝ }
+    ensures { λ r. ⌜ nextOf r ≡ given (eqb m 0 && not cmd) (actionAt (n + 5) (lowDue 999999999)) ⌝ }
+{
+    if cmd {
+        return ActionNext::Refused;
+    }
+    number_step(n, m, 999999999)
+}
+
 fn insert_step(cmd: bool, n: u32) -> ActionNext
     ensures { λ r. ⌜ nextOf r ≡ given (not cmd) (actionAt n (behindAction false)) ⌝ }
 {
@@ -150,6 +161,7 @@ fn call_step(cmd: bool, n: u32, c: u8, m: u8, o: u8) -> ActionNext
         10 => number_step(n, m, 20),
         11 => number_step(n, m, 999999999),
         12 => number_step(n, m, 999999999),
+        13 => divide_step(cmd, n, m),
         _ => ActionNext::Refused,
     }
 }

@@ -67,6 +67,9 @@ pub const SET_VALUE: u8 = 88;
 
 pub const SET_INCREMENT: u8 = 96;
 
+// The call that divides a value by a number.
+pub const DIVIDE: u8 = 104;
+
 // Moves: none, by `+` or `-` before the letter, by them behind it.
 pub const STILL: u8 = 0;
 

@@ -12,7 +12,7 @@ use Rattle.macros.specs.Macro.{Move, Call, pick}
 use Rattle.macros.specs.Macro.Mark.{stack, counter}
 use Rattle.macros.specs.Macro.Sign.{plus, minus}
 use Rattle.macros.specs.Macro.Move.{still, before, after}
-use Rattle.macros.specs.Macro.Call.{insert, storeTag, setTo, storeText, setIncrement}
+use Rattle.macros.specs.Macro.Call.{insert, storeTag, setTo, storeText, setIncrement, divide}
 use Rattle.macros.specs.Read.{isStill}
 use Rattle.form_bytes.specs.Fours.{four}
 use Rattle.form_table.specs.Form.{moveCode, evened, callItems}
@@ -58,6 +58,7 @@ codeOf (storeText i v t) = 9
 codeOf (setTo stack i n) = 10
 codeOf (setTo counter i n) = 11
 codeOf (setIncrement i n) = 12
+codeOf (divide i n) = 13
 
 abbrev pub letterOf : Call → ℕ
 letterOf (insert m i v) = i
@@ -65,6 +66,7 @@ letterOf (storeTag n i v) = i
 letterOf (storeText i v t) = i
 letterOf (setTo m i n) = i
 letterOf (setIncrement i n) = i
+letterOf (divide i n) = i
 
 abbrev pub moveIn : Call → Move
 moveIn (insert m i v) = v
@@ -72,6 +74,7 @@ moveIn (storeTag n i v) = v
 moveIn (storeText i v t) = v
 moveIn (setTo m i n) = still
 moveIn (setIncrement i n) = still
+moveIn (divide i n) = still
 
 -- a call as its first item says it
 abbrev pub headCall : Call → Call
@@ -80,6 +83,7 @@ headCall (storeTag n i v) = storeTag 0 i v
 headCall (storeText i v t) = storeText i v []
 headCall (setTo m i n) = setTo m i 0
 headCall (setIncrement i n) = setIncrement i 0
+headCall (divide i n) = divide i 0
 
 -- the rest of its items
 abbrev pub restOf : Call → List ℕ
@@ -88,6 +92,7 @@ restOf (storeTag n i v) = 42 ∷ n ∷ []
 restOf (storeText i v t) = 43 ∷ length t ∷ evened t
 restOf (setTo m i n) = four n
 restOf (setIncrement i n) = four n
+restOf (divide i n) = four n
 
 pub call-split : (c : Call) → callItems c ≡ (8 * codeOf c + moveCode (moveIn c)) ∷ letterOf c ∷ restOf c
 unfolding callItems moveCode
@@ -98,6 +103,7 @@ call-split (storeText i v t) = refl
 call-split (setTo stack i n) = refl
 call-split (setTo counter i n) = refl
 call-split (setIncrement i n) = refl
+call-split (divide i n) = refl
 
 pub call-as : (c : Call) → callAs (codeOf c) (letterOf c) (moveIn c) ≡ some (headCall c)
 unfolding callAs pick given isStill
@@ -108,6 +114,7 @@ call-as (storeText i v t) = refl
 call-as (setTo stack i n) = refl
 call-as (setTo counter i n) = refl
 call-as (setIncrement i n) = refl
+call-as (divide i n) = refl
 
 pub record Says (c i : ℕ) (v : Move) (h : Call) : Type 0 where
   pub code : codeOf h ≡ c
@@ -128,6 +135,8 @@ as-call c i v h e =
     (λ t e. granted (isStill v) e λ w q. rw (← q) (record { code = sym (eqb-true c 11 t); letter = refl; move = sym (still-only v w); bare = refl }))
     λ f e. picked (eqb c 12) e
     (λ t e. granted (isStill v) e λ w q. rw (← q) (record { code = sym (eqb-true c 12 t); letter = refl; move = sym (still-only v w); bare = refl }))
+    λ f e. picked (eqb c 13) e
+    (λ t e. granted (isStill v) e λ w q. rw (← q) (record { code = sym (eqb-true c 13 t); letter = refl; move = sym (still-only v w); bare = refl }))
     λ f e. not-some e
 
 -- a call's code holds its move's
@@ -137,7 +146,7 @@ code-call c v = omega (arith, move-code v)
 pub code-move : (c : ℕ) (v : Move) → (8 * c + moveCode v) % 8 ≡ moveCode v
 code-move c v = omega (arith, move-code v)
 
-pub code-range : (c : Call) → (6 ≤ codeOf c) × (codeOf c ≤ 12)
+pub code-range : (c : Call) → (6 ≤ codeOf c) × (codeOf c ≤ 13)
 code-range (insert stack i v) = omega arith
 code-range (insert counter i v) = omega arith
 code-range (storeTag n i v) = omega arith
@@ -145,3 +154,4 @@ code-range (storeText i v t) = omega arith
 code-range (setTo stack i n) = omega arith
 code-range (setTo counter i n) = omega arith
 code-range (setIncrement i n) = omega arith
+code-range (divide i n) = omega arith

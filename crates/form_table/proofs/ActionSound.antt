@@ -11,7 +11,7 @@ use borrow.Author.Tests.{eqb-true, eqb-false, leb-true, not-true}
 use Rattle.macros.specs.Bounds.{mostEntryBytes}
 use Rattle.macros.specs.Macro.{Move, Call, Action, pick, within, asciiLower}
 use Rattle.macros.specs.Macro.Mark.{stack, counter}
-use Rattle.macros.specs.Macro.Call.{insert, storeTag, setTo, storeText, setIncrement}
+use Rattle.macros.specs.Macro.Call.{insert, storeTag, setTo, storeText, setIncrement, divide}
 use Rattle.macros.specs.Macro.Action.{text, tag, call}
 use Rattle.macros.specs.Formed.{Octets, Byte, Bytes, Letter, FormedCall, numberFits}
 use Rattle.macros.specs.Spell.{isMark}
@@ -27,8 +27,8 @@ use Rattle.form_table.proofs.Texts.{bytes-onto, evened-even, evened-odd
 use Rattle.form_table.proofs.Octet.{limit-fits}
 use Rattle.form_table.proofs.Walks.{granted, some-same, walk-kept}
 use Rattle.form_table.proofs.ActionCodes.{of-move, codeOf, letterOf, moveIn, Says, as-call}
-use Rattle.form_table.proofs.ActionStates.{Numbered, numbered, limitOf, letterIn, firstCode, Walked, AsCommand, AllAllowed, Texting, FormedWalked, itemsOf, top, cost, textCost, stateOf, at-text, at-tag, at-insert, at-store-tag, at-number, at-store-text, more-acts}
-use Rattle.form_table.proofs.ActionStates.Numbered.{sets, increases}
+use Rattle.form_table.proofs.ActionStates.{Numbered, numbered, limitOf, letterIn, firstCode, FormedNumbered, Walked, AsCommand, AllAllowed, Texting, FormedWalked, itemsOf, top, cost, textCost, stateOf, at-text, at-tag, at-insert, at-store-tag, at-number, at-store-text, more-acts}
+use Rattle.form_table.proofs.ActionStates.Numbered.{sets, increases, divides}
 use Rattle.form_table.proofs.ActionStates.Walked.{acts, tagging, measuring, texting, low, high}
 
 -- a call with a number
@@ -37,16 +37,19 @@ unfolding callItems
 numbered-items (sets stack i) w = refl
 numbered-items (sets counter i) w = refl
 numbered-items (increases i) w = refl
+numbered-items (divides i) w = refl
 
 pub numbered-limit : (c : Numbered) → limitOf c ≤ 999999999
 numbered-limit (sets m i) = limit-fits m
 numbered-limit (increases i) = limit-fits counter
+numbered-limit (divides i) = limit-fits counter
 
-numbered-formed : (cmd : Bool) (k : ℕ) (c : Numbered) (w : ℕ) → Letter (letterIn c) → within 1 (limitOf c) w ≡ true
+numbered-formed : (cmd : Bool) (k : ℕ) (c : Numbered) (w : ℕ) → FormedNumbered cmd c → within 1 (limitOf c) w ≡ true
     → FormedCall k (numbered c w) × (cmd ≡ true → AsCommand (call (numbered c w)))
 unfolding numberFits
 numbered-formed cmd k (sets m i) w l e = (record { names = l; numbers = e }, λ t. tt)
 numbered-formed cmd k (increases i) w l e = (record { names = l; numbers = e }, λ t. tt)
+numbered-formed cmd k (divides i) w l e = (record { names = l .0; numbers = e }, l .1)
 
 -- STEPS, behind n bytes spelled before
 
@@ -77,6 +80,8 @@ module _ (cmd : Bool) (k n : ℕ) where
     next-called (setTo stack i t) l p r e = (low xs (sets stack i), (f, rw r at l), sym (some-same e), rw (p, r))
     next-called (setTo counter i t) l p r e = (low xs (sets counter i), (f, rw r at l), sym (some-same e), rw (p, r))
     next-called (setIncrement i t) l p r e = (low xs (increases i), (f, rw r at l), sym (some-same e), rw (p, r))
+    next-called (divide i t) l p r e =
+        granted (not cmd) e λ w q. (low xs (divides i), (f, (rw r at l, λ t. clash t (not-true cmd w))), sym q, rw (p, r))
 
     next-call : callStep cmd (n + cost xs) (c / 8) o (moveOf (c % 8)) ≡ some s → Next (acts xs) c o s
     unfolding callStep asciiLower calledStep
@@ -181,11 +186,11 @@ module _ (cmd : Bool) (k n : ℕ) where
           (ap (λ (m : ℕ). actionAt m (textSpot (q - 2))) (omega arith) ∙ r))
 
     module _ (d : Numbered) where
-      next-low : Letter (letterIn d) → c ≤ 255 → o ≤ 255 → actionStep cmd k (stateOf n (low xs d)) c o ≡ some s → Next (low xs d) c o s
+      next-low : FormedNumbered cmd d → c ≤ 255 → o ≤ 255 → actionStep cmd k (stateOf n (low xs d)) c o ≡ some s → Next (low xs d) c o s
       unfolding actionStep itemsOf
       next-low l g h e = (high xs d c o, (f, l, g, h), sym (some-same e), rw (append-assoc (replacementItems (reverse xs))))
 
-      next-high : (a b : ℕ) → Letter (letterIn d) → a ≤ 255 → b ≤ 255 → c ≤ 255 → actionStep cmd k (stateOf n (high xs d a b)) c o ≡ some s → Next (high xs d a b) c o s
+      next-high : (a b : ℕ) → FormedNumbered cmd d → a ≤ 255 → b ≤ 255 → c ≤ 255 → actionStep cmd k (stateOf n (high xs d a b)) c o ≡ some s → Next (high xs d a b) c o s
       unfolding actionStep highStep itemsOf actionItems
       next-high a b l g h j e =
           let w : ℕ = a + 256 * b + 65536 * c + 16777216 * o in

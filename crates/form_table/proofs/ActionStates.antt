@@ -11,7 +11,7 @@ use Rattle.macros.specs.Bounds.{mostEntryBytes}
 use Rattle.macros.specs.Macro.{Mark, Move, Call, Action, pick, among}
 use Rattle.macros.specs.Macro.Mark.{stack, counter}
 use Rattle.macros.specs.Macro.Move.{still, before, after}
-use Rattle.macros.specs.Macro.Call.{insert, storeTag, setTo, storeText, setIncrement}
+use Rattle.macros.specs.Macro.Call.{insert, storeTag, setTo, storeText, setIncrement, divide}
 use Rattle.macros.specs.Macro.Action.{text, tag, call}
 use Rattle.macros.specs.Write.{byte, digits, nameBytes, innerBytes, callBytes}
 use Rattle.macros.specs.Formed.{Bytes, Letter, FormedAction, Commands, limit}
@@ -27,23 +27,34 @@ use Rattle.form_table.proofs.Figures.{digits-figures}
 pub data Numbered : Type 0 where
   sets : Mark → ℕ → Numbered
   increases : ℕ → Numbered
+  divides : ℕ → Numbered
 
 abbrev pub numbered : Numbered → ℕ → Call
 numbered (sets m i) n = setTo m i n
 numbered (increases i) n = setIncrement i n
+numbered (divides i) n = divide i n
 
 abbrev pub limitOf : Numbered → ℕ
 limitOf (sets m i) = limit m
 limitOf (increases i) = limit counter
+limitOf (divides i) = limit counter
 
 abbrev pub letterIn : Numbered → ℕ
 letterIn (sets m i) = i
 letterIn (increases i) = i
+letterIn (divides i) = i
 
 abbrev pub firstCode : Numbered → ℕ
 firstCode (sets stack i) = 80
 firstCode (sets counter i) = 88
 firstCode (increases i) = 96
+firstCode (divides i) = 104
+
+-- its letter, and where it may stand; cmd: among commands
+abbrev pub FormedNumbered : (cmd : Bool) → Numbered → Type 0
+FormedNumbered cmd (sets m i) = Letter i
+FormedNumbered cmd (increases i) = Letter i
+FormedNumbered cmd (divides i) = Letter i × (cmd ≡ true → ⊥)
 
 -- actions; in a call, with its letter and move: its tag, its length, so many bytes of its text to come; a number's halves
 pub data Walked : Type 0 where
@@ -80,8 +91,8 @@ FormedWalked cmd k (acts xs) = AllAllowed cmd k xs
 FormedWalked cmd k (tagging xs i v) = AllAllowed cmd k xs × Letter i
 FormedWalked cmd k (measuring xs i v) = AllAllowed cmd k xs × Letter i
 FormedWalked cmd k (texting xs i v t q) = AllAllowed cmd k xs × Texting i t q
-FormedWalked cmd k (low xs c) = AllAllowed cmd k xs × Letter (letterIn c)
-FormedWalked cmd k (high xs c a b) = AllAllowed cmd k xs × Letter (letterIn c) × (a ≤ 255) × (b ≤ 255)
+FormedWalked cmd k (low xs c) = AllAllowed cmd k xs × FormedNumbered cmd c
+FormedWalked cmd k (high xs c a b) = AllAllowed cmd k xs × FormedNumbered cmd c × (a ≤ 255) × (b ≤ 255)
 
 unfoldable pub itemsOf : Walked → List ℕ
 itemsOf (acts xs) = replacementItems (reverse xs)
@@ -180,6 +191,7 @@ module _ (n : ℕ) (xs : List Action) where
   unfolding cost spellAction leavesMark isMark callBytes innerBytes
   at-number (sets m i) w h = same _ _ _ _ (omega (arith, digits-figures w h, length-append (digits w) (41 ∷ []))) refl
   at-number (increases i) w h = same _ _ _ _ (omega (arith, digits-figures w h, length-append (digits w) (41 ∷ []))) refl
+  at-number (divides i) w h = same _ _ _ _ (omega (arith, digits-figures w h, length-append (digits w) (41 ∷ []))) refl
 
   pub at-store-text : (i : ℕ) (v : Move) (t : List ℕ)
       → actionAt (n + cost xs + 6 + moveLength v + textCost t) (behindAction false) ≡ stateOf n (acts (call (storeText i v (reverse t)) ∷ xs))

@@ -9,7 +9,7 @@ use lib.ListN.{length}
 use borrow.Author.Tests.{ne-eqb, le-leb}
 use Rattle.macros.specs.Bounds.{mostTags, mostEntryBytes}
 use Rattle.macros.specs.Macro.{Move, Call, Action, pick, within, asciiLower}
-use Rattle.macros.specs.Macro.Call.{insert, storeTag, setTo, storeText, setIncrement}
+use Rattle.macros.specs.Macro.Call.{insert, storeTag, setTo, storeText, setIncrement, divide}
 use Rattle.macros.specs.Macro.Action.{text, tag, call}
 use Rattle.macros.specs.Formed.{Bytes, Letter, numberFits}
 use Rattle.macros.specs.Spell.{isMark}
@@ -24,7 +24,7 @@ use Rattle.form_table.proofs.Basics.{within-of, within-high}
 use Rattle.form_table.proofs.Walks.{walk-on}
 use Rattle.form_table.proofs.ActionCodes.{move-of, codeOf, letterOf, moveIn, headCall, call-split, call-as, code-call, code-move, code-range}
 use Rattle.form_table.proofs.ActionStates.{Numbered, numbered, limitOf, Walked, Allowed, AllAllowed, cost, textCost, stateOf, at-text, at-tag, at-insert, at-store-tag, at-number, at-store-text}
-use Rattle.form_table.proofs.ActionStates.Numbered.{sets, increases}
+use Rattle.form_table.proofs.ActionStates.Numbered.{sets, increases, divides}
 use Rattle.form_table.proofs.ActionStates.Walked.{acts, tagging, measuring, low, high}
 use Rattle.form_table.proofs.ActionSound.{numbered-limit}
 use Rattle.form_table.proofs.Texts.{evened-even, evened-odd, evened-two}
@@ -114,6 +114,10 @@ module _ (cmd : Bool) (k n : ℕ) (xs : List Action) (l : List ℕ) where
   call-there (setIncrement i w) h f =
       rw (call-split (setIncrement i w))
       (first (setIncrement i w) (stateOf n (low xs (increases i))) (four w ++ l) (f .0 .names) refl ∙ number-there (increases i) w (f .0 .numbers))
+  call-there (divide i w) h f =
+      rw (call-split (divide i w))
+      (first (divide i w) (stateOf n (low xs (divides i))) (four w ++ l) (f .0 .names) (rw (replaces cmd (f .1)))
+      ∙ number-there (divides i) w (f .0 .numbers))
 
   -- ACTIONS
 

@@ -14,7 +14,7 @@ use Rattle.macros.specs.Macro.{Call, Action, Macro, pick}
 use Rattle.macros.specs.Macro.Mark.{stack, counter}
 use Rattle.macros.specs.Macro.Sign.{plus, minus}
 use Rattle.macros.specs.Macro.Move.{still, before, after}
-use Rattle.macros.specs.Macro.Call.{insert, storeTag, setTo, storeText, setIncrement}
+use Rattle.macros.specs.Macro.Call.{insert, storeTag, setTo, storeText, setIncrement, divide}
 use Rattle.macros.specs.Macro.Action.{text, tag, call}
 use Rattle.form_bytes.specs.Fours.{four}
 use Rattle.form_table.specs.Form.{two, moveCode, evened, callItems, callsItems, actionItems, replacementItems, header, body, bodyBytes, slot, slotBytes}
@@ -106,6 +106,7 @@ call-size (storeText i (before minus) t) r = let z = even-length t in omega arit
 call-size (storeText i (after plus) t) r = let z = even-length t in omega arith
 call-size (storeText i (after minus) t) r = let z = even-length t in omega arith
 call-size (setIncrement i n) r = refl
+call-size (divide i n) r = refl
 
 pub action-size : (a : Action) (r : List ℕ) → actionSize (actionItems a ++ r) ≡ length (actionItems a)
 unfolding actionItems actionSize pick

@@ -15,7 +15,7 @@ use Rattle.macros.specs.Macro.Mark.{stack}
 use Rattle.macros.specs.Macro.PatternUnit.{literal, kind, class, callOf}
 use Rattle.macros.specs.Macro.Piece.{element, start, end, left, right}
 use Rattle.macros.specs.Macro.Move.{still}
-use Rattle.macros.specs.Macro.Call.{insert, storeTag, setTo, storeText, setIncrement}
+use Rattle.macros.specs.Macro.Call.{insert, storeTag, setTo, storeText, setIncrement, divide}
 use Rattle.macros.specs.Macro.Action.{text, tag, call}
 use Rattle.macros.specs.Formed.{FormedPieces}
 use Rattle.form_bytes.specs.Fours.{four, numberAt}
@@ -118,6 +118,7 @@ callIn (some (storeTag n i v)) l = storeTag (getD l 1 0) i v
 callIn (some (storeText i v t)) l = storeText i v (take (getD l 1 0) (drop 2 l))
 callIn (some (setTo m i n)) l = setTo m i (numberAt l 0)
 callIn (some (setIncrement i n)) l = setIncrement i (numberAt l 0)
+callIn (some (divide i n)) l = divide i (numberAt l 0)
 
 call-in : (c : Call) (l : List ℕ) → callIn (some (headCall c)) (restOf c ++ l) ≡ c
 unfolding callIn evened
@@ -126,6 +127,7 @@ call-in (storeTag n i v) l = refl
 call-in (storeText i v t) l = ap (storeText i v) (rw append-assoc (take-append-seam t _))
 call-in (setTo m i n) l = ap (setTo m i) (number-in n l)
 call-in (setIncrement i n) l = ap (setIncrement i) (number-in n l)
+call-in (divide i n) l = ap (divide i) (number-in n l)
 
 moved : ℕ → ℕ → Option Move → Option Call
 moved c o none = none

@@ -13,7 +13,7 @@ use Rattle.macros.specs.Macro.PatternUnit.{literal, kind, class, callOf}
 use Rattle.macros.specs.Macro.Piece.{element, start, end, left, right}
 use Rattle.macros.specs.Macro.Sign.{plus, minus}
 use Rattle.macros.specs.Macro.Move.{still, before, after}
-use Rattle.macros.specs.Macro.Call.{insert, storeTag, setTo, storeText, setIncrement}
+use Rattle.macros.specs.Macro.Call.{insert, storeTag, setTo, storeText, setIncrement, divide}
 use Rattle.macros.specs.Macro.Action.{text, tag, call}
 use Rattle.macros.specs.Formed.{Octets, Bytes, FormedMember, FormedMembers, FormedUnit, FormedPieces, FormedCall, FormedAction, FormedReplacement, FormedCommands, limit, numberFits}
 use Rattle.form_bytes.specs.Fours.{four}
@@ -108,6 +108,7 @@ call-octets k (storeText i v t) l f =
 call-octets k (setTo stack i n) l f = (omega arith, (omega (arith, f .names), four-octets n (omega (arith, limit-fits stack, within-high 1 (limit stack) n (f .numbers)))))
 call-octets k (setTo counter i n) l f = (omega arith, (omega (arith, f .names), four-octets n (omega (arith, limit-fits counter, within-high 1 (limit counter) n (f .numbers)))))
 call-octets k (setIncrement i n) l f = (omega arith, (omega (arith, f .names), four-octets n (omega (arith, limit-fits counter, within-high 1 (limit counter) n (f .numbers)))))
+call-octets k (divide i n) l f = (omega arith, (omega (arith, f .names), four-octets n (omega (arith, limit-fits counter, within-high 1 (limit counter) n (f .numbers)))))
 
 action-octets : (k : ℕ) (a : Action) → k ≤ mostTags → FormedAction k a → Octets (actionItems a)
 unfolding actionItems

@@ -13,7 +13,7 @@ use Rattle.macros.specs.Macro.Mark.{stack, counter}
 use Rattle.macros.specs.Macro.PatternUnit.{literal, kind, class, callOf}
 use Rattle.macros.specs.Macro.Piece.{element, start, end, left, right}
 use Rattle.macros.specs.Macro.Move.{still, before, after}
-use Rattle.macros.specs.Macro.Call.{insert, storeTag, setTo, storeText, setIncrement}
+use Rattle.macros.specs.Macro.Call.{insert, storeTag, setTo, storeText, setIncrement, divide}
 use Rattle.macros.specs.Macro.Action.{text, tag, call}
 use Rattle.macros.specs.Read.{Joinable}
 use Rattle.macros.specs.ReadSoFar.Joinable.{nothing}
@@ -99,6 +99,7 @@ call-size (storeText i v t) = simp length-append (omega (arith, evened-size t, t
 call-size (setTo stack i n) = simp length-append (omega (arith, digits-size n))
 call-size (setTo counter i n) = simp length-append (omega (arith, digits-size n))
 call-size (setIncrement i n) = simp length-append (omega (arith, digits-size n))
+call-size (divide i n) = simp length-append (omega (arith, digits-size n))
 
 calls-size : (cs : List Call) → length (callsItems cs) ≤ 2 * length (commandsBytes spellText cs)
 unfolding callsItems commandsBytes

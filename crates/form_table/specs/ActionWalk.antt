@@ -9,7 +9,7 @@ use Rattle.macros.specs.Macro.{Move, Call, pick, among, within, asciiLower}
 use Rattle.macros.specs.Macro.Mark.{stack, counter}
 use Rattle.macros.specs.Macro.Sign.{plus, minus}
 use Rattle.macros.specs.Macro.Move.{still, before, after}
-use Rattle.macros.specs.Macro.Call.{insert, storeTag, setTo, storeText, setIncrement}
+use Rattle.macros.specs.Macro.Call.{insert, storeTag, setTo, storeText, setIncrement, divide}
 use Rattle.macros.specs.Spell.{textSigns, callTextSigns}
 use Rattle.macros.specs.Read.{isStill}
 use Rattle.macros.specs.Formed.{limit}
@@ -70,7 +70,8 @@ callAs c i v =
     (pick (eqb c 9) (some (storeText i v []))
     (pick (eqb c 10) (given (isStill v) (setTo stack i 0))
     (pick (eqb c 11) (given (isStill v) (setTo counter i 0))
-    (pick (eqb c 12) (given (isStill v) (setIncrement i 0)) none))))))
+    (pick (eqb c 12) (given (isStill v) (setIncrement i 0))
+    (pick (eqb c 13) (given (isStill v) (divide i 0)) none)))))))
 
 -- behind the first item of a call; cmd: as a command
 unfoldable pub callAt : (cmd : Bool) → (n : ℕ) → Call → Option ActionState
@@ -79,6 +80,7 @@ callAt cmd n (storeTag t i v) = some (actionAt (n + 5 + moveLength v) tagDue)
 callAt cmd n (storeText i v t) = some (actionAt (n + 6 + moveLength v) lengthDue)
 callAt cmd n (setTo m i k) = some (actionAt (n + 5) (lowDue (limit m)))
 callAt cmd n (setIncrement i k) = some (actionAt (n + 5) (lowDue (limit counter)))
+callAt cmd n (divide i k) = given (not cmd) (actionAt (n + 5) (lowDue (limit counter)))
 
 -- a call, if its code is some
 unfoldable pub calledStep : (cmd : Bool) → (n : ℕ) → Option Call → Option ActionState

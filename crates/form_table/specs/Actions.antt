@@ -1,6 +1,6 @@
 -- The items of an action, which t begins with: how many bytes they are, and what is read of them.
--- Its first byte (`actionItems`, `callItems` of Form.antt) is below 64 for a byte, a tag or an insertion;
--- 64 to 71 for a stored tag, 72 to 79 for a stored text; then it is a setting.
+-- Its first byte (`actionItems`, `callItems` of Form.antt) is below 64 for a byte, a tag or an insertion; 64 to 71 for a stored tag,
+-- 72 to 79 for a stored text; then it is a setting, or 104 for a division.
 use Prim.Native.Nat.{ℕ, _+_, _%_, _≤_}
 use mathlib.Core.List.{List}
 use lib.Dec.{ltb}
@@ -15,7 +15,7 @@ actionSize t =
     (pick (ltb (getD t 0 0) 72) 4
     (pick (ltb (getD t 0 0) 80) (4 + getD t 3 0 + getD t 3 0 % 2) 6))
 
--- the number of a setting, `&(i=n)`, `#(i=n)` or `#(i,n)`: bytes 2 to 5, low byte first
+-- the number of `&(i=n)`, `#(i=n)`, `#(i,n)` or `#(i:n)`: bytes 2 to 5, low byte first
 unfoldable pub numberIn : List ℕ → ℕ
 numberIn t = numberAt t 2
 

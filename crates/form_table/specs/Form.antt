@@ -16,7 +16,7 @@ use Rattle.macros.specs.Macro.PatternUnit.{literal, kind, class, callOf}
 use Rattle.macros.specs.Macro.Piece.{element, start, end, left, right}
 use Rattle.macros.specs.Macro.Sign.{plus, minus}
 use Rattle.macros.specs.Macro.Move.{still, before, after}
-use Rattle.macros.specs.Macro.Call.{insert, storeTag, setTo, storeText, setIncrement}
+use Rattle.macros.specs.Macro.Call.{insert, storeTag, setTo, storeText, setIncrement, divide}
 use Rattle.macros.specs.Macro.Action.{text, tag, call}
 use Rattle.macros.specs.Macro.Symbol.{equal, less}
 
@@ -101,6 +101,7 @@ callItems (storeText i v t) = (72 + moveCode v) ∷ i ∷ 43 ∷ length t ∷ ev
 callItems (setTo stack i n) = 80 ∷ i ∷ four n
 callItems (setTo counter i n) = 88 ∷ i ∷ four n
 callItems (setIncrement i n) = 96 ∷ i ∷ four n
+callItems (divide i n) = 104 ∷ i ∷ four n
 
 unfoldable pub callsItems : List Call → List ℕ
 callsItems [] = []

@@ -12,6 +12,7 @@ use Rattle.macros.specs.Formed.{Bytes, Octets}
 use Rattle.macros.specs.Write.{digits, digitsBy}
 use Rattle.lines.specs.State.{AllOf}
 use Rattle.lines.specs.Matching.{closing, tagText}
+use Rattle.lines.specs.Dividing.{dividedText}
 use Rattle.lines.specs.Replacing.{onto}
 use Rattle.lines.proofs.KeepTests.{by-pick}
 
@@ -81,6 +82,10 @@ digits-by (suc k) n h =
 pub bytes-digits : (n : ℕ) → Bytes (digits n)
 unfolding digits
 bytes-digits n = digits-by n n (omega arith)
+
+pub bytes-divided : (v n : ℕ) → Bytes (dividedText v n)
+unfolding dividedText
+bytes-divided v n = bytes-append (digits (v / n)) _ (bytes-digits (v / n)) (omega arith, bytes-digits (v % n))
 
 -- TAGS
 

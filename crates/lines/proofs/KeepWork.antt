@@ -13,15 +13,15 @@ use Rattle.macros.specs.Macro.{Mark, Piece, Sign, Move, Call, Action, Macro}
 use Rattle.macros.specs.Macro.Mark.{stack, counter}
 use Rattle.macros.specs.Macro.Sign.{plus, minus}
 use Rattle.macros.specs.Macro.Move.{still, before, after}
-use Rattle.macros.specs.Macro.Call.{insert, storeTag, setTo, storeText, setIncrement}
+use Rattle.macros.specs.Macro.Call.{insert, storeTag, setTo, storeText, setIncrement, divide}
 use Rattle.macros.specs.Macro.Action.{text, tag, call}
 use Rattle.macros.specs.Formed.{Between, Byte, Bytes, limit, numberFits, FormedCall, FormedAction, FormedReplacement, FormedCommands, Formed}
-use Rattle.lines.specs.State.{Stack, Counter, stackOf, contents, EntryInRange, StackInRange, CounterInRange, InRange}
+use Rattle.lines.specs.State.{Stack, Counter, stackOf, counterOf, contents, EntryInRange, StackInRange, CounterInRange, InRange}
 use Rattle.lines.specs.Matching.{Division, stops, tagText}
 use Rattle.lines.specs.Replacing.{Work, Done, _>>=_, unless, puts, put, withStack, withCounter, withPointer, withValue, withIncrement, withEntry, moves, early, late, stores, callActs, acts, replaces, commandsAct, occur}
 use Rattle.lines.specs.Replacing.Done.{bad, good}
 use Rattle.lines.proofs.KeepTests.{within-between}
-use Rattle.lines.proofs.KeepBytes.{all-set, bytes-onto, length-onto, bytes-tag}
+use Rattle.lines.proofs.KeepBytes.{all-set, bytes-onto, length-onto, bytes-divided, bytes-tag}
 use Rattle.lines.proofs.KeepState.{stack-in-range, counter-in-range, bytes-contents, set-stack, set-counter, fallen-between}
 
 -- A MOMENT THAT IS SOUND
@@ -140,6 +140,7 @@ module _ (t : List ℕ) (es : List Piece) (qs : List ℕ) (k : ℕ) (b : Bytes t
   call-sound (setTo counter i n) w f h = with-value i n w (within-between 1 mostCounter n (f .numbers)) h
   call-sound (storeText i v x) w f h = access-sound stack v i _ w (λ y g. stores-sound i x y (f .names .1) g) h
   call-sound (setIncrement i n) w f h = with-increment i n w (within-between 1 mostCounter n (f .numbers)) h
+  call-sound (divide i n) w f h = puts-sound _ w (bytes-divided (counterOf (w .state) i .value) n) h
 
   acts-sound : (a : Action) (w : Work) → FormedAction k a → Sound w → SoundDone (acts t es qs a w)
   unfolding acts

@@ -16,17 +16,19 @@ use Rattle.macros.specs.Macro.{Mark, Piece, Sign, Move, Call, Action, Macro}
 use Rattle.macros.specs.Macro.Mark.{stack, counter}
 use Rattle.macros.specs.Macro.Sign.{plus, minus}
 use Rattle.macros.specs.Macro.Move.{still, before, after}
-use Rattle.macros.specs.Macro.Call.{insert, storeTag, setTo, storeText, setIncrement}
+use Rattle.macros.specs.Macro.Call.{insert, storeTag, setTo, storeText, setIncrement, divide}
 use Rattle.macros.specs.Macro.Action.{text, tag, call}
 use Rattle.lines.specs.State.{State, stackOf, counterOf, contents}
 use Rattle.lines.specs.Matching.{Division, endOf, stops, tagText}
+use Rattle.lines.specs.Dividing.{dividedText, Divided}
 use Rattle.lines.specs.Replacing.{Work, Done, bad, good, _>>=_, unless, onto, puts, put, withPointer, withValue, withEntry}
 use Rattle.lines.specs.Replacing.{fallen, moves, early, late, stores, callActs, acts, replaces, commandsAct, occur}
 use Rattle.lines.specs.Pass.{Walk, ended, occurs, match, goOn, matched, atEnd, onward, atByte, walk, pass, outcome}
 use Rattle.lines.specs.Steps.{Copied, Step, withMove, callSteps, actionSteps, replacementSteps, commandSteps, tagTexts, stepsOf}
 use Rattle.lines.specs.Steps.{FallsTo, Does, Why, Acts, Breaks, ComesTo, OccurSteps}
-use Rattle.lines.specs.Steps.{Step.inserts as insertsText, Step.insertsCurrent as insertsCurrent, Step.stores as storesText, Step.moves as movesIt}
+use Rattle.lines.specs.Steps.{Step.inserts as insertsText, Step.insertsCurrent as insertsCurrent, Step.insertsDivided as insertsDivided, Step.stores as storesText, Step.moves as movesIt}
 use Rattle.lines.specs.Steps.{Step.sets as setsIt, Step.setsIncrement as setsIncrement}
+use Rattle.lines.proofs.DividingLaws.{divided-text, divided-is}
 use Rattle.lines.proofs.CopiedLaws.{put-copied, put-full, puts-copied}
 
 -- STEPS ONE AFTER THE OTHER
@@ -59,20 +61,25 @@ unfolding unless
 by-unless x true r w v h g = (v, h refl, refl)
 by-unless x false r w v h g = inl (refl, g refl)
 
-pub puts-step : (s : List ℕ) (w : Work) → ComesTo (insertsText s ∷ []) w (puts s w)
+-- a text is inserted, by a step that does just that
+text-step : (x : Step) (s : List ℕ) (w : Work) → ((v : Work) → (w .size + length s ≤ mostLineBytes) × Copied s w v → Does x w v)
+    → (mostLineBytes < w .size + length s → Why x w newLineTooLong) → ComesTo (x ∷ []) w (puts s w)
 unfolding puts
-puts-step s w =
+text-step x s w h g =
     let n : ℕ = w .size + length s in
-    by-unless (insertsText s) (leb n mostLineBytes) newLineTooLong w _ (λ e. (leb-true n mostLineBytes e, puts-copied s w (leb-true n mostLineBytes e)))
-    (λ e. (refl, leb-false n mostLineBytes e))
+    by-unless x (leb n mostLineBytes) newLineTooLong w _ (λ e. h _ (leb-true n mostLineBytes e, puts-copied s w (leb-true n mostLineBytes e)))
+    (λ e. g (leb-false n mostLineBytes e))
+
+pub puts-step : (s : List ℕ) (w : Work) → ComesTo (insertsText s ∷ []) w (puts s w)
+puts-step s w = text-step (insertsText s) s w (λ v h. h) (λ h. (refl, h))
 
 current-step : (m : Mark) (i : ℕ) (w : Work) → ComesTo (insertsCurrent m i ∷ []) w (puts (contents (w .state) m i) w)
-unfolding puts
-current-step m i w =
-    let n : ℕ = w .size + length (contents (w .state) m i) in
-    by-unless (insertsCurrent m i) (leb n mostLineBytes) newLineTooLong w _
-    (λ e. (leb-true n mostLineBytes e, puts-copied (contents (w .state) m i) w (leb-true n mostLineBytes e)))
-    (λ e. (refl, leb-false n mostLineBytes e))
+current-step m i w = text-step (insertsCurrent m i) (contents (w .state) m i) w (λ v h. h) (λ h. (refl, h))
+
+divided-step : (i n : ℕ) (w : Work) → ComesTo (insertsDivided i n ∷ []) w (puts (dividedText (counterOf (w .state) i .value) n) w)
+divided-step i n w =
+    let k : ℕ = counterOf (w .state) i .value in
+    text-step (insertsDivided i n) (dividedText k n) w (λ v h. (dividedText k n, divided-text k n, h .0, h .1)) (λ h. (dividedText k n, divided-text k n, refl, h))
 
 put-step : (b : ℕ) (w : Work) → ComesTo (insertsText (b ∷ []) ∷ []) w (put b w)
 put-step b w = go (put b w) refl
@@ -139,6 +146,7 @@ module _ (t : List ℕ) (es : List Piece) (qs : List ℕ) where
   call-steps (setTo counter i n) w = one (setsIt counter i n) w _ refl
   call-steps (storeText i v s) w = moved-step stack i v (storesText i s) (stores i s) (store-step i s) w
   call-steps (setIncrement i n) w = one (setsIncrement i n) w _ refl
+  call-steps (divide i n) w = divided-step i n w
 
   action-steps : (a : Action) (w : Work) → ComesTo (actionSteps texts a) w (acts t es qs a w)
   unfolding acts
@@ -187,9 +195,14 @@ falls-same n by k j (inl h) (inr g) = absurd (let a = h .0 in let b = g .0 in om
 falls-same n by k j (inr h) (inl g) = absurd (let a = h .0 in let b = g .0 in omega arith)
 falls-same n by k j (inr h) (inr g) = h .1 ∙ sym (g .1)
 
+divided-same : (v n : ℕ) (s t : List ℕ) → Divided v n s → Divided v n t → s ≡ t
+divided-same v n s t h g = divided-is v n s h ∙ sym (divided-is v n t g)
+
 does-same : (x : Step) (w v u : Work) → Does x w v → Does x w u → v ≡ u
 does-same (insertsText s) w v u h g = copied-same s w v u (h .1) (g .1)
 does-same (insertsCurrent m i) w v u h g = copied-same (contents (w .state) m i) w v u (h .1) (g .1)
+does-same (insertsDivided i n) w v u h g =
+    copied-same (h .0) w v u (h .3) (subst (λ (s : List ℕ). Copied s w u) (divided-same _ n (g .0) (h .0) (g .1) (h .1)) (g .3))
 does-same (storesText i s) w v u h g = h .1 ∙ sym (g .1)
 does-same (movesIt stack plus i) w v u h g = h .1 ∙ sym (g .1)
 does-same (movesIt stack minus i) w v u h g =
@@ -207,6 +220,9 @@ does-same (setsIncrement i n) w v u h g = h ∙ sym g
 does-why : (x : Step) (w v : Work) (r : WorkRefusal) → Does x w v → Why x w r → ⊥
 does-why (insertsText s) w v r h g = omega (arith, h .0, g .1)
 does-why (insertsCurrent m i) w v r h g = omega (arith, h .0, g .1)
+does-why (insertsDivided i n) w v r h g =
+    let e : length (h .0) ≡ length (g .0) = ap length (divided-same _ n (h .0) (g .0) (h .1) (g .1)) in
+    omega (arith, e, h .2, g .3)
 does-why (storesText i s) w v r h g = omega (arith, h .0, g .1)
 does-why (movesIt stack plus i) w v r h g = omega (arith, h .0, g .1)
 does-why (movesIt stack minus i) w v r h g = g
@@ -218,6 +234,7 @@ does-why (setsIncrement i n) w v r h g = g
 why-same : (x : Step) (w : Work) (r s : WorkRefusal) → Why x w r → Why x w s → r ≡ s
 why-same (insertsText l) w r s h g = h .0 ∙ sym (g .0)
 why-same (insertsCurrent m i) w r s h g = h .0 ∙ sym (g .0)
+why-same (insertsDivided i n) w r s h g = h .2 ∙ sym (g .2)
 why-same (storesText i l) w r s h g = h .0 ∙ sym (g .0)
 why-same (movesIt stack plus i) w r s h g = h .0 ∙ sym (g .0)
 why-same (movesIt stack minus i) w r s h g = absurd h
@@ -283,6 +300,7 @@ of-counter = (λ e. let z : _≡_ {A = ℕ} 0 1 = cc in omega arith, λ e. let z
 why-step : (x : Step) (w : Work) (r : WorkRefusal) → Why x w r → OfStep r
 why-step (insertsText s) w r h = subst OfStep (sym (h .0)) of-room
 why-step (insertsCurrent m i) w r h = subst OfStep (sym (h .0)) of-room
+why-step (insertsDivided i n) w r h = subst OfStep (sym (h .2)) of-room
 why-step (storesText i s) w r h = subst OfStep (sym (h .0)) of-tag
 why-step (movesIt stack plus i) w r h = subst OfStep (sym (h .0)) of-pointer
 why-step (movesIt stack minus i) w r h = absurd h

@@ -15,9 +15,10 @@ use Rattle.macros.specs.Macro.{Mark, Piece, Sign, Move, Call, Action, Macro}
 use Rattle.macros.specs.Macro.Mark.{stack, counter}
 use Rattle.macros.specs.Macro.Sign.{plus, minus}
 use Rattle.macros.specs.Macro.Move.{still, before, after}
-use Rattle.macros.specs.Macro.Call.{insert, storeTag, setTo, storeText, setIncrement}
+use Rattle.macros.specs.Macro.Call.{insert, storeTag, setTo, storeText, setIncrement, divide}
 use Rattle.macros.specs.Macro.Action.{text, tag, call}
-use Rattle.lines.specs.State.{State, contents}
+use Rattle.lines.specs.State.{State, counterOf, contents}
+use Rattle.lines.specs.Dividing.{dividedText}
 use Rattle.lines.specs.Matching.{Division, endOf, stops, tagText}
 use Rattle.lines.specs.Replacing.{Work, Done, bad, good, _>>=_, unless, onto, puts, put, withStack, withCounter, withPointer, withValue, withIncrement, withEntry, moves, early, late, stores, callActs, acts, replaces, commandsAct, occur}
 use Rattle.lines.specs.Pass.{Walk, ended, occurs, match, goOn, matched, atEnd, onward, atByte, walk, pass, outcome}
@@ -94,6 +95,7 @@ module _ (t : List ℕ) (es : List Piece) (qs : List ℕ) where
   call-room (setTo counter i n) w h = same-room w _ refl refl h
   call-room (storeText i v x) w h = access-room stack v i (stores i x) w (stores-room i x) h
   call-room (setIncrement i n) w h = same-room w _ refl refl h
+  call-room (divide i n) w h = puts-room (dividedText (counterOf (w .state) i .value) n) w h
 
   acts-room : (a : Action) (w : Work) → Room w → DoneRoom (acts t es qs a w)
   unfolding acts

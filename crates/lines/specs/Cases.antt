@@ -18,6 +18,7 @@ use Rattle.lines.specs.State.{Stack, Counter, State, freshStack, freshCo
 use Rattle.lines.specs.Matching.{byteFits, begins, isMember, inClass, fits, width, Copies, Allowed, Satisfies, Divides, endOf, Fewer}
 use Rattle.lines.specs.Matching.{closing, tagText}
 use Rattle.lines.specs.Choosing.{then, more, spare, repeated, isEnd, chosen}
+use Rattle.lines.specs.Dividing.{dividedText}
 use Rattle.lines.specs.Replacing.{unless, onto, puts, put, withStack, withCounter, withPointer, withValue, withIncrement, withEntry}
 use Rattle.lines.specs.Replacing.{fallen, moves, early, late, stores, callActs, acts, replaces, commandsAct, occur}
 use Rattle.lines.specs.Pass.{barred, unlessBarred, counting, match, goOn, matched, atEnd, onward, atByte, walk, pass, occurrences}
@@ -31,8 +32,8 @@ use Rattle.lines.specs.Feeding.{kindNumber, outputOf, kindOfDone, refusa
 -- the name that opens all definitions for a computed case
 unfoldable pub everything : ℕ
 unfolding macrosOpen kindOf freshStack freshCounter fresh stackOf counterOf currentEntry contents byteFits begins isMember inClass fits
-    width Copies Allowed Satisfies Divides endOf Fewer then more spare repeated isEnd chosen closing tagText unless onto puts put withStack
-    withCounter withPointer withValue withIncrement withEntry fallen moves early late stores callActs acts replaces commandsAct occur barred
+    width Copies Allowed Satisfies Divides endOf Fewer then more spare repeated isEnd chosen closing tagText dividedText unless onto puts put
+    withStack withCounter withPointer withValue withIncrement withEntry fallen moves early late stores callActs acts replaces commandsAct occur barred
     unlessBarred counting match goOn matched atEnd onward atByte walk pass occurrences occurred outcome isIn unlessClosed openFrom
     newestFirst closingMacro closedBy isControl due follow afterPass textOf passes lineOf passesOf hadOccurrence ending traceLine threeLines
     linesIf linesOf traceOf cutAt isOn cutIf historyOf traceIf same withTrace withNflag flagOrder macroOrder orderOf numberOf placeOf

@@ -1,6 +1,7 @@
 pub mod State
 pub mod Matching
 pub mod Choosing
+pub mod Dividing
 pub mod Replacing
 pub mod Pass
 pub mod Line

@@ -127,6 +127,32 @@ pub counters :
 unfolding everything
 counters = (refl, refl)
 
+-- 02, N7: `#(i:n)` inserts quotient, space and remainder, of the value as it then is, and changes nothing
+pub bars :
+    (Tried "'a'<'#(b:4)'#(b=9);'c'<'#(b:4)';'d'<'#(b=3)#(b:4)';" (
+    fed "a" (says "0 1" 5) (value "b" 9 ∷ [])
+    ∷ fed "c" (says "2 1" 4) (value "b" 9 ∷ [])
+    ∷ fed "d" (says "0 3" 3) (value "b" 3 ∷ [])
+    ∷ []
+    )) ×
+    (Tried "'a'<'#(b=999999999)#(b:1),#(b:999999999),#(b:999999998),#(b:2)';'c'<'#(d:1),#(d:999999999)';" (
+    fed "c" (says "1 0,0 1" 2) []
+    ∷ fed "a" (says "999999999 0,1 0,1 1,499999999 1" 3) (value "b" 999999999 ∷ [])
+    ∷ []
+    )) ×
+    (Tried "'|'<'[#(b:4)]#(+b)';'a'<'#(b,7)#(b=10)#(b:3)#(b:3)#(b)';" (
+    fed "|||||" (says "[0 1]2[0 2]3[0 3]4[1 0]5[1 1]6" 3) (value "b" 6 ∷ [])
+    ∷ fed "a" (says "3 13 110" 2) (value "b" 10 ∷ increment "b" 7 ∷ [])
+    ∷ []
+    )) ×
+    (Tried "'$'<'#(b:4)';" (
+    fedBytes 10000 (replicate 1051 97) (out (replicate 1051 97 ++ bytes "0 1") 1) []
+    ∷ fedBytes 10000 (replicate 1052 97) (refused 32 0 1) []
+    ∷ []
+    ))
+unfolding everything
+bars = (refl, refl, refl, refl)
+
 -- a pointer moves before or after the access; `&(i=n)`, `&(i:text:)`, and "Storing and setting insert nothing."
 pub stacks :
     (Tried "'p'<'&(a:x:)&(+a:yy:)&(a)&(-a)&(a+)&(a-)&(a)';" (

@@ -11,10 +11,11 @@ use Rattle.macros.specs.Macro.{Mark, Piece, Sign, Move, Call, Action, Macro}
 use Rattle.macros.specs.Macro.Mark.{stack, counter}
 use Rattle.macros.specs.Macro.Sign.{plus, minus}
 use Rattle.macros.specs.Macro.Move.{still, before, after}
-use Rattle.macros.specs.Macro.Call.{insert, storeTag, setTo, storeText, setIncrement}
+use Rattle.macros.specs.Macro.Call.{insert, storeTag, setTo, storeText, setIncrement, divide}
 use Rattle.macros.specs.Macro.Action.{text, tag, call}
 use Rattle.lines.specs.State.{Stack, Counter, State, stackOf, counterOf, contents}
 use Rattle.lines.specs.Matching.{Division, stops, tagText}
+use Rattle.lines.specs.Dividing.{dividedText}
 
 infixl 20 _>>=_
 -- a moment of a pass: the new line so far, last byte first, its length, and the state
@@ -128,6 +129,7 @@ callActs t es qs (setTo stack i n) w = good (withPointer i n w)
 callActs t es qs (setTo counter i n) w = good (withValue i n w)
 callActs t es qs (storeText i v x) w = early stack v i w >>= stores i x >>= late stack v i
 callActs t es qs (setIncrement i n) w = good (withIncrement i n w)
+callActs t es qs (divide i n) w = puts (dividedText (counterOf (w .state) i .value) n) w
 
 -- a part of the replacement
 unfoldable pub acts : List ℕ → List Piece → List ℕ → Action → Work → Done

@@ -12,10 +12,11 @@ use Rattle.macros.specs.Macro.{Mark, Piece, Sign, Move, Call, Action, Macro}
 use Rattle.macros.specs.Macro.Mark.{stack, counter}
 use Rattle.macros.specs.Macro.Sign.{plus, minus}
 use Rattle.macros.specs.Macro.Move.{still, before, after}
-use Rattle.macros.specs.Macro.Call.{insert, storeTag, setTo, storeText, setIncrement}
+use Rattle.macros.specs.Macro.Call.{insert, storeTag, setTo, storeText, setIncrement, divide}
 use Rattle.macros.specs.Macro.Action.{text, tag, call}
 use Rattle.lines.specs.State.{stackOf, counterOf, contents}
 use Rattle.lines.specs.Matching.{Division, stops, tagText}
+use Rattle.lines.specs.Dividing.{Divided}
 use Rattle.lines.specs.Replacing.{Work, Done, withPointer, withValue, withIncrement, withEntry, occur}
 use Rattle.lines.specs.Replacing.Done.{bad, good}
 
@@ -39,6 +40,8 @@ pub data Step : Type 0 where
   inserts : List ℕ → Step
   -- the current entry, or the value's digits, as they then are
   insertsCurrent : Mark → ℕ → Step
+  -- 02, N7: quotient and remainder of the value by a number
+  insertsDivided : ℕ → ℕ → Step
   -- a text is stored as the current entry
   stores : ℕ → List ℕ → Step
   -- the pointer or the counter moves
@@ -61,6 +64,7 @@ callSteps tags (storeTag n i v) = withMove stack i v (stores i (tags n))
 callSteps tags (storeText i v s) = withMove stack i v (stores i s)
 callSteps tags (setTo m i n) = sets m i n ∷ []
 callSteps tags (setIncrement i n) = setsIncrement i n ∷ []
+callSteps tags (divide i n) = insertsDivided i n ∷ []
 
 -- the steps of a part of the replacement
 abbrev pub actionSteps : (ℕ → List ℕ) → Action → List Step
@@ -98,6 +102,8 @@ FallsTo n by k = ((by < n) × (k ≡ n - by)) ⊎ ((n ≤ by) × (k ≡ 1))
 abbrev pub Does : Step → Work → Work → Type 0
 Does (inserts s) w v = (w .size + length s ≤ mostLineBytes) × Copied s w v
 Does (insertsCurrent m i) w v = let s : List ℕ = contents (w .state) m i in (w .size + length s ≤ mostLineBytes) × Copied s w v
+Does (insertsDivided i n) w v =
+    (s : List ℕ) × Divided (counterOf (w .state) i .value) n s × (w .size + length s ≤ mostLineBytes) × Copied s w v
 Does (stores i s) w v = (length s ≤ mostEntryBytes) × (v ≡ withEntry i s w)
 -- the pointer moves by 1, the counter by its increment
 Does (moves stack plus i) w v = let n : ℕ = stackOf (w .state) i .pointer + 1 in (n ≤ mostEntries) × (v ≡ withPointer i n w)
@@ -116,6 +122,8 @@ abbrev pub Why : Step → Work → WorkRefusal → Type 0
 -- "32 the new line's 1,055th byte" [inserted_1054]
 Why (inserts s) w r = (r ≡ newLineTooLong) × (mostLineBytes < w .size + length s)
 Why (insertsCurrent m i) w r = (r ≡ newLineTooLong) × (mostLineBytes < w .size + length (contents (w .state) m i))
+Why (insertsDivided i n) w r =
+    (s : List ℕ) × Divided (counterOf (w .state) i .value) n s × (r ≡ newLineTooLong) × (mostLineBytes < w .size + length s)
 -- "33 a stored tag over 50 bytes" [tag_of_50]; reading keeps a text of the macro's own to 50
 Why (stores i s) w r = (r ≡ tagTooLong) × (mostEntryBytes < length s)
 -- "34 pointer past 20" [pointer_past_19]

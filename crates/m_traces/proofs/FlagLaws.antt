@@ -18,13 +18,14 @@ use Rattle.macros.specs.Macro.Piece.{element, start, end, left, right}
 use Rattle.macros.specs.Macro.Mark.{stack, counter}
 use Rattle.macros.specs.Macro.Sign.{plus, minus}
 use Rattle.macros.specs.Macro.Move.{still, before, after}
-use Rattle.macros.specs.Macro.Call.{insert, storeTag, setTo, storeText, setIncrement}
+use Rattle.macros.specs.Macro.Call.{insert, storeTag, setTo, storeText, setIncrement, divide}
 use Rattle.macros.specs.Macro.Action.{text, tag, call}
 use Rattle.macros.specs.Read.{Read, readOnto}
 use Rattle.macros.specs.ReadFile.Read.{refusedAt, table}
 use Rattle.lines.specs.State.{State, stackOf, counterOf, currentEntry, contents}
 use Rattle.lines.specs.Matching.{Division, begins, fits, width, endOf, stops, tagText}
 use Rattle.lines.specs.Choosing.{then, repeated, isEnd, chosen}
+use Rattle.lines.specs.Dividing.{dividedText}
 use Rattle.lines.specs.Replacing.{Work, Done, bad, good, _>>=_, unless, puts, put, withStack, withCounter, withPointer, withValue, withIncrement, withEntry, fallen, moves, early, late, stores, callActs, acts, replaces, commandsAct, occur}
 use Rattle.lines.specs.Pass.{Occurrence, Walk, ended, occurs, counting, match, goOn, matched, atEnd, onward, atByte, walk, pass, occurred, outcome}
 use Rattle.lines.specs.Line.{Sent, Numbered, Pass, Ending, Line, passed, refused, done, control, newestFirst, closedBy, isControl, due, follow, afterPass, textOf, passes, lineOf, passesOf, hadOccurrence, ending}
@@ -171,6 +172,7 @@ module _ (n : ℕ) where
       (then-with (early stack v i w) (early stack v i (workWith w)) (stores i x) (early-with stack v i w) (stores-with i x))
       (late-with stack v i)
   call-with t es qs (setIncrement i k) w = refl
+  call-with t es qs (divide i k) w = puts-with (dividedText (counterOf (w .state) i .value) k) w
 
   acts-with : (t : List ℕ) (es : List Piece) (qs : List ℕ) (a : Action) (w : Work) → acts t es qs a (workWith w) ≡ doneWith (acts t es qs a w)
   unfolding acts

@@ -13,11 +13,11 @@ use Rattle.macros.specs.Macro.{Action, Call, Mark, Move, Sign, among, di
 use Rattle.macros.specs.Macro.Mark.{counter, stack}
 use Rattle.macros.specs.Macro.Sign.{minus, plus}
 use Rattle.macros.specs.Macro.Move.{after, before, still}
-use Rattle.macros.specs.Macro.Call.{insert, setIncrement, setTo, storeTag, storeText}
+use Rattle.macros.specs.Macro.Call.{divide, insert, setIncrement, setTo, storeTag, storeText}
 use Rattle.macros.specs.Macro.Action.{call, tag, text}
 use Rattle.macros.specs.Formed.{Commands, FormedAction, FormedCall, FormedCommands, FormedReplacement, Letter, numberFits}
 use Rattle.macros.specs.Read.{Front, Part, Phase, CallSite, andDigit, breaks, callByte, commandsByte, commandsFresh, frontOf, isCommand, isSign, isStill, numberEnd, partByte, behindCall, replacementByte, replacementFresh, sign, signOf, skips, tagByte, tagEnd, textByte, turned}
-use Rattle.macros.specs.ReadSoFar.Phase.{begun, comma, equals, increment, named, signed, tagNamed, tagSigned, tagged, texted}
+use Rattle.macros.specs.ReadSoFar.Phase.{begun, comma, divisor, equals, increment, named, signed, tagNamed, tagSigned, tagged, texted}
 use Rattle.macros.specs.ReadSoFar.CallSite.{asCommand, inReplacement}
 use Rattle.macros.specs.ReadSoFar.Part.{callText, callTextEscape, calling, commands, replacement, tagNumber}
 use Rattle.macros.specs.ReadSoFar.Step.{on}
@@ -149,6 +149,15 @@ module _ (pl : CallSite) (i : ℕ) (g : Letter i) where
       (then (read-digits (λ o. calling pl (increment i o)) (λ o. refl) (λ o b e. rw e) n)
       (call-closed pl (increment i (some n)) (setIncrement i n) 41 refl refl r)))
 
+  divide-by : isCommand pl ≡ false → (n : ℕ) → numberFits (tags (frontOf pl .pieces)) (divide i n) ≡ true
+      → Reads (calling pl (begun counter)) (i ∷ 58 ∷ (digits n ++ (41 ∷ []))) (behindCall pl (divide i n))
+  unfolding callByte pick isStill digit within numberEnd isSign signOf turned partByte skips
+  divide-by c n r =
+      then (name-still counter)
+      (then (call-into pl (named counter i still) (divisor i none) 58 refl (rw c))
+      (then (read-digits (λ o. calling pl (divisor i o)) (λ o. refl) (λ o b e. rw e) n)
+      (call-closed pl (divisor i (some n)) (divide i n) 41 refl refl r)))
+
 -- where the reader stands in a call that begins with a tag's number
 tagPart : CallSite → Option ℕ → Part
 tagPart pl none = calling pl (begun stack)
@@ -213,6 +222,7 @@ module _ (y : Style) (fair : Fair y) (pl : CallSite) where
       (next refl refl
       (rw (reverse-reverse t) at (call-closed pl (texted i h (reverse t)) (storeText i h (reverse (reverse t))) 41 refl refl (unfold numberFits in refl))))))
   read-inner (setIncrement i n) g k = set-increment pl i (g .names) n (g .numbers)
+  read-inner (divide i n) g k = divide-by pl i (g .names) (no-command (isCommand pl) k) n (g .numbers)
 
 -- REPLACEMENT
 

@@ -15,10 +15,10 @@ use Rattle.macros.specs.Macro.Member.{single}
 use Rattle.macros.specs.Macro.Piece.{element}
 use Rattle.macros.specs.Macro.Move.{after, before, still}
 use Rattle.macros.specs.Formed.{Bytes, Formed, FormedCommands, FormedMembers, FormedPattern, FormedPieces, FormedReplacement, Letter}
-use Rattle.macros.specs.Read.{Front, Joinable, Last, Part, Phase, CallSite, Step, membersAtEnd}
+use Rattle.macros.specs.Read.{Front, Joinable, Last, Part, Phase, CallSite, Step, isCommand, membersAtEnd}
 use Rattle.macros.specs.ReadSoFar.Joinable.{marked, nothing, query, starred, unit}
 use Rattle.macros.specs.ReadSoFar.Last.{dash, free, member}
-use Rattle.macros.specs.ReadSoFar.Phase.{begun, comma, equals, increment, named, signed, tagNamed, tagSigned, tagged, texted}
+use Rattle.macros.specs.ReadSoFar.Phase.{begun, comma, divisor, equals, increment, named, signed, tagNamed, tagSigned, tagged, texted}
 use Rattle.macros.specs.ReadSoFar.CallSite.{asCommand, inReplacement}
 use Rattle.macros.specs.ReadSoFar.Part.{awaitQuote, awaitSymbol, callText, callTextEscape, calling, commands, members, membersEscape, opened, pattern, patternCall, patternCalled, patternEscape, replacement, replacementEscape, tagNumber}
 use Rattle.macros.specs.ReadSoFar.Step.{done, on, stop}
@@ -157,6 +157,7 @@ loadCall (signed m s) = 3
 loadCall (named m i h) = 3 + moves h
 loadCall (equals m i o) = 4 + figures o
 loadCall (increment i o) = 4 + figures o
+loadCall (divisor i o) = 4 + figures o
 loadCall (tagged n) = 2 + figures (some n)
 loadCall (comma n) = 3 + figures (some n)
 loadCall (tagSigned n s) = 4 + figures (some n)
@@ -195,17 +196,19 @@ unfoldable pub FitPlace : CallSite → Type 0
 FitPlace (inReplacement f ps) = Done f ps
 FitPlace (asCommand f ps cs) = Done f ps × FormedCommands (tags (f .pieces)) cs
 
-unfoldable pub FitPhase : Phase → Type 0
-FitPhase (begun m) = Unit {0}
-FitPhase (signed m s) = Unit {0}
-FitPhase (named m i h) = Letter i
-FitPhase (equals m i o) = Letter i
-FitPhase (increment i o) = Letter i
-FitPhase (tagged n) = Unit {0}
-FitPhase (comma n) = Unit {0}
-FitPhase (tagSigned n s) = Unit {0}
-FitPhase (tagNamed n i h) = Letter i
-FitPhase (texted i h t) = Letter i × Bytes t × (length t ≤ mostEntryBytes)
+-- a phase of a call; cmd: of a command
+unfoldable pub FitPhase : (cmd : Bool) → Phase → Type 0
+FitPhase cmd (begun m) = Unit {0}
+FitPhase cmd (signed m s) = Unit {0}
+FitPhase cmd (named m i h) = Letter i
+FitPhase cmd (equals m i o) = Letter i
+FitPhase cmd (increment i o) = Letter i
+FitPhase cmd (divisor i o) = Letter i × (cmd ≡ true → ⊥)
+FitPhase cmd (tagged n) = Unit {0}
+FitPhase cmd (comma n) = Unit {0}
+FitPhase cmd (tagSigned n s) = Unit {0}
+FitPhase cmd (tagNamed n i h) = Letter i
+FitPhase cmd (texted i h t) = Letter i × Bytes t × (length t ≤ mostEntryBytes)
 
 -- what is well formed of what a part holds
 unfoldable pub Fit : Part → Type 0
@@ -221,7 +224,7 @@ Fit (awaitQuote f) = FormedPattern (f .pieces)
 Fit (replacement a f ps) = Done f (withMark a ps)
 Fit (replacementEscape f ps) = Done f ps
 Fit (tagNumber o f ps) = Done f ps
-Fit (calling pl ph) = FitPlace pl × FitPhase ph
+Fit (calling pl ph) = FitPlace pl × FitPhase (isCommand pl) ph
 Fit (callText pl i h t) = FitPlace pl × Letter i × Bytes t × (length t ≤ mostEntryBytes)
 Fit (callTextEscape pl i h t) = FitPlace pl × Letter i × Bytes t × (length t < mostEntryBytes)
 Fit (commands a f ps cs) = Done f ps × FormedCommands (tags (f .pieces)) cs

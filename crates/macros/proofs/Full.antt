@@ -10,7 +10,7 @@ use Rattle.macros.specs.Macro.Closure.{once, oneOrMore, zeroOrMore}
 use Rattle.macros.specs.Macro.Member.{range, single}
 use Rattle.macros.specs.Macro.PatternUnit.{callOf, class, kind, literal}
 use Rattle.macros.specs.Macro.Piece.{element, end, left, right, start}
-use Rattle.macros.specs.Macro.Call.{insert, setIncrement, setTo, storeTag, storeText}
+use Rattle.macros.specs.Macro.Call.{divide, insert, setIncrement, setTo, storeTag, storeText}
 use Rattle.macros.specs.Macro.Action.{call, tag, text}
 use Rattle.macros.specs.Read.{Joinable, hold, signs}
 use Rattle.macros.specs.ReadSoFar.Joinable.{marked, nothing, query, starred, unit}
@@ -124,6 +124,7 @@ call-full (storeTag n i h) = refl
 call-full (setTo m i n) = refl
 call-full (storeText i h t) = rw (text-full t)
 call-full (setIncrement i n) = refl
+call-full (divide i n) = refl
 
 unmarked-full : (p : Action) → actionLeaves full p ≡ none
 unfolding actionLeaves full pick markIn textMarks among

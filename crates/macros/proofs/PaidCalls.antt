@@ -11,11 +11,11 @@ use borrow.Author.Tests.{eqb-true, lt-ltb, ltb-false, ltb-true}
 use Rattle.macros.specs.Macro.{Action, Call, Mark, Move, among, digit, asciiLower, markByte, pick, tags}
 use Rattle.macros.specs.Macro.Mark.{counter, stack}
 use Rattle.macros.specs.Macro.Move.{after, before, still}
-use Rattle.macros.specs.Macro.Call.{insert, setIncrement, setTo, storeTag, storeText}
+use Rattle.macros.specs.Macro.Call.{divide, insert, setIncrement, setTo, storeTag, storeText}
 use Rattle.macros.specs.Macro.Action.{call, tag, text}
 use Rattle.macros.specs.Formed.{Byte, Bytes, Commands, FormedCall, FormedCommands, FormedReplacement, Letter, Named}
-use Rattle.macros.specs.Read.{Front, Part, Phase, CallSite, Turn, andDigit, breaks, callByte, commandsByte, commandsFresh, frontOf, isCommand, numberEnd, otherwise, behindCall, replacementByte, replacementFresh, tagEnd, textByte, turned}
-use Rattle.macros.specs.ReadSoFar.Phase.{begun, comma, equals, increment, named, signed, tagNamed, tagSigned, tagged, texted}
+use Rattle.macros.specs.Read.{Front, Part, Phase, CallSite, Turn, andDigit, breaks, callByte, commandsByte, commandsFresh, frontOf, isCommand, isStill, numberEnd, otherwise, behindCall, replacementByte, replacementFresh, tagEnd, textByte, turned}
+use Rattle.macros.specs.ReadSoFar.Phase.{begun, comma, divisor, equals, increment, named, signed, tagNamed, tagSigned, tagged, texted}
 use Rattle.macros.specs.ReadSoFar.CallSite.{asCommand, inReplacement}
 use Rattle.macros.specs.ReadSoFar.Part.{callText, calling, commands, replacement, tagNumber}
 use Rattle.macros.specs.ReadSoFar.Step.{done, on}
@@ -108,6 +108,10 @@ module _ (i : ℕ) where
   unfolding callBytes innerBytes figures
   set-increment-length n = omega (arith, length-append (digits n) (41 ∷ []))
 
+  divide-length : (n : ℕ) → length (callBytes spellText (divide i n)) ≡ 5 + figures (some n)
+  unfolding callBytes innerBytes figures
+  divide-length n = omega (arith, length-append (digits n) (41 ∷ []))
+
   store-text-length : (h : Move) (t : List ℕ) → length (callBytes spellText (storeText i h (reverse t))) ≡ 6 + moves h + costText t
   unfolding callBytes innerBytes
   store-text-length h t =
@@ -121,7 +125,7 @@ module _ (i : ℕ) where
 
 -- a turn from a phase that n bytes of the call have paid for
 pub data GoodTurn (cmd : Bool) (n : ℕ) : Turn → Type 0 where
-  onward : {ph : Phase} → loadCall ph ≤ suc n → FitPhase ph → GoodTurn cmd n (into ph)
+  onward : {ph : Phase} → loadCall ph ≤ suc n → FitPhase cmd ph → GoodTurn cmd n (into ph)
   worded : {i : ℕ} {h : Move} → 4 + moves h ≤ suc n → Letter i → GoodTurn cmd n (textOf i h)
   ended : {c : Call} → length (callBytes spellText c) ≤ suc n → Named c → (cmd ≡ true → Commands c) → GoodTurn cmd n (closed c)
   astray : GoodTurn cmd n wrong
@@ -137,6 +141,10 @@ no-command true true e f = clash e refl
 no-command true false e f = clash f refl
 no-command false q e f = clash e refl
 
+no-command-still : (p s q : Bool) → (p && (s && not q)) ≡ true → q ≡ true → ⊥
+no-command-still true s q e f = no-command s q e f
+no-command-still false s q e f = clash e refl
+
 pub low-name : (b : ℕ) → asciiLower b ≡ true → Letter b
 unfolding asciiLower
 low-name b e = (within-left 97 122 b e, within-right 97 122 b e)
@@ -147,7 +155,7 @@ unfolding numberEnd
 number-good cmd n c none l h f g = astray
 number-good cmd n c (some k) l h f g = ended {c = c k} (omega (arith, l k)) (f k) (g k)
 
-pub call-good : (cmd : Bool) (ph : Phase) (b n : ℕ) → loadCall ph ≤ n → FitPhase ph → GoodTurn cmd n (callByte cmd ph b)
+pub call-good : (cmd : Bool) (ph : Phase) (b n : ℕ) → loadCall ph ≤ n → FitPhase cmd ph → GoodTurn cmd n (callByte cmd ph b)
 unfolding callByte loadCall FitPhase moves figures andDigit
 call-good cmd (begun stack) b n h f =
     whether (λ e. onward (omega (arith, figures-more none b e)) tt)
@@ -162,13 +170,18 @@ call-good cmd (named stack i j) b n h f =
 call-good cmd (named counter i j) b n h f =
     whether (λ e. ended (omega (arith, insert-length i counter j)) f (no-command (eqb b 41) cmd e))
     (λ e. whether (λ e. onward (omega arith) f)
-    (λ e. whether (λ e. onward (omega arith) f) (λ e. whether (λ e. onward (omega arith) f) (λ e. astray))))
+    (λ e. whether (λ e. onward (omega arith) f)
+    (λ e. whether (λ e. onward (omega arith) (f, no-command-still (eqb b 58) (isStill j) cmd e))
+    (λ e. whether (λ e. onward (omega arith) f) (λ e. astray)))))
 call-good cmd (equals m i o) b n h f =
     whether (λ e. onward (omega (arith, figures-more o b e)) f)
     (λ d. whether (λ e. number-good cmd n (setTo m i) o (set-to-length i m) h (λ k. f) (λ k e. tt)) (λ e. astray))
 call-good cmd (increment i o) b n h f =
     whether (λ e. onward (omega (arith, figures-more o b e)) f)
     (λ d. whether (λ e. number-good cmd n (setIncrement i) o (set-increment-length i) h (λ k. f) (λ k e. tt)) (λ e. astray))
+call-good cmd (divisor i o) b n h f =
+    whether (λ e. onward (omega (arith, figures-more o b e)) f)
+    (λ d. whether (λ e. number-good cmd n (divide i) o (divide-length i) h (λ k. f .0) (λ k. f .1)) (λ e. astray))
 call-good cmd (tagged k) b n h f =
     whether (λ e. onward (omega (arith, figures-more (some k) b e)) tt) (λ d. whether (λ e. onward (omega arith) tt) (λ e. astray))
 call-good cmd (comma k) b n h f =
@@ -191,7 +204,7 @@ unfolding base FitPlace behindCall frontOf isCommand load Fit withMark slackMark
 placed-good n (inReplacement f ps) c h d g k = fine {st = replacement none f (call c ∷ ps)} (omega arith) (d .0, (g, d .1))
 placed-good n (asCommand f ps cs) c h d g k = fine {st = commands none f ps (c ∷ cs)} (omega arith) (d .0, ((k refl, g), d .1))
 
-pub turned-good : (n : ℕ) (pl : CallSite) (ph : Phase) (b : ℕ) (x : Turn) → GoodTurn (isCommand pl) (loadCall ph) x → base pl + loadCall ph ≤ n → FitPlace pl → FitPhase ph
+pub turned-good : (n : ℕ) (pl : CallSite) (ph : Phase) (b : ℕ) (x : Turn) → GoodTurn (isCommand pl) (loadCall ph) x → base pl + loadCall ph ≤ n → FitPlace pl → FitPhase (isCommand pl) ph
     → Good n (turned pl ph b x)
 unfolding turned load Fit costText
 turned-good n pl ph b (into q) (onward l f) h d e = fine {st = calling pl q} (omega arith) (d, f)

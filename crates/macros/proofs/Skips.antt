@@ -25,7 +25,7 @@ use Rattle.macros.specs.ReadParts.{partByte, skips}
 use Rattle.macros.specs.ReadSoFar.{Part, Step}
 use Rattle.macros.specs.ReadSoFar.Joinable.{marked, nothing, query, starred, unit}
 use Rattle.macros.specs.ReadSoFar.Last.{dash, free, member}
-use Rattle.macros.specs.ReadSoFar.Phase.{begun, comma, equals, increment, named, signed, tagNamed, tagSigned, tagged, texted}
+use Rattle.macros.specs.ReadSoFar.Phase.{begun, comma, equals, increment, divisor, named, signed, tagNamed, tagSigned, tagged, texted}
 use Rattle.macros.specs.ReadSoFar.Part.{awaitQuote, awaitSymbol, callText, callTextEscape, calling, commands, members, membersEscape}
 use Rattle.macros.specs.ReadSoFar.Part.{opened, pattern, patternCall, patternCalled, patternEscape, replacement, replacementEscape, tagNumber}
 use Rattle.macros.specs.ReadSoFar.Step.{done, on, stop}
@@ -278,6 +278,7 @@ semicolon (calling pl (named stack i v)) e = breaks-off refl
 semicolon (calling pl (named counter i v)) e = breaks-off refl
 semicolon (calling pl (equals m i o)) e = breaks-off refl
 semicolon (calling pl (increment i o)) e = breaks-off refl
+semicolon (calling pl (divisor i o)) e = breaks-off refl
 semicolon (calling pl (tagged n)) e = breaks-off refl
 semicolon (calling pl (comma n)) e = breaks-off refl
 semicolon (calling pl (tagSigned n s)) e = breaks-off refl

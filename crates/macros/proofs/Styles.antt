@@ -9,7 +9,7 @@ use Rattle.macros.specs.Macro.Closure.{once, oneOrMore, zeroOrMore}
 use Rattle.macros.specs.Macro.Member.{range, single}
 use Rattle.macros.specs.Macro.PatternUnit.{callOf, class, kind, literal}
 use Rattle.macros.specs.Macro.Piece.{element, end, left, right, start}
-use Rattle.macros.specs.Macro.Call.{insert, setIncrement, setTo, storeTag, storeText}
+use Rattle.macros.specs.Macro.Call.{divide, insert, setIncrement, setTo, storeTag, storeText}
 use Rattle.macros.specs.Macro.Action.{call, tag, text}
 use Rattle.macros.specs.Read.{Joinable, hold}
 use Rattle.macros.specs.ReadSoFar.Joinable.{nothing, starred, unit}
@@ -179,6 +179,7 @@ call-bare (storeTag n i v) = refl
 call-bare (setTo m i n) = refl
 call-bare (storeText i v t) = rw (text-bare t)
 call-bare (setIncrement i n) = refl
+call-bare (divide i n) = refl
 
 action-bare : (a : Option Mark) (x : Action) → spellAction a x ≡ actionBytes bare a x
 unfolding spellAction actionBytes bare

@@ -15,7 +15,7 @@ use Rattle.macros.specs.Macro.PatternUnit.{callOf, class, kind, literal}
 use Rattle.macros.specs.Macro.Piece.{element, end, left, right, start}
 use Rattle.macros.specs.Macro.Sign.{minus, plus}
 use Rattle.macros.specs.Macro.Move.{after, before, still}
-use Rattle.macros.specs.Macro.Call.{insert, setIncrement, setTo, storeTag, storeText}
+use Rattle.macros.specs.Macro.Call.{divide, insert, setIncrement, setTo, storeTag, storeText}
 use Rattle.macros.specs.Macro.Action.{call, tag, text}
 use Rattle.macros.specs.Macro.Symbol.{equal, less}
 use Rattle.macros.specs.Formed.{Byte, Bytes, Formed, FormedAction, FormedCall, FormedCommands, FormedMembers, FormedPieces, FormedReplacement, FormedUnit, Letter}
@@ -113,16 +113,23 @@ module _ (y : Style) where
   whole-text [] g = tt
   whole-text (b ∷ t) g = whole-append (byte (y .textToo b || among callTextSigns b) b) (textBytes y t) (whole-byte _ b (g .0)) (whole-text t (g .1))
 
+  whole-numbered : (i b n : ℕ) → Letter i → Byte b → Bytes (i ∷ b ∷ (digits n ++ (41 ∷ [])))
+  unfolding digits
+  whole-numbered i b n g h =
+      let c : Byte i = omega (arith, g) in
+      (c, (h, whole-append (digits n) (41 ∷ []) (whole-digits n n (omega arith)) (omega arith, tt)))
+
   whole-inner : (k : ℕ) (c : Call) → FormedCall k c → Bytes (innerBytes (textBytes y) c)
   unfolding innerBytes digits
   whole-inner k (insert m i h) g = whole-append (nameBytes i h) (41 ∷ []) (whole-name i h (g .names)) (omega arith, tt)
   whole-inner k (storeTag n i h) g =
       whole-append (digits n) _ (whole-digits n n (omega arith)) (omega arith, whole-append (nameBytes i h) (41 ∷ []) (whole-name i h (g .names)) (omega arith, tt))
-  whole-inner k (setTo m i n) g = let b : Byte i = omega (arith, g .names) in (b, (omega arith, whole-append (digits n) (41 ∷ []) (whole-digits n n (omega arith)) (omega arith, tt)))
+  whole-inner k (setTo m i n) g = whole-numbered i 61 n (g .names) (omega arith)
   whole-inner k (storeText i h t) g =
       whole-append (nameBytes i h) _ (whole-name i h (g .names .0))
       (omega arith, whole-append (textBytes y t) (58 ∷ 41 ∷ []) (whole-text t (g .names .1)) (omega arith, (omega arith, tt)))
-  whole-inner k (setIncrement i n) g = let b : Byte i = omega (arith, g .names) in (b, (omega arith, whole-append (digits n) (41 ∷ []) (whole-digits n n (omega arith)) (omega arith, tt)))
+  whole-inner k (setIncrement i n) g = whole-numbered i 44 n (g .names) (omega arith)
+  whole-inner k (divide i n) g = whole-numbered i 58 n (g .names) (omega arith)
 
   whole-call : (k : ℕ) (c : Call) → FormedCall k c → Bytes (callBytes (textBytes y) c)
   unfolding callBytes

@@ -33,7 +33,7 @@ mostEntries = 20
 abbrev pub mostEntryBytes : ℕ
 mostEntryBytes = 50
 
--- the largest counter, and the largest increment
+-- the largest counter, the largest increment, and the largest number that a counter is divided by (02, N7)
 abbrev pub mostCounter : ℕ
 mostCounter = 999999999
 

@@ -10,7 +10,7 @@ use Rattle.macros.specs.Macro.Member.{single, range}
 use Rattle.macros.specs.Macro.Mark.{stack, counter}
 use Rattle.macros.specs.Macro.PatternUnit.{literal, kind, class, callOf}
 use Rattle.macros.specs.Macro.Piece.{element, start, end, left, right}
-use Rattle.macros.specs.Macro.Call.{insert, storeTag, setTo, storeText, setIncrement}
+use Rattle.macros.specs.Macro.Call.{insert, storeTag, setTo, storeText, setIncrement, divide}
 use Rattle.macros.specs.Macro.Action.{text, tag, call}
 
 -- n is one of a to z
@@ -67,7 +67,7 @@ pub record FormedPattern (ps : List Piece) : Type 0 where
   pub shut : depth ps ≡ 0
   pub someElement : 0 < elements ps
 
--- the largest number that a pointer, or a counter or its increment, is set to
+-- the largest number that a pointer, or a counter or its increment, is set to, or a counter is divided by
 unfoldable pub limit : Mark → ℕ
 limit stack = mostEntries
 limit counter = mostCounter
@@ -79,6 +79,7 @@ numberFits k (storeTag n i v) = within 1 k n
 numberFits k (setTo m i n) = within 1 (limit m) n
 numberFits k (storeText i v t) = true
 numberFits k (setIncrement i n) = within 1 (limit counter) n
+numberFits k (divide i n) = within 1 (limit counter) n
 
 -- a call's letter and text
 abbrev pub Named : Call → Type 0
@@ -87,6 +88,7 @@ Named (storeTag n i v) = Letter i
 Named (setTo m i n) = Letter i
 Named (storeText i v t) = Letter i × Bytes t × (length t ≤ mostEntryBytes)
 Named (setIncrement i n) = Letter i
+Named (divide i n) = Letter i
 
 -- a call is well formed behind a pattern of k tags
 pub record FormedCall (k : ℕ) (c : Call) : Type 0 where
@@ -104,13 +106,14 @@ abbrev pub FormedReplacement : ℕ → List Action → Type 0
 FormedReplacement k [] = Unit {0}
 FormedReplacement k (a ∷ as₁) = FormedAction k a × FormedReplacement k as₁
 
--- "As commands, all but `&(i)` and `#(i)` forms."
+-- "As commands, all but `&(i)` and `#(i)` forms."; 02, N7, of `#(i:n)`: "It may stand in a replacement only"
 abbrev pub Commands : Call → Type 0
 Commands (insert m i v) = ⊥
 Commands (storeTag n i v) = Unit {0}
 Commands (setTo m i n) = Unit {0}
 Commands (storeText i v t) = Unit {0}
 Commands (setIncrement i n) = Unit {0}
+Commands (divide i n) = ⊥
 
 -- each command is one, and well formed
 abbrev pub FormedCommands : ℕ → List Call → Type 0

@@ -50,6 +50,8 @@ pub data Call : Type 0 where
   storeText : ℕ → Move → List ℕ → Call
   -- `#(i,n)`
   setIncrement : ℕ → ℕ → Call
+  -- 02, N7: `#(i:n)`
+  divide : ℕ → ℕ → Call
 
 -- a part of a replacement: a literal byte, `{n}` or a call
 pub data Action : Type 0 where

@@ -13,12 +13,12 @@ use Rattle.macros.specs.Macro.{Mark, Sign, Move, Call, pick, asciiLower,
 use Rattle.macros.specs.Macro.Mark.{stack, counter}
 use Rattle.macros.specs.Macro.Sign.{plus, minus}
 use Rattle.macros.specs.Macro.Move.{still, before, after}
-use Rattle.macros.specs.Macro.Call.{insert, storeTag, setTo, storeText, setIncrement}
+use Rattle.macros.specs.Macro.Call.{insert, storeTag, setTo, storeText, setIncrement, divide}
 use Rattle.macros.specs.Macro.Action.{call}
 use Rattle.macros.specs.Formed.{numberFits}
 use Rattle.macros.specs.ReadSoFar.{Front, CallSite, Phase, Part, Step, breaks}
 use Rattle.macros.specs.ReadSoFar.CallSite.{inReplacement, asCommand}
-use Rattle.macros.specs.ReadSoFar.Phase.{begun, signed, named, equals, increment, tagged, comma, tagSigned, tagNamed, texted}
+use Rattle.macros.specs.ReadSoFar.Phase.{begun, signed, named, equals, increment, divisor, tagged, comma, tagSigned, tagNamed, texted}
 use Rattle.macros.specs.ReadSoFar.Part.{replacement, calling, callText, callTextEscape, commands}
 use Rattle.macros.specs.ReadSoFar.Step.{on, stop}
 
@@ -57,8 +57,8 @@ unfoldable pub numberEnd : (ℕ → Call) → Option ℕ → Turn
 numberEnd c none = wrong
 numberEnd c (some n) = closed (c n)
 
--- a byte of `&(i)`, `&(n,i)`, `&(i=n)`, `&(i:text:)`, `#(i)`, `#(i=n)`, `#(i,n)`, with signs where 01 has them; cmd: as a command.
--- A command has no `)` behind the letter, and no sign in a counter's call
+-- a byte of `&(i)`, `&(n,i)`, `&(i=n)`, `&(i:text:)`, `#(i)`, `#(i=n)`, `#(i,n)`, with signs where 01 has them, or of 02's `#(i:n)`;
+-- cmd: as a command. A command has no `)` behind the letter, and no sign or `:` in a counter's call
 unfoldable pub callByte : (cmd : Bool) → Phase → ℕ → Turn
 -- behind `&(` here may stand a digit, a sign or a letter
 callByte cmd (begun stack) b =
@@ -75,18 +75,22 @@ callByte cmd (named stack i v) b =
     (pick (b is ":") (textOf i v)
     (pick (b is "=" && isStill v) (into (equals stack i none))
     (pick (isSign b && isStill v) (into (named stack i (after (signOf b)))) wrong)))
--- behind `#(i` here may stand `)`, but not in a command; without a sign also `,`, `=` or, but not in a command, a sign
+-- behind `#(i` here may stand `)`, but not in a command; without a sign also `,`, `=` or, but not in a command, `:` or a sign
 callByte cmd (named counter i v) b =
     pick (b is ")" && not cmd) (closed (insert counter i v))
     (pick (b is "," && isStill v) (into (increment i none))
     (pick (b is "=" && isStill v) (into (equals counter i none))
-    (pick (isSign b && (isStill v && not cmd)) (into (named counter i (after (signOf b)))) wrong)))
+    (pick (b is ":" && (isStill v && not cmd)) (into (divisor i none))
+    (pick (isSign b && (isStill v && not cmd)) (into (named counter i (after (signOf b)))) wrong))))
 -- behind `i=` here may stand a digit or, behind one, `)`
 callByte cmd (equals m i o) b =
     pick (digit b) (into (equals m i (some (andDigit o b)))) (pick (b is ")") (numberEnd (setTo m i) o) wrong)
 -- behind `#(i,` here may stand a digit or, behind one, `)`
 callByte cmd (increment i o) b =
     pick (digit b) (into (increment i (some (andDigit o b)))) (pick (b is ")") (numberEnd (setIncrement i) o) wrong)
+-- behind `#(i:` here may stand a digit or, behind one, `)`
+callByte cmd (divisor i o) b =
+    pick (digit b) (into (divisor i (some (andDigit o b)))) (pick (b is ")") (numberEnd (divide i) o) wrong)
 -- behind `&(n` here may stand a digit or `,`
 callByte cmd (tagged n) b = pick (digit b) (into (tagged (andDigit (some n) b))) (pick (b is ",") (into (comma n)) wrong)
 -- behind `&(n,` here may stand a sign or a letter

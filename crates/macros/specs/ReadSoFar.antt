@@ -44,6 +44,8 @@ pub data Phase : Type 0 where
   equals : Mark → ℕ → Option ℕ → Phase
   -- `i,` and the number so far
   increment : ℕ → Option ℕ → Phase
+  -- `i:` of a counter and the number so far
+  divisor : ℕ → Option ℕ → Phase
   -- a tag's number
   tagged : ℕ → Phase
   -- a tag's number and its comma

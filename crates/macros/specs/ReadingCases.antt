@@ -10,7 +10,7 @@ use Rattle.macros.specs.Macro.PatternUnit.{literal, kind, class, callOf}
 use Rattle.macros.specs.Macro.Piece.{element, start, end, left, right}
 use Rattle.macros.specs.Macro.Sign.{plus, minus}
 use Rattle.macros.specs.Macro.Move.{still, before, after}
-use Rattle.macros.specs.Macro.Call.{insert, storeTag, setTo, storeText, setIncrement}
+use Rattle.macros.specs.Macro.Call.{insert, storeTag, setTo, storeText, setIncrement, divide}
 use Rattle.macros.specs.Macro.Action.{text, tag, call}
 use Rattle.macros.specs.Macro.Symbol.{equal, less}
 use Rattle.macros.specs.Read.{readFile}
@@ -28,7 +28,7 @@ songs = refl
 
 -- a file as data: each form of part 2
 pub asData :
-    readFile (bytes "'{^a*}?3*-[~b-dx]*&(s)#(n)$'<'c{1}&(s)&(1,+t)#(n-)'&(s=20)&(t-:uv:)#(n=7)#(n,3);") ≡ table (record {
+    readFile (bytes "'{^a*}?3*-[~b-dx]*&(s)#(n)$'<'c{1}&(s)&(1,+t)#(n-)#(n:4)'&(s=20)&(t-:uv:)#(n=7)#(n,3);") ≡ table (record {
       pattern =
           left ∷ start ∷ element (literal 97) oneOrMore ∷ right ∷ element (kind 3) zeroOrMore
           ∷ element (class true (range 98 100 ∷ single 120 ∷ [])) oneOrMore
@@ -36,7 +36,7 @@ pub asData :
       symbol = less;
       replacement =
           text 99 ∷ tag 1 ∷ call (insert stack 115 still) ∷ call (storeTag 1 116 (before plus))
-          ∷ call (insert counter 110 (after minus)) ∷ [];
+          ∷ call (insert counter 110 (after minus)) ∷ call (divide 110 4) ∷ [];
       commands = setTo stack 115 20 ∷ storeText 116 (after minus) (117 ∷ 118 ∷ []) ∷ setTo counter 110 7 ∷ setIncrement 110 3 ∷ [];
     } ∷ [])
 unfolding everything
@@ -290,7 +290,7 @@ pub wrongCalls : Hold (
     ∷ ("'a'='#(1,b)';" is 16 at 7)
     ∷ ("'a'='&(ab)';" is 16 at 8)
     ∷ ("'a'='&(a,1)';" is 16 at 8)
-    ∷ ("'a'='#(a:x:)';" is 16 at 8)
+    ∷ ("'a'='#(a:x:)';" is 16 at 9)
     ∷ ("'a'='&(++a)';" is 16 at 8)
     ∷ ("'a'='&(+1,b)';" is 16 at 8)
     ∷ ("'a'='&(+a+)';" is 16 at 9)
@@ -335,6 +335,33 @@ pub numbers : Hold (
     ∷ ("'a'=''#(a=1000000000);" is 16 at 20) ∷ [])
 unfolding everything
 numbers = refl
+
+-- 02, N7: `#(i:n)`; 16 at the `:` where it may not stand, at the `)` where n is out of range; spaces and leading zeros are free
+pub divisors : Hold (
+    ("'a'='#(b:4)#(b:1)#(z:999999999)';" becomes "'a'='#(b:4)#(b:1)#(z:999999999)';")
+    ∷ ("'a'='#( b : 0 0 4 )#(b/x/:/;/4/x/)';" becomes "'a'='#(b:4)#(b:4)';")
+    ∷ ("'a'='#( b : 0 4 ):';" shortensTo "'a'='#(b:4):';")
+    ∷ ("'#(b:4)'='';" is 16 at 4)
+    ∷ ("'a'=''#(b:4);" is 16 at 9)
+    ∷ ("'a'='#(+b:4)';" is 16 at 9)
+    ∷ ("'a'='#(b-:4)';" is 16 at 9)
+    ∷ ("'a'='#(b:)';" is 16 at 9)
+    ∷ ("'a'='#(b:0)';" is 16 at 10)
+    ∷ ("'a'='#(b:1000000000)';" is 16 at 19)
+    ∷ (long "'a'='#(b:" 400 "9" ")';" 16 409)
+    ∷ ("'a'='#(b:4+)';" is 16 at 10)
+    ∷ ("'a'='#(b:-4)';" is 16 at 9)
+    ∷ ("'a'='#(b:4:)';" is 16 at 10)
+    ∷ ("'a'='#(b:\\4)';" is 16 at 9)
+    ∷ ("'a'='#(b\\:4)';" is 16 at 8)
+    ∷ ("'a'='#(b:\t4)';" is 16 at 9)
+    ∷ ("'a'='#(b:4'" is 12 at 10)
+    ∷ ("'a'='#(b:;" is 12 at 9)
+    ∷ ("'a'='#(b:4\n" is 12 at 10)
+    ∷ ("'a'='#(b:4" is 12 at 10)
+    ∷ ("'a'='#b:4#\\(b:4)';" becomes "'a'='\\#b\\:4\\#(b\\:4)';") ∷ [])
+unfolding everything
+divisors = refl
 
 -- spaces in calls are ignored, but not in the text, nor between `&` and `(`; a tab is 16
 pub spaces : Hold (

@@ -18,7 +18,7 @@ use Rattle.macros.specs.Macro.PatternUnit.{literal, kind, class, callOf}
 use Rattle.macros.specs.Macro.Piece.{element, start, end, left, right}
 use Rattle.macros.specs.Macro.Sign.{plus, minus}
 use Rattle.macros.specs.Macro.Move.{still, before, after}
-use Rattle.macros.specs.Macro.Call.{insert, storeTag, setTo, storeText, setIncrement}
+use Rattle.macros.specs.Macro.Call.{insert, storeTag, setTo, storeText, setIncrement, divide}
 use Rattle.macros.specs.Macro.Action.{text, tag, call}
 use Rattle.macros.specs.Macro.Symbol.{equal, less}
 
@@ -118,6 +118,7 @@ markOf (storeTag n i v) = stack
 markOf (setTo m i n) = m
 markOf (storeText i v t) = stack
 markOf (setIncrement i n) = counter
+markOf (divide i n) = counter
 
 -- what stands behind `&(` or `#(`, a text written by w
 unfoldable pub innerBytes : (List ℕ → List ℕ) → Call → List ℕ
@@ -126,6 +127,7 @@ innerBytes w (storeTag n i v) = digits n ++ (code "," ∷ (nameBytes i v ++ (cod
 innerBytes w (setTo m i n) = i ∷ code "=" ∷ (digits n ++ (code ")" ∷ []))
 innerBytes w (storeText i v t) = nameBytes i v ++ (code ":" ∷ (w t ++ (code ":" ∷ code ")" ∷ [])))
 innerBytes w (setIncrement i n) = i ∷ code "," ∷ (digits n ++ (code ")" ∷ []))
+innerBytes w (divide i n) = i ∷ code ":" ∷ (digits n ++ (code ")" ∷ []))
 
 -- a call, a text written by w
 unfoldable pub callBytes : (List ℕ → List ℕ) → Call → List ℕ

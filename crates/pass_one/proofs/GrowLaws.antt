@@ -8,10 +8,11 @@ use Rattle.macros.specs.Macro.{Mark, Piece, Sign, Move, Call, Action, Macro}
 use Rattle.macros.specs.Macro.Mark.{stack, counter}
 use Rattle.macros.specs.Macro.Sign.{plus, minus}
 use Rattle.macros.specs.Macro.Move.{still, before, after}
-use Rattle.macros.specs.Macro.Call.{insert, storeTag, setTo, storeText, setIncrement}
+use Rattle.macros.specs.Macro.Call.{insert, storeTag, setTo, storeText, setIncrement, divide}
 use Rattle.macros.specs.Macro.Action.{text, tag, call}
-use Rattle.lines.specs.State.{contents}
+use Rattle.lines.specs.State.{counterOf, contents}
 use Rattle.lines.specs.Matching.{Division, stops, tagText}
+use Rattle.lines.specs.Dividing.{dividedText}
 use Rattle.lines.specs.Replacing.{Work, Done, _>>=_, unless, puts, put, withStack, withCounter, withPointer, withValue, withIncrement, withEntry, moves, early, late, stores, callActs, acts, replaces, commandsAct, occur}
 use Rattle.lines.specs.Replacing.Done.{bad, good}
 
@@ -73,6 +74,7 @@ module _ (n : ℕ) where
     call-grown (setTo counter i j) w h = h
     call-grown (storeText i v x) w h = access-grown stack v i (stores i x) w (stores-grown i x) h
     call-grown (setIncrement i j) w h = h
+    call-grown (divide i j) w h = puts-grown (dividedText (counterOf (w .state) i .value) j) w h
 
     acts-grown : (a : Action) (w : Work) → n ≤ w .size → Grown n (acts t es qs a w)
     unfolding acts

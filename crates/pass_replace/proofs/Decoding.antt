@@ -12,20 +12,22 @@ use Rattle.macros.specs.Macro.{Piece, Move, Call, Action, pick, within}
 use Rattle.macros.specs.Macro.Mark.{stack, counter}
 use Rattle.macros.specs.Macro.Sign.{plus, minus}
 use Rattle.macros.specs.Macro.Move.{still, before, after}
-use Rattle.macros.specs.Macro.Call.{insert, storeTag, setTo, storeText, setIncrement}
+use Rattle.macros.specs.Macro.Call.{insert, storeTag, setTo, storeText, setIncrement, divide}
 use Rattle.macros.specs.Macro.Action.{text, tag, call}
 use Rattle.macros.specs.Formed.{limit, numberFits, FormedCall, FormedAction, FormedReplacement, FormedCommands}
 use Rattle.form_bytes.specs.Fours.{four}
 use Rattle.form_bytes.proofs.Laws.{four-there}
 use Rattle.form_table.specs.Form.{moveCode, callItems, actionItems, replacementItems}
+use Rattle.lines.specs.State.{counterOf}
 use Rattle.lines.specs.Matching.{tagText}
+use Rattle.lines.specs.Dividing.{dividedText}
 use Rattle.lines.specs.Replacing.{Work, Done, _>>=_, unless, onto, puts, put, early, late, stores, callActs, acts, replaces, commandsAct}
 use Rattle.lines.specs.Replacing.Done.{bad, good}
 use Rattle.lines.proofs.KeepTests.{within-between}
 use Rattle.form_table.specs.Actions.{numberIn, textIn, Held}
 use Rattle.form_table.proofs.Actions.{even-taken, action-size, action-some, action-rest}
 use Rattle.pass_replace.specs.Tags.{tagIn}
-use Rattle.pass_replace.specs.Acting.{taggedIn, markIn, moveIn, movesIn, setsIn, actIn, contentsIn, insertsIn, storedIn, accessIn, actionIn, actsIn, Fit, Fits}
+use Rattle.pass_replace.specs.Acting.{taggedIn, markIn, moveIn, movesIn, setsIn, actIn, contentsIn, insertsIn, storedIn, dividesIn, accessIn, actionIn, actsIn, Fit, Fits}
 use Rattle.pass_replace.specs.Acting.Fits.{none, next}
 use Rattle.pass_replace.proofs.Inserting.{acts-cons}
 
@@ -50,7 +52,7 @@ put-puts b w = ap (λ (n : ℕ). unless (leb n mostLineBytes) newLineTooLong w (
 
 module _ (line pat ends : List ℕ) (es : List Piece) (qs : List ℕ) (same : (n : ℕ) → tagIn line n pat ends ≡ tagText line n es qs) where
   call-does : (c : Call) (r : List ℕ) (w : Work) → actsIn line pat ends (callItems c ++ r) w ≡ callActs line es qs c w
-  unfolding actsIn taggedIn actionIn movesIn moveIn accessIn insertsIn contentsIn storedIn setsIn markIn callItems moveCode four numberIn textIn callActs early late pick within
+  unfolding actsIn taggedIn actionIn movesIn moveIn accessIn insertsIn contentsIn storedIn setsIn dividesIn markIn callItems moveCode four numberIn textIn callActs early late pick within
   call-does (insert stack i still) r w = refl
   call-does (insert stack i (before plus)) r w = refl
   call-does (insert stack i (before minus)) r w = refl
@@ -74,6 +76,7 @@ module _ (line pat ends : List ℕ) (es : List Piece) (qs : List ℕ) (same : (n
   call-does (storeText i (after plus) t) r w = ap (λ (x : List ℕ). early stack (after plus) i w >>= stores i x >>= late stack (after plus) i) (even-taken t r)
   call-does (storeText i (after minus) t) r w = ap (λ (x : List ℕ). early stack (after minus) i w >>= stores i x >>= late stack (after minus) i) (even-taken t r)
   call-does (setIncrement i n) r w = rw (four-there n)
+  call-does (divide i n) r w = rw (four-there n) (bind-good (puts (dividedText (counterOf (w .state) i .value) n) w))
 
   action-does : (a : Action) (r : List ℕ) (w : Work) → actsIn line pat ends (actionItems a ++ r) w ≡ acts line es qs a w
   unfolding actsIn taggedIn actionIn movesIn moveIn accessIn insertsIn contentsIn actionItems acts pick within
@@ -140,6 +143,8 @@ call-fit n (setTo stack i k) r f h =
 call-fit n (setTo counter i k) r f h =
     record { held = h; letter = λ p q. f .names; text = λ p q. absurd (omega arith); pointer = λ p q. absurd (omega arith); number = λ p. rw (four-there k) (within-between 1 mostCounter k (f .numbers)) }
 call-fit n (setIncrement i k) r f h =
+    record { held = h; letter = λ p q. f .names; text = λ p q. absurd (omega arith); pointer = λ p q. absurd (omega arith); number = λ p. rw (four-there k) (within-between 1 mostCounter k (f .numbers)) }
+call-fit n (divide i k) r f h =
     record { held = h; letter = λ p q. f .names; text = λ p q. absurd (omega arith); pointer = λ p q. absurd (omega arith); number = λ p. rw (four-there k) (within-between 1 mostCounter k (f .numbers)) }
 
 action-fit : (n : ℕ) (a : Action) (r : List ℕ) → FormedAction n a → Held (actionItems a ++ r) → Fit (actionItems a ++ r)

@@ -2,13 +2,13 @@
 use Prim.Native.Nat.{ℕ, zero, suc, _+_, _-_, _/_, _%_, _≤_, _<_}
 use mathlib.Core.Path.{_≡_, refl, sym, ap, _∙_, subst}
 use mathlib.Core.Bool.{Bool, true, false}
-use mathlib.Core.List.{List, [], _∷_, _++_}
+use mathlib.Core.List.{List, [], _∷_, _++_, append-assoc}
 use native.Mathlib.Numerals.{add-one}
 use native.Mathlib.Omega.{arith}
 use borrow.Author.Tests.{lt-ltb, le-ltb, eq-eqb, ne-eqb}
 use lib.Dec.{eqb, ltb}
 use lib.ListN.{length, getD, set, take, drop, length-append, length-drop, drop-of-length-le}
-use lib.Seq.{drop-cons, drop-drop, take-suc-set, paste, paste-suc}
+use lib.Seq.{drop-cons, drop-drop, take-suc-set, take-length, take-paste, paste, paste-suc}
 use Rattle.macros.specs.Bounds.{mostLineBytes}
 use Rattle.macros.specs.Macro.{pick, within}
 use Rattle.macros.specs.Formed.{Letter}
@@ -17,6 +17,7 @@ use Rattle.form_table.proofs.Basics.{within-low}
 use Rattle.form_table.proofs.Figures.{digits-figures}
 use Rattle.form_table.specs.ActionWalk.{figures}
 use Rattle.lines.specs.State.{State, counterOf, currentEntry, contents}
+use Rattle.lines.specs.Dividing.{dividedText}
 use Rattle.lines.specs.Replacing.{Work, Done, _>>=_, puts, stores}
 use Rattle.lines.specs.Replacing.Done.{bad, good}
 use Rattle.form_state.specs.Access.{Holds, IsState, OfState}
@@ -26,9 +27,9 @@ use Rattle.form_table.proofs.Actions.{some-size}
 use Rattle.pass_replace.specs.Contract.{sizeOf}
 use Rattle.pass_replace.specs.Tags.{tagIn, Cut}
 use Rattle.pass_replace.specs.Texts.{Lends, Hands}
-use Rattle.pass_replace.specs.Acting.{taggedIn, movesIn, setsIn, actIn, contentsIn, insertsIn, storedIn, accessIn, actionIn, actsIn, Fit, Fits}
+use Rattle.pass_replace.specs.Acting.{taggedIn, movesIn, setsIn, actIn, contentsIn, insertsIn, storedIn, dividesIn, accessIn, actionIn, actsIn, Fit, Fits}
 use Rattle.pass_replace.specs.Acting.Fits.{none, next}
-use Rattle.pass_replace.specs.Moments.{Does, Inserts, Changes, Onward, Digits}
+use Rattle.pass_replace.specs.Moments.{Does, Inserts, Changes, Onward, Digits, Figures}
 use Rattle.pass_replace.specs.declared.tags.Span.{Span}
 use Rattle.pass_replace.specs.declared.texts.Text.{Text}
 use Rattle.pass_replace.specs.declared.texts.Text.the-variants.{Tag, Entry}
@@ -82,6 +83,31 @@ digits-more {v} {b} {n} {now} h d l e =
           ∙ sym (digits-last v h);
     }
 
+-- behind other bytes
+pub figures-put : {v at n : ℕ} {old new figures : List ℕ} → Digits v figures n → length (digits v) ≤ 9 → at + 9 ≤ length old → new ≡ paste old at (take n figures) (length (take n figures))
+    → Figures v at old new (at + n)
+figures-put {v} {at} {n} {old} {new} {figures} d l h e =
+    let count : at + n ≡ at + length (digits v) = ap (λ (k : ℕ). at + k) (d .count) in
+    let pasted : new ≡ paste old at (digits v) (length (digits v)) = e ∙ ap (λ (x : List ℕ). paste old at x (length x)) (d .text) in
+    record {
+      count = count;
+      few = omega arith;
+      text =
+          ap (λ (k : ℕ). take k new) count
+          ∙ ap (take (at + length (digits v))) pasted
+          ∙ take-paste old at (digits v) (length (digits v)) (omega arith) (omega arith)
+          ∙ ap (λ (x : List ℕ). take at old ++ x) (take-length (digits v));
+    }
+
+-- quotient, space and remainder
+pub divided-put : (v n : ℕ) {a z : ℕ} {old text new : List ℕ} → Figures (v / n) 0 old text a → a < length text → Figures (v % n) (a + 1) (set text a 32) new z
+    → take z new ≡ dividedText v n
+unfolding dividedText
+divided-put v n {a} {z} {old} {text} q h r =
+    let before : take (a + 1) (set text a 32) ≡ digits (v / n) ++ (32 ∷ []) =
+    ap (λ (k : ℕ). take k (set text a 32)) (add-one a) ∙ take-suc-set text a 32 h ∙ ap (λ (x : List ℕ). x ++ (32 ∷ [])) (q .text) in
+    r .text ∙ ap (λ (x : List ℕ). x ++ digits (v % n)) before ∙ append-assoc (digits (v / n)) (32 ∷ []) (digits (v % n))
+
 -- a copy, one byte more
 pub copy-next : (old out bytes : List ℕ) (at i : ℕ) → out ≡ paste old at bytes i → at + i < length old → i < length bytes → set out (at + i) (getD bytes i 0) ≡ paste old at bytes (i + 1)
 copy-next old out bytes at i e h l = ap (λ (x : List ℕ). set x (at + i) (getD bytes i 0)) e ∙ paste-suc old at bytes i 0 h l ∙ ap (λ (k : ℕ). paste old at bytes k) (sym (add-one i))
@@ -116,18 +142,23 @@ module _ (line b : List ℕ) {whose : Text} where
 
 -- WHAT IS INSERTED
 
-pub inserts-does : (tag t : List ℕ) {bytes out out₁ b : List ℕ} {k : ℕ} {r : Outcome} → Inserts bytes out k out₁ r → IsState b → ((st : State) → Holds b st → bytes ≡ contentsIn tag t st)
-    → Does (insertsIn tag t) out b k out₁ b r
-unfolding insertsIn
-inserts-does tag t {b = b} p s e =
+-- the bytes are those that a step inserts in any state that the memory holds
+puts-does : {f : Work → Done} {c : State → List ℕ} {bytes out out₁ b : List ℕ} {k : ℕ} {r : Outcome} → Inserts bytes out k out₁ r → IsState b → ((st : State) → Holds b st → bytes ≡ c st)
+    → ((w : Work) → f w ≡ puts (c (w .state)) w) → Does f out b k out₁ b r
+puts-does {b = b} p s e h =
     let q = p .does b s in
     record {
-      comes = λ w m. let x = q .comes w m in (x .0, ap (λ (y : List ℕ). puts y w) (sym (e (w .state) (m .state))) ∙ x .1, x .2);
+      comes = λ w m. let x = q .comes w m in (x .0, h w ∙ ap (λ (y : List ℕ). puts y w) (sym (e (w .state) (m .state))) ∙ x .1, x .2);
       state = q .state;
       grows = q .grows;
       fits = q .fits;
       past = q .past;
     }
+
+pub inserts-does : (tag t : List ℕ) {bytes out out₁ b : List ℕ} {k : ℕ} {r : Outcome} → Inserts bytes out k out₁ r → IsState b → ((st : State) → Holds b st → bytes ≡ contentsIn tag t st)
+    → Does (insertsIn tag t) out b k out₁ b r
+unfolding insertsIn
+inserts-does tag t p s e = puts-does {c = contentsIn tag t} p s e (λ w. refl)
 
 module _ (tag t : List ℕ) where
   pub byte-is : 2 ≤ length t → getD t 0 0 ≡ 40 → (st : State) → take (2 - 1) (drop 1 t) ≡ contentsIn tag t st
@@ -158,9 +189,18 @@ module _ (tag t : List ℕ) {out b b₁ : List ℕ} {k : ℕ} {r : Outcome} wher
   access-store x g h l e p =
       does-by (λ w. rw (le-ltb (getD t 0 0) 64 g, lt-ltb (getD t 0 0) 80 h, ← e)) (changes-does out p l)
 
-  pub access-set : {x : ℕ} → 80 ≤ getD t 0 0 → k ≤ mostLineBytes → x ≡ numberIn t → Changes (setsIn (getD t 0 0) (getD t 1 0) x) b k b₁ r → Does (accessIn tag t) out b k out b₁ r
+  pub access-set : {x : ℕ} → 80 ≤ getD t 0 0 → getD t 0 0 < 104 → k ≤ mostLineBytes → x ≡ numberIn t → Changes (setsIn (getD t 0 0) (getD t 1 0) x) b k b₁ r
+      → Does (accessIn tag t) out b k out b₁ r
   unfolding accessIn pick
-  access-set h l e p = does-by (λ w. rw (le-ltb (getD t 0 0) 64 (omega arith), le-ltb (getD t 0 0) 80 h, ← e)) (changes-does out p l)
+  access-set h g l e p = does-by (λ w. rw (le-ltb (getD t 0 0) 64 (omega arith), le-ltb (getD t 0 0) 80 h, lt-ltb (getD t 0 0) 104 g, ← e)) (changes-does out p l)
+
+module _ (tag t : List ℕ) {out b : List ℕ} {k : ℕ} {r : Outcome} where
+  pub access-divide : (v x : ℕ) {out₁ : List ℕ} → 104 ≤ getD t 0 0 → IsState b → OfState b (λ st. v ≡ counterOf st (getD t 1 0) .value) → x ≡ numberIn t → Inserts (dividedText v x) out k out₁ r
+      → Does (accessIn tag t) out b k out₁ b r
+  unfolding accessIn dividesIn pick
+  access-divide v x h s q e p =
+      puts-does {c = λ st. dividedText (counterOf st (getD t 1 0) .value) (numberIn t)} p s (λ st m. rw (q st m, e))
+      (λ w. rw (le-ltb (getD t 0 0) 64 (omega arith), le-ltb (getD t 0 0) 80 (omega arith), le-ltb (getD t 0 0) 104 h))
 
 -- the access between its two moves
 module _ (tag t : List ℕ) {out b b₁ : List ℕ} {k : ℕ} {r : Outcome} (l : k ≤ mostLineBytes) (p : Changes (movesIn 1 (getD t 0 0) (getD t 1 0)) b k b₁ r) where

@@ -11,7 +11,8 @@ use Rattle.macros.specs.Macro.{Mark, Sign, pick, within}
 use Rattle.macros.specs.Macro.Mark.{stack, counter}
 use Rattle.macros.specs.Macro.Sign.{plus, minus}
 use Rattle.macros.specs.Formed.{Between, Bytes, Letter}
-use Rattle.lines.specs.State.{State, contents}
+use Rattle.lines.specs.State.{State, counterOf, contents}
+use Rattle.lines.specs.Dividing.{dividedText}
 use Rattle.lines.specs.Replacing.{Work, Done, _>>=_, puts, fallen, moves, stores, withPointer, withValue, withIncrement}
 use Rattle.lines.specs.Replacing.Done.{good}
 use Rattle.form_table.specs.Actions.{numberIn, textIn, actionSize, Held}
@@ -69,11 +70,16 @@ insertsIn tag t w = puts (contentsIn tag t (w .state)) w
 unfoldable pub storedIn : (tag t : List ℕ) → List ℕ
 storedIn tag t = pick (ltb (getD t 0 0) 72) tag (textIn t)
 
--- an action without its moves: it inserts, stores or sets
+-- quotient and remainder of a value are inserted
+unfoldable pub dividesIn : (i n : ℕ) → Work → Done
+dividesIn i n w = puts (dividedText (counterOf (w .state) i .value) n) w
+
+-- an action without its moves: it inserts, stores, sets or divides
 unfoldable pub accessIn : (tag t : List ℕ) → Work → Done
 accessIn tag t w =
     pick (ltb (getD t 0 0) 64) (insertsIn tag t w)
-    (pick (ltb (getD t 0 0) 80) (stores (getD t 1 0) (storedIn tag t) w) (setsIn (getD t 0 0) (getD t 1 0) (numberIn t) w))
+    (pick (ltb (getD t 0 0) 80) (stores (getD t 1 0) (storedIn tag t) w)
+    (pick (ltb (getD t 0 0) 104) (setsIn (getD t 0 0) (getD t 1 0) (numberIn t) w) (dividesIn (getD t 1 0) (numberIn t) w)))
 
 -- an action with its moves: the one before, the access, the one after
 unfoldable pub actionIn : (tag t : List ℕ) → Work → Done

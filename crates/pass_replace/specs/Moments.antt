@@ -1,7 +1,7 @@
 -- What the functions inside an occurrence promise: from one moment to the next.
-use Prim.Native.Nat.{ℕ, _≤_}
+use Prim.Native.Nat.{ℕ, _+_, _≤_}
 use mathlib.Core.Path.{_≡_}
-use mathlib.Core.List.{List}
+use mathlib.Core.List.{List, _++_}
 use lib.ListN.{length, take, drop}
 use Rattle.macros.specs.Bounds.{mostLineBytes}
 use Rattle.macros.specs.Write.{digits}
@@ -45,6 +45,12 @@ pub record Changes (f : Work → Done) (b : List ℕ) (k : ℕ) (b′ : List ℕ
 pub record Onward (f : Work → Done) (b : List ℕ) (s : Outcome) (b′ : List ℕ) (r : Outcome) : Type 0 where
   pub made : (k : ℕ) → s ≡ Made k → Changes f b k b′ r
   pub refused : (e : WorkFault) (k : ℕ) → s ≡ Refused e k → (b′ ≡ b) × (r ≡ s)
+
+-- behind the first at bytes of old the digits stand, up to n
+pub record Figures (v at : ℕ) (old new : List ℕ) (n : ℕ) : Type 0 where
+  pub count : n ≡ at + length (digits v)
+  pub few : n ≤ at + 9
+  pub text : take n new ≡ take at old ++ digits v
 
 -- the first n bytes are the digits
 pub record Digits (v : ℕ) (new : List ℕ) (n : ℕ) : Type 0 where

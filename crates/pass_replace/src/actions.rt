@@ -9,8 +9,10 @@ use crate::texts::Text;
 use crate::texts::insert;
 use crate::texts::is_within;
 use crate::texts::part;
+use crate::texts::put_divided;
 use form_bytes::number_at;
 use form_items::action_size;
+use form_state::value;
 use refusals::Outcome;
 ghost use lib.Seq.{slice};
 ghost use Rattle.form_state.specs.Access.{IsState};
@@ -18,7 +20,7 @@ ghost use Rattle.pass_replace.specs.Tags.{Ended, Spans, Cut, Divided};
 ghost use Rattle.pass_replace.specs.Acting.{Fit, Fits, taggedIn, accessIn, actionIn, actsIn, actIn};
 ghost use Rattle.pass_replace.specs.Moments.{Room, Does};
 
-// An action without its moves: it inserts, stores or sets. While a tag is stored the state is not lent: a tag's text stands in the line.
+// An action without its moves: it inserts, stores, sets or inserts a quotient. While a tag is stored the state is not lent: a tag's text stands in the line.
 fn access(
     line: &[u8],
     span: Span,
@@ -41,7 +43,11 @@ fn access(
     if code < 80 {
         return store(state, i, text_in(t), size);
     }
-    set(state, code, i, number_at(t, 2), size)
+    let n = number_at(t, 2);
+    if code < 104 {
+        return set(state, code, i, n, size);
+    }
+    put_divided(value(state, i), n, out, size)
 }
 
 // "the pointer moves before or after the access"; the counter likewise.

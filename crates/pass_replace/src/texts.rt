@@ -11,11 +11,12 @@ ghost use lib.Seq.{paste, slice};
 ghost use Rattle.macros.specs.Bounds.{mostCounter};
 ghost use Rattle.macros.specs.Macro.{within};
 ghost use Rattle.macros.specs.Write.{digits};
+ghost use Rattle.lines.specs.Dividing.{dividedText};
 ghost use Rattle.form_state.specs.Access.{IsState};
 ghost use Rattle.pass_replace.specs.Tags.{Cut};
 ghost use Rattle.pass_replace.specs.Texts.{Lends, Hands};
 ghost use Rattle.pass_replace.specs.Acting.{Fit, insertsIn};
-ghost use Rattle.pass_replace.specs.Moments.{Room, Inserts, Does, Digits};
+ghost use Rattle.pass_replace.specs.Moments.{Room, Inserts, Does, Digits, Figures};
 
 // The bytes of a text from a place on.
 pub(crate) fn copy(out: &mut [u8], at: usize, bytes: &[u8])
@@ -78,6 +79,31 @@ fn put_value(v: u32, out: &mut [u8], size: usize) -> Outcome
     let mut figures = [0u8; 9];
     let n = put_digits(&mut figures, v);
     put(out, size, &figures[..n])
+}
+
+// The digits of a value behind the first `at` bytes of a text: where they end.
+fn put_figures(text: &mut [u8], at: usize, v: u32) -> usize
+    requires { ⌜ (v ≤ mostCounter) × (at + 9 ≤ length (now text)) × (length (now text) ≤ 19) ⌝ }
+    ensures { λ r. ⌜ Figures v at (now (text .entry)) (now (text .exit)) r ⌝ }
+{
+    let mut figures = [0u8; 9];
+    let n = put_digits(&mut figures, v);
+    copy(text, at, &figures[..n]);
+    at + n
+}
+
+// The quotient, a space and the remainder that `#(i:n)` stands for join the new line.
+pub(crate) fn put_divided(v: u32, n: u32, out: &mut [u8], size: usize) -> Outcome
+    requires { ⌜ (v ≤ mostCounter) × (1 ≤ n) × Room (now out) size ⌝ }
+    ensures { λ r. ⌜ Inserts (dividedText v n) (now (out .entry)) size (now (out .exit)) r ⌝ }
+{
+    let quotient = v / n;
+    let remainder = v % n;
+    let mut text = [0u8; 19];
+    let space = put_figures(&mut text, 0, quotient);
+    text[space] = b' ';
+    let end = put_figures(&mut text, space + 1, remainder);
+    put(out, size, &text[..end])
 }
 
 // Whose text: a tag's, with its span of the line, or that of the current entry of a stack, by its letter.

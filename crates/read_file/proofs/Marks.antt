@@ -1,22 +1,22 @@
 -- Calls behind `&(` and `#(`.
 -- Assumes nothing.
 use mathlib.Core.Path.{_≡_, refl, ap, sym, _∙_}
-use mathlib.Core.Bool.{Bool, true, false, not, _&&_, true≢false, and-true, and-false}
+use mathlib.Core.Bool.{Bool, true, false, not, _&&_, _||_, true≢false, and-true, and-false}
 use mathlib.Core.List.{List, [], _∷_}
 use mathlib.Core.Option.{Option, none, some}
 use Prim.Native.Nat.{ℕ, _+_, _-_, _*_, _≤_, _<_}
 use native.Mathlib.Omega.{arith}
-use lib.Dec.{eqb}
+use lib.Dec.{eqb, ltb}
 use lib.ListN.{length}
-use borrow.Author.Tests.{ne-eqb}
+use borrow.Author.Tests.{ne-eqb, ltb-true, ltb-false}
 use Rattle.macros.specs.Macro.{Macro, Mark, Move, Call, Sign, pick, within, asciiLower, digit}
 use Rattle.macros.specs.Macro.Mark.{stack, counter}
 use Rattle.macros.specs.Macro.Move.{still, before, after}
-use Rattle.macros.specs.Macro.Call.{insert, setTo, setIncrement}
+use Rattle.macros.specs.Macro.Call.{insert, setTo, setIncrement, divide}
 use Rattle.macros.specs.Formed.{numberFits, limit}
 use Rattle.macros.specs.Read.{Part, CallSite, Phase, callByte, isCommand, isSign, isStill, numberEnd as closing}
 use Rattle.macros.specs.ReadSoFar.Part.{calling, callText}
-use Rattle.macros.specs.ReadSoFar.Phase.{begun, signed, named, equals, increment, tagged}
+use Rattle.macros.specs.ReadSoFar.Phase.{begun, signed, named, equals, increment, divisor, tagged}
 use Rattle.macros.specs.ReadCalls.Turn.{into, textOf, closed, wrong}
 use Rattle.form_table.specs.Form.{callItems, moveCode}
 use Rattle.read_scan.specs.Scan.{run, Here, Calls, faultOf, wrongCall}
@@ -35,7 +35,7 @@ use Rattle.read_file.specs.declared.Tail.the-variants.{Text, Set, Insert
 use Rattle.read_file.specs.declared.Ended.{Ended}
 use Rattle.read_file.specs.declared.Ended.the-variants.{Upto, Refused as NoEnd}
 use Rattle.read_scan.proofs.Laws.{here-on}
-use Rattle.read_number.proofs.Numbers.{tagState, eats-tagged, eats-equals, eats-increment}
+use Rattle.read_number.proofs.Numbers.{tagState, eats-tagged, eats-equals, eats-increment, eats-divisor}
 use Rattle.read_file.proofs.Naming.{turn-text, call-next, here-into, code-none, code-some}
 use Rattle.read_file.proofs.Ending.{ends-from, ends-none, ends-wrong, ends-closed, joined, names-stack, names-counter}
 
@@ -82,6 +82,23 @@ pub counter-unequal : (cmd : Bool) (i c m : ℕ) (v : Move) → c ≡ 61 → m �
 unfolding callByte pick isSign
 counter-unequal cmd i c m v e f g = rw (e, code-some v (omega (arith, f))) refl
 
+-- whether a `:` may stand
+colon : (cmd : Bool) (m : ℕ) (v : Move) → m ≡ moveCode v → (isStill v && not cmd) ≡ not (ltb 0 m || cmd)
+unfolding isStill
+colon cmd m v f = by (ltb 0 m) refl
+  where
+    by : (x : Bool) → ltb 0 m ≡ x → (isStill v && not cmd) ≡ not (x || cmd)
+    by true e = rw (code-some v (let g = ltb-true 0 m e in omega (arith, f))) refl
+    by false e = rw (code-none v (let g = ltb-false 0 m e in omega (arith, f))) refl
+
+pub counter-colon : (cmd : Bool) (i c m : ℕ) (v : Move) → c ≡ 58 → m ≡ moveCode v → (ltb 0 m || cmd) ≡ false → callByte cmd (named counter i v) c ≡ into (divisor i none)
+unfolding callByte pick
+counter-colon cmd i c m v e f g = rw (e, colon cmd m v f, g) refl
+
+pub counter-uncolon : (cmd : Bool) (i c m : ℕ) (v : Move) → c ≡ 58 → m ≡ moveCode v → (ltb 0 m || cmd) ≡ true → callByte cmd (named counter i v) c ≡ wrong
+unfolding callByte pick isSign
+counter-uncolon cmd i c m v e f g = rw (e, colon cmd m v f, g) refl
+
 pub counter-command : (cmd : Bool) (i c : ℕ) (v : Move) → c ≡ 41 → cmd ≡ true → callByte cmd (named counter i v) c ≡ wrong
 unfolding callByte pick isSign
 counter-command cmd i c v e f = rw (e, f) refl
@@ -94,10 +111,10 @@ joined-late : (x y w : Bool) → (y ≡ true → (x && w) ≡ false) → (x && (
 joined-late x true w h = h refl
 joined-late x false w h = and-false x
 
-pub counter-strange : (cmd : Bool) (i c : ℕ) (v : Move) → (c ≡ 44 → ⊥) → (c ≡ 61 → ⊥) → (c ≡ 41 → ⊥) → (isStill v ≡ true → (isSign c && not cmd) ≡ false)
+pub counter-strange : (cmd : Bool) (i c : ℕ) (v : Move) → (c ≡ 44 → ⊥) → (c ≡ 61 → ⊥) → (c ≡ 58 → ⊥) → (c ≡ 41 → ⊥) → (isStill v ≡ true → (isSign c && not cmd) ≡ false)
     → callByte cmd (named counter i v) c ≡ wrong
 unfolding callByte pick
-counter-strange cmd i c v e f g h = simp (ne-eqb _ _ e, ne-eqb _ _ f, ne-eqb _ _ g, joined-late (isSign c) (isStill v) (not cmd) h)
+counter-strange cmd i c v e f k g h = simp (ne-eqb _ _ e, ne-eqb _ _ f, ne-eqb _ _ k, ne-eqb _ _ g, joined-late (isSign c) (isStill v) (not cmd) h)
 
 -- NUMBERS
 
@@ -108,6 +125,10 @@ sets-others cmd m i o b h e = simp (h, ne-eqb _ _ e)
 increment-others : (cmd : Bool) (i : ℕ) (o : Option ℕ) (b : ℕ) → digit b ≡ false → (b ≡ 41 → ⊥) → callByte cmd (increment i o) b ≡ wrong
 unfolding callByte pick
 increment-others cmd i o b h e = simp (h, ne-eqb _ _ e)
+
+divisor-others : (cmd : Bool) (i : ℕ) (o : Option ℕ) (b : ℕ) → digit b ≡ false → (b ≡ 41 → ⊥) → callByte cmd (divisor i o) b ≡ wrong
+unfolding callByte pick
+divisor-others cmd i o b h e = simp (h, ne-eqb _ _ e)
 
 pub sets-stack : (i : ℕ) → Sets 80 i 20 (equals stack i) (setTo stack i)
 unfolding callByte pick digit within numberFits limit callItems
@@ -137,6 +158,17 @@ sets-increment i =
     record {
       eats = λ pl. eats-increment pl i;
       others = λ cmd o b h e. increment-others cmd i o b h e;
+      closes = λ cmd o. refl;
+      fits = λ k v. refl;
+      items = λ v. refl;
+    }
+
+pub sets-divisor : (i : ℕ) → Sets 104 i 999999999 (divisor i) (divide i)
+unfolding callByte pick digit within numberFits limit callItems
+sets-divisor i =
+    record {
+      eats = λ pl. eats-divisor pl i;
+      others = λ cmd o b h e. divisor-others cmd i o b h e;
       closes = λ cmd o. refl;
       fits = λ k v. refl;
       items = λ v. refl;

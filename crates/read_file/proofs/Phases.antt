@@ -7,7 +7,7 @@ use Rattle.macros.specs.Macro.{Mark, pick, within, asciiLower, digit}
 use Rattle.macros.specs.Macro.Mark.{stack, counter}
 use Rattle.macros.specs.Read.{Part, CallSite, Phase, partByte, isSign, turned, callByte, otherwise, isCommand}
 use Rattle.macros.specs.ReadSoFar.Part.{calling}
-use Rattle.macros.specs.ReadSoFar.Phase.{begun, signed, named, equals, increment, tagged, comma, tagSigned, tagNamed, texted}
+use Rattle.macros.specs.ReadSoFar.Phase.{begun, signed, named, equals, increment, divisor, tagged, comma, tagSigned, tagNamed, texted}
 use Rattle.macros.specs.ReadCalls.Turn.{wrong}
 use Rattle.macros.specs.ReadSoFar.Step.{on, stop}
 use Rattle.read_scan.specs.Scan.{wrongCall}
@@ -22,6 +22,7 @@ space-wrong cmd (named stack i h) = refl
 space-wrong cmd (named counter i h) = refl
 space-wrong cmd (equals m i o) = refl
 space-wrong cmd (increment i o) = refl
+space-wrong cmd (divisor i o) = refl
 space-wrong cmd (tagged n) = refl
 space-wrong cmd (comma n) = refl
 space-wrong cmd (tagSigned n x) = refl

@@ -7,6 +7,7 @@ use crate::Name;
 use crate::Tail;
 use form_bytes::put_number;
 use form_items::codes::BEHIND;
+use form_items::codes::DIVIDE;
 use form_items::codes::INSERT_ENTRY;
 use form_items::codes::INSERT_VALUE;
 use form_items::codes::MINUS;
@@ -175,7 +176,7 @@ pub(crate) fn unclosed(b: u8, close: u8, some: bool, v: u64, top: u64) -> bool
     false
 }
 
-// A number, at most `top`, behind the `=` or `,` of the letter i, and its `)`: if it is out of range, the `)` is a wrong byte, 16.
+// A number, at most `top`, behind the `=`, `,` or `:` of the letter i, and its `)`: if it is out of range, the `)` is a wrong byte, 16.
 fn set_call(
     s: &[u8],
     out: &mut [u8],
@@ -374,6 +375,12 @@ fn counter_tail(c: u8, m: u8, cmd: bool) -> Tail
             return Tail::Wrong;
         }
         return Tail::Set(SET_VALUE, MOST_COUNTER);
+    }
+    if c == b':' {
+        if (0 < m) | cmd {
+            return Tail::Wrong;
+        }
+        return Tail::Set(DIVIDE, MOST_COUNTER);
     }
     if c != b')' {
         return Tail::Wrong;

@@ -13,7 +13,7 @@ use Rattle.macros.specs.Macro.Mark.{stack}
 use Rattle.macros.specs.Read.{Part, Front, CallSite, partByte, skips, andDigit, tagByte, turned, callByte, otherwise, isSign}
 use Rattle.macros.specs.ReadSoFar.Step.{on}
 use Rattle.macros.specs.ReadSoFar.Part.{tagNumber, calling}
-use Rattle.macros.specs.ReadSoFar.Phase.{equals, increment, begun, tagged}
+use Rattle.macros.specs.ReadSoFar.Phase.{equals, increment, divisor, begun, tagged}
 use Rattle.read_scan.specs.Bytes.{Placed, with?, seen, nextByte, spaceless}
 use Rattle.read_scan.specs.Bytes.Placed.{byteAt}
 use Rattle.read_scan.specs.Scan.{MacroRead, noted, run, Passes}
@@ -77,6 +77,10 @@ eats-equals pl m i = record { skipping = λ o. refl; digits = λ o b e. simp e; 
 pub eats-increment : (pl : CallSite) (i : ℕ) → Eats true (λ o. calling pl (increment i o))
 unfolding partByte skips pick turned callByte otherwise digit within
 eats-increment pl i = record { skipping = λ o. refl; digits = λ o b e. simp e; spaces = λ o e. refl; within = λ o u q r. refl }
+
+pub eats-divisor : (pl : CallSite) (i : ℕ) → Eats true (λ o. calling pl (divisor i o))
+unfolding partByte skips pick turned callByte otherwise digit within
+eats-divisor pl i = record { skipping = λ o. refl; digits = λ o b e. simp e; spaces = λ o e. refl; within = λ o u q r. refl }
 
 -- behind `&(`, the number of a tag
 abbrev pub tagState : CallSite → Option ℕ → Part

@@ -14,7 +14,7 @@ use Rattle.macros.specs.Macro.PatternUnit.{literal, kind, class, callOf}
 use Rattle.macros.specs.Macro.Piece.{element, start, end, left, right}
 use Rattle.macros.specs.Macro.Sign.{plus, minus}
 use Rattle.macros.specs.Macro.Move.{still, before, after}
-use Rattle.macros.specs.Macro.Call.{insert, storeTag, setTo, storeText, setIncrement}
+use Rattle.macros.specs.Macro.Call.{insert, storeTag, setTo, storeText, setIncrement, divide}
 use Rattle.macros.specs.Macro.Action.{text, tag, call}
 use Rattle.macros.specs.Formed.{FormedPieces}
 use Rattle.macros.specs.Write.{writeMember, writeMembers, writeUnit, closureBytes, writePiece, writePattern, signByte, nameBytes, writeText, markOf, innerBytes, callBytes, writeAction, writeReplacement, commandsBytes}
@@ -22,7 +22,7 @@ use Rattle.form_bytes.specs.Fours.{four}
 use Rattle.form_bytes.proofs.Laws.{four-there}
 use Rattle.form_table.specs.Form.{closureCode, unitCode, unitOperand, memberItems, membersItems, unitRest, pieceItems, patternItems, moveCode, callItems, actionItems, replacementItems}
 use Rattle.form_table.specs.Actions.{numberIn, textIn, actionSize}
-use Rattle.write_file.specs.Items.{closureText, unitText, braceByte, memberText, headText, tailText, itemText, patternText, nameText, callByte, firstText, middleText, lastText, callText, openText, endText, actionText, actionsText, Whole}
+use Rattle.write_file.specs.Items.{closureText, unitText, braceByte, memberText, headText, tailText, itemText, patternText, nameText, numberSign, callByte, firstText, middleText, lastText, callText, openText, endText, actionText, actionsText, Whole}
 use Rattle.write_file.specs.Items.Whole.{none, next}
 use Rattle.form_table.proofs.Actions.{even-taken, action-size, action-some, action-rest}
 use Rattle.write_file.proofs.Steps.{actions-cons}
@@ -110,7 +110,7 @@ pattern-text (p ∷ ps) f h = piece-text h (patternItems ps) (writePattern ps) (
 -- ACTIONS
 
 call-text : (c : Call) (r : List ℕ) → actionText (callItems c ++ r) ≡ callBytes writeText c
-unfolding actionText openText endText callItems moveCode four callByte callText firstText middleText lastText nameText textIn numberIn callBytes innerBytes nameBytes signByte markOf markByte pick
+unfolding actionText openText endText callItems moveCode four callByte callText numberSign firstText middleText lastText nameText textIn numberIn callBytes innerBytes nameBytes signByte markOf markByte pick
 call-text (insert stack i still) r = refl
 call-text (insert stack i (before plus)) r = refl
 call-text (insert stack i (before minus)) r = refl
@@ -134,6 +134,7 @@ call-text (storeText i (before minus) t) r = rw (even-taken t r)
 call-text (storeText i (after plus) t) r = rw (even-taken t r)
 call-text (storeText i (after minus) t) r = rw (even-taken t r)
 call-text (setIncrement i n) r = rw (four-there n)
+call-text (divide i n) r = rw (four-there n)
 
 action-text : (a : Action) (r : List ℕ) → actionText (actionItems a ++ r) ≡ writeAction a
 unfolding actionItems writeAction actionText openText endText pick

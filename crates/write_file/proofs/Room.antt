@@ -13,7 +13,7 @@ use Rattle.macros.specs.Macro.Member.{single, range}
 use Rattle.macros.specs.Macro.Mark.{stack, counter}
 use Rattle.macros.specs.Macro.PatternUnit.{literal, kind, class, callOf}
 use Rattle.macros.specs.Macro.Piece.{element, start, end, left, right}
-use Rattle.macros.specs.Macro.Call.{insert, storeTag, setTo, storeText, setIncrement}
+use Rattle.macros.specs.Macro.Call.{insert, storeTag, setTo, storeText, setIncrement, divide}
 use Rattle.macros.specs.Macro.Action.{text, tag, call}
 use Rattle.macros.specs.Read.{Joinable}
 use Rattle.macros.specs.Write.{byte, digits, closureBytes, nameBytes, innerBytes, callBytes, commandsBytes, symbolSign, markOf}
@@ -94,6 +94,7 @@ call-room (storeText i v t) =
     let y = even-length t in
     omega arith
 call-room (setIncrement i n) = omega arith
+call-room (divide i n) = omega arith
 
 action-room : (o : Option Mark) (a : Action) → length (actionItems a) ≤ 2 * length (spellAction o a)
 unfolding actionItems spellAction

@@ -67,11 +67,15 @@ nameText c i =
 unfoldable pub callByte : ℕ → ℕ
 callByte c = pick (ltb c 56) 38 (pick (ltb c 64) 35 (pick (ltb c 88) 38 35))
 
--- the tag's number and `,`; or the name and `:`; or the letter and `=` or `,`
+-- what stands between a letter and its number: `=`, `,` or `:`
+unfoldable pub numberSign : ℕ → ℕ
+numberSign c = pick (ltb c 96) 61 (pick (ltb c 104) 44 58)
+
+-- the tag's number and `,`; or the name and `:`; or the letter and `=`, `,` or `:`
 unfoldable pub firstText : ℕ → ℕ → ℕ → List ℕ
 firstText c i n =
     pick (ltb c 72) (digits n ++ (44 ∷ []))
-    (pick (ltb c 80) (nameText c i ++ (58 ∷ [])) (i ∷ pick (ltb c 96) 61 44 ∷ []))
+    (pick (ltb c 80) (nameText c i ++ (58 ∷ [])) (i ∷ numberSign c ∷ []))
 
 -- nothing, the text or the number
 unfoldable pub middleText : List ℕ → List ℕ
@@ -81,7 +85,7 @@ middleText t = pick (ltb (getD t 0 0) 72) [] (pick (ltb (getD t 0 0) 80) (writeT
 unfoldable pub lastText : ℕ → ℕ → List ℕ
 lastText c i = pick (ltb c 72) (nameText c i ++ (41 ∷ [])) (pick (ltb c 80) (58 ∷ 41 ∷ []) (41 ∷ []))
 
--- what stands behind the `(` of a call that stores or sets
+-- what stands behind the `(` of a call that stores, sets or divides
 unfoldable pub callText : List ℕ → List ℕ
 callText t = firstText (getD t 0 0) (getD t 1 0) (getD t 3 0) ++ (middleText t ++ lastText (getD t 0 0) (getD t 1 0))
 

@@ -16,7 +16,7 @@ ghost use Rattle.macros.specs.Macro.{pick, among};
 ghost use Rattle.macros.specs.Write.{textMarks, byte, writeText};
 ghost use Rattle.write_file.specs.Puts.{shortText, Puts};
 ghost use Rattle.form_table.specs.Actions.{Held};
-ghost use Rattle.write_file.specs.Items.{nameText, callByte, openText, endText, firstText, middleText, lastText, callText, actionText, actionsText, Whole};
+ghost use Rattle.write_file.specs.Items.{nameText, numberSign, callByte, openText, endText, firstText, middleText, lastText, callText, actionText, actionsText, Whole};
 
 // A letter with the sign that the call's code asks for, and a byte behind it.
 fn name(code: u8, letter: u8, close: u8) -> Short
@@ -59,16 +59,20 @@ fn put_text(file: &mut [u8], first: usize, text: &[u8]) -> usize
     n
 }
 
-fn set_sign(code: u8) -> u8
-    ensures { λ r. ⌜ r ≡ pick (ltb code 96) 61 44 ⌝ }
+// What stands between a letter and its number.
+fn number_sign(code: u8) -> u8
+    ensures { λ r. ⌜ r ≡ numberSign code ⌝ }
 {
     if code < 96 {
         return b'=';
     }
-    b','
+    if code < 104 {
+        return b',';
+    }
+    b':'
 }
 
-// The tag's number and `,`; or the name and `:`; or the letter and `=` or `,`.
+// The tag's number and `,`; or the name and `:`; or the letter and `=`, `,` or `:`.
 fn first(code: u8, letter: u8, tag: u8) -> Short
     ensures { λ r. ⌜ shortText r ≡ firstText code letter tag ⌝ }
 {
@@ -78,7 +82,7 @@ fn first(code: u8, letter: u8, tag: u8) -> Short
     if code < 80 {
         return name(code, letter, b':');
     }
-    Short::Two(letter, set_sign(code))
+    Short::Two(letter, number_sign(code))
 }
 
 // What stands between the first and the last: nothing, the text or the number.
@@ -110,7 +114,7 @@ fn last(code: u8, letter: u8) -> Short
     Short::One(b')')
 }
 
-// What stands behind the `(` of a call that stores or sets.
+// What stands behind the `(` of a call that stores, sets or divides.
 fn put_call(file: &mut [u8], n: usize, t: &[u8]) -> usize
     requires { ⌜ (length (now file) ≤ 32768) × (64 ≤ getD (now t) 0 0) × Held (now t) ⌝ }
     ensures { λ r. ⌜ Puts n (callText (now (t .entry))) (now (file .entry)) (now (file .exit)) r ⌝ }

@@ -92,7 +92,8 @@ fn any_move(random: &mut Random) -> Option<Move> {
 }
 
 fn any_action(random: &mut Random, odd: bool, tags: usize) -> Action {
-    match random.below(12) {
+    match random.below(13) {
+        12 => Action::Divided(*random.pick(LETTERS), *random.pick(&[1, 2, 4, 10, 999_999_999])),
         0 => Action::Entry(*random.pick(LETTERS), any_move(random)),
         1 => Action::Value(*random.pick(LETTERS), any_move(random)),
         2 => any_command(random, odd, tags),

@@ -206,13 +206,15 @@ fn counter_call(cursor: &mut Cursor, site: Site) -> Read<Action> {
 
 fn after_counter_letter(cursor: &mut Cursor, site: Site, letter: u8) -> Read<Action> {
     let (place, byte) = call_byte(cursor)?;
-    if byte == b'=' || byte == b',' {
+    let numbered: Option<fn(u8, u64) -> Action> = match (byte, site) {
+        (b'=', _) => Some(Action::SetCounter),
+        (b',', _) => Some(Action::SetIncrement),
+        (b':', Site::Replacement) => Some(Action::Divided),
+        _ => None,
+    };
+    if let Some(numbered) = numbered {
         let (number, place) = number(cursor, Number::default(), b')')?;
-        let value = number.within(COUNTER_END, place)?;
-        return Ok(match byte {
-            b'=' => Action::SetCounter(letter, value),
-            _ => Action::SetIncrement(letter, value),
-        });
+        return Ok(numbered(letter, number.within(COUNTER_END, place)?));
     }
     if site == Site::Command {
         return wrong(place);

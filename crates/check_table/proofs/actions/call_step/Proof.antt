@@ -2,7 +2,7 @@
 use mathlib.Core.Path.{_∙_, sym}
 use Rattle.check_table.specs.ActionCode.{spotOf, nextOf}
 use Rattle.check_table.proofs.ByteLaws.{bit-small}
-use Rattle.check_table.proofs.ActionLaws.{call-unmoved, call-below, call-above, call-insert, call-count, call-tag, call-text, call-pointer, call-counter, call-increment, call-not}
+use Rattle.check_table.proofs.ActionLaws.{call-unmoved, call-below, call-above, call-insert, call-count, call-tag, call-text, call-pointer, call-counter, call-increment, call-divide, call-not}
 use native.Mathlib.Omega.{arith}
 use borrow.Author.Needs.{needs}
 use Rattle.check_table.proofs.actions.call_step.Statement.{statement}
@@ -68,6 +68,9 @@ number-step-requires-2 c κs = search needs
 number-step-requires-3 : tie.Need-number-step-requires-3
 number-step-requires-3 c κs = search needs
 
+divide-step-requires : tie.Need-divide-step-requires
+divide-step-requires c κs = search needs
+
 returns-4 : tie.Need-returns-4
 returns-4 c = c .insert-step .ensures ∙ sym (call-insert _ _ _ _ _ _ (c .before .before .before .before .before .if1 .left) (c .before .before .before .before .if2 .left) (c .before .before .before .if3 .left) (c .before .before .bit .ensures) (c .before .match .keys1))
 
@@ -92,8 +95,11 @@ returns-10 : tie.Need-returns-10
 returns-10 c = c .number-step3 .ensures ∙ sym (call-increment _ _ _ _ _ _ (c .before .before .before .before .before .if1 .left) (c .before .before .before .before .if2 .left) (c .before .before .before .if3 .left) (c .before .before .bit .ensures) (c .before .match .keys7))
 
 returns-11 : tie.Need-returns-11
+returns-11 c = c .divide-step .ensures ∙ sym (call-divide _ _ _ _ _ _ (c .before .before .before .before .before .if1 .left) (c .before .before .before .before .if2 .left) (c .before .before .before .if3 .left) (c .before .before .bit .ensures) (c .before .match .keys8))
+
+returns-12 : tie.Need-returns-12
 unfolding nextOf
-returns-11 c = sym (call-not _ _ _ _ _ _ (c .before .before .before .before .if1 .left) (c .before .before .before .if2 .left) (c .before .before .if3 .left) (c .before .bit .ensures) (c .match .rest .0 .0 .0 .0 .0 .0 .1) (c .match .rest .0 .0 .0 .0 .0 .1) (c .match .rest .0 .0 .0 .0 .1) (c .match .rest .0 .0 .0 .1) (c .match .rest .0 .0 .1) (c .match .rest .0 .1) (c .match .rest .1))
+returns-12 c = sym (call-not _ _ _ _ _ _ (c .before .before .before .before .if1 .left) (c .before .before .before .if2 .left) (c .before .before .if3 .left) (c .before .bit .ensures) (c .match .rest .0 .0 .0 .0 .0 .0 .0 .1) (c .match .rest .0 .0 .0 .0 .0 .0 .1) (c .match .rest .0 .0 .0 .0 .0 .1) (c .match .rest .0 .0 .0 .0 .1) (c .match .rest .0 .0 .0 .1) (c .match .rest .0 .0 .1) (c .match .rest .0 .1) (c .match .rest .1))
 
 pub call-step-spec : {M : Type 1} → statement M
 call-step-spec =
@@ -118,6 +124,7 @@ call-step-spec =
     number-step-requires
     number-step-requires-2
     number-step-requires-3
+    divide-step-requires
     returns-4
     returns-5
     returns-6
@@ -125,4 +132,5 @@ call-step-spec =
     returns-8
     returns-9
     returns-10
-    returns-11)
+    returns-11
+    returns-12)

@@ -23,14 +23,14 @@ returns-2 : tie.Need-returns-2
 unfolding firstText pick
 returns-2 c = simp (le-ltb _ _ (c .before .before .if1 .left), lt-ltb _ _ (c .before .if2 .taken)) (c .name .ensures)
 
-set-sign-requires : tie.Need-set-sign-requires
-set-sign-requires c κs = tt
+number-sign-requires : tie.Need-number-sign-requires
+number-sign-requires c κs = tt
 
 returns-3 : tie.Need-returns-3
 unfolding shortText firstText pick
-returns-3 c = simp (le-ltb _ _ (c .before .before .if1 .left), le-ltb _ _ (c .before .if2 .left)) (ap (λ (x : ℕ). c .before .before .before .args .letter ∷ x ∷ []) (c .set-sign .ensures))
+returns-3 c = simp (le-ltb _ _ (c .before .before .if1 .left), le-ltb _ _ (c .before .if2 .left)) (ap (λ (x : ℕ). c .before .before .before .args .letter ∷ x ∷ []) (c .number-sign .ensures))
 
 pub first-spec : {M : Type 1} → statement M
 first-spec =
     tie.close
-    (tie.spec decimal-requires returns name-requires returns-2 set-sign-requires returns-3)
+    (tie.spec decimal-requires returns name-requires returns-2 number-sign-requires returns-3)
