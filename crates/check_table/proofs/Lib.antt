@@ -2,5 +2,4 @@ pub mod ByteLaws
 pub mod PatternLaws
 pub mod ActionLaws
 pub mod WalkLaws
-pub mod ZeroLaws
 pub mod SlotLaws

@@ -9,7 +9,8 @@ use borrow.Author.Tests.{eq-eqb, ne-eqb, le-leb, lt-leb}
 use lib.ListN.{length, getD, take, drop, length-drop}
 use lib.Seq.{take-all, getD-drop, drop-drop}
 use Rattle.macros.specs.Macro.{within}
-use Rattle.form_table.specs.Check.{itemsFit, allZero, twoAt, partsFit, slotFits, slotsFit, checks}
+use Rattle.form_bytes.specs.Zeros.{allZero}
+use Rattle.form_table.specs.Check.{itemsFit, twoAt, partsFit, slotFits, slotsFit, checks}
 
 -- what a part without an end has
 rest : (s : List ℕ) (m : ℕ) → take (length s - m) (drop m s) ≡ drop m s

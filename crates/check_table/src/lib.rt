@@ -1,4 +1,5 @@
 // 01, refusal 1: whether lent bytes are the form of an accepted table.
+use form_bytes::all_zero;
 use form_items::two_at;
 ghost use mathlib.Core.Path.{_≡_};
 ghost use Prim.Native.Nat.{_≤_};
@@ -8,7 +9,6 @@ ghost use Rattle.form_table.specs.Check.{itemsFit, slotFits, checks};
 mod actions;
 mod bytes;
 mod pattern;
-mod zero;
 
 // Pattern, replacement and commands behind a header of k tags.
 fn items_fit(k: u8, ps: &[u8], rs: &[u8], cs: &[u8]) -> bool
@@ -49,7 +49,7 @@ fn slot_fits(s: &[u8]) -> bool
     if 1024 < end {
         return false;
     }
-    if !zero::all_zero(&s[end..]) {
+    if !all_zero(&s[end..]) {
         return false;
     }
     items_fit(
@@ -71,7 +71,7 @@ pub fn is_table(table: &[u8]) -> bool
     while k < 96 {
         let at = 1024 * k;
         if table[at] == 0 {
-            return zero::all_zero(&table[at..]);
+            return all_zero(&table[at..]);
         }
         if !slot_fits(&table[at..at + 1024]) {
             return false;

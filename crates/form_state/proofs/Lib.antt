@@ -1,4 +1,5 @@
 pub mod Steps
+pub mod Blocks
 pub mod Replaced
 pub mod Each
 pub mod Parts

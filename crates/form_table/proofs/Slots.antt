@@ -13,7 +13,8 @@ use Rattle.macros.specs.Macro.Symbol.{equal, less}
 use Rattle.macros.specs.Formed.{Octets}
 use Rattle.macros.specs.Accepted.{Spellable}
 use Rattle.form_table.specs.Form.{slotBytes, bodyBytes, patternItems, replacementItems, callsItems, two, symbolCode, header, body, slot}
-use Rattle.form_table.specs.Check.{itemsFit, allZero, twoAt, partsFit, slotFits}
+use Rattle.form_bytes.specs.Zeros.{allZero}
+use Rattle.form_table.specs.Check.{itemsFit, twoAt, partsFit, slotFits}
 use Rattle.form_table.proofs.Basics.{and-left, and-right, within-low, within-high, octets-take, octets-drop, octet-at}
 use Rattle.form_table.proofs.Sizes.{body-length, bodySize}
 use Rattle.form_table.proofs.MacroItems.{MacroOf, items-sound, items-there}

@@ -16,7 +16,8 @@ use Rattle.macros.specs.Accepted.{Spellable, Each, Accepted}
 use Rattle.macros.proofs.Laws.{accepted-means, each-spellable}
 use Rattle.form_table.specs.Form.{slotBytes, bodyBytes, tableBytes, patternItems, replacementItems, two, symbolCode, header, body, slot, slots, form}
 use Rattle.form_table.specs.FormLaws.{Fits, FormSize}
-use Rattle.form_table.specs.Check.{allZero, slotFits, slotsFit, checks, CheckExact}
+use Rattle.form_bytes.specs.Zeros.{allZero}
+use Rattle.form_table.specs.Check.{slotFits, slotsFit, checks, CheckExact}
 use Rattle.form_table.proofs.Basics.{and-left, and-right, and-both, octets-append, octets-zeros, octets-take, octets-drop}
 use Rattle.form_table.proofs.Order.{few-tags, tags-reverse}
 use Rattle.form_table.proofs.Sizes.{body-length, bodySize}

@@ -2,11 +2,12 @@
 use Prim.Native.Nat.{ℕ, zero, suc, _+_, _*_}
 use mathlib.Core.Path.{_≡_}
 use mathlib.Core.Bool.{Bool, true, false, _&&_}
-use mathlib.Core.List.{List, [], _∷_}
+use mathlib.Core.List.{List}
 use mathlib.Core.Logic.{_↔_}
 use mathlib.Core.Option.{Option, none, some}
 use lib.Dec.{eqb, leb}
 use lib.ListN.{length, getD, take, drop}
+use Rattle.form_bytes.specs.Zeros.{allZero}
 use Rattle.macros.specs.Bounds.{mostMacros, mostMacroBytes}
 use Rattle.macros.specs.Macro.{Table, within}
 use Rattle.macros.specs.Formed.{Octets}
@@ -38,11 +39,6 @@ unfoldable pub itemsFit : (t : ℕ) → (ps rs cs : List ℕ) → Bool
 itemsFit t ps rs cs = afterPattern t rs cs (walk patternStep patternStart ps)
 
 -- A SLOT
-
--- unused bytes
-unfoldable pub allZero : List ℕ → Bool
-allZero [] = true
-allZero (b ∷ s) = eqb b 0 && allZero s
 
 -- the number in the two bytes at a place
 unfoldable pub twoAt : List ℕ → ℕ → ℕ

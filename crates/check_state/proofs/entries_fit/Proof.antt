@@ -2,38 +2,45 @@ use Prim.Native.Nat.{ℕ, _+_, _*_, _-_, _≤_}
 use mathlib.Core.Path.{_≡_, ap, _∙_}
 use mathlib.Core.Bool.{Bool, _&&_}
 use native.Mathlib.Omega.{arith}
-use lib.ListN.{take, drop}
+use lib.ListN.{take, drop, length-drop}
+use lib.Seq.{length-take-le}
 use Rattle.form_state.specs.Check.{entryCheck, blocksCheck}
 use Rattle.form_state.proofs.Steps.{blocks-start, blocks-step, blocks-end}
+use Rattle.form_state.proofs.Blocks.{blocks-of}
 use Rattle.check_state.proofs.entries_fit.Statement.{statement}
 use Rattle.check_state.proofs.entries_fit.Tie as tie
 
 abbrev Inv-loop : tie.InvT-loop
-Inv-loop entries ok₀ i₀ ok i = (i ≤ 520) × (ok && blocksCheck entryCheck 50 (520 - i) (drop (50 * i) entries) ≡ blocksCheck entryCheck 50 520 entries)
+Inv-loop entries ok₀ i₀ ok i = (i ≤ 26) × (ok && blocksCheck (blocksCheck entryCheck 50 20) 1000 (26 - i) (drop (1000 * i) entries) ≡ blocksCheck (blocksCheck entryCheck 50 20) 1000 26 entries)
 
 abbrev μ-loop : tie.MeasureT-loop
-μ-loop entries ok₀ i₀ ok i = 520 - i
+μ-loop entries ok₀ i₀ ok i = 26 - i
 
 loop-holds : tie.Need-loop-holds Inv-loop μ-loop
-loop-holds c = (omega arith, blocks-start entryCheck 50 520 (c .before .args .entries .now))
+loop-holds c = (omega arith, blocks-start (blocksCheck entryCheck 50 20) 1000 26 (c .before .args .entries .now))
 
 mul-at : tie.Need-mul-at Inv-loop μ-loop
 mul-at c = omega arith
 
-add-entry-fits : tie.Need-add-entry-fits Inv-loop μ-loop
-add-entry-fits c = omega arith
+add-stack-fits : tie.Need-add-stack-fits Inv-loop μ-loop
+add-stack-fits c = omega arith
 
-sub-entry-fits : tie.Need-sub-entry-fits Inv-loop μ-loop
-sub-entry-fits c = omega arith
+sub-stack-fits : tie.Need-sub-stack-fits Inv-loop μ-loop
+sub-stack-fits c = omega arith
 
-part-entry-fits-start : tie.Need-part-entry-fits-start Inv-loop μ-loop
-part-entry-fits-start c = omega arith
+part-stack-fits-start : tie.Need-part-stack-fits-start Inv-loop μ-loop
+part-stack-fits-start c = omega arith
 
-part-entry-fits-end : tie.Need-part-entry-fits-end Inv-loop μ-loop
-part-entry-fits-end c = omega arith
+part-stack-fits-end : tie.Need-part-stack-fits-end Inv-loop μ-loop
+part-stack-fits-end c = omega arith
 
-entry-fits-requires : tie.Need-entry-fits-requires Inv-loop μ-loop
-entry-fits-requires c κs = tt
+stack-fits-requires : tie.Need-stack-fits-requires Inv-loop μ-loop
+stack-fits-requires c κs =
+    let at = c .before .before in
+    let l = at .before .before .args .entries .now in
+    let i = at .loop .i in
+    let whole : 1000 * i + 1000 - 1000 * i ≡ 1000 = omega arith in
+    rw whole (length-take-le 1000 (drop (1000 * i) l) (omega (arith, length-drop (1000 * i) l)))
 
 add-i : tie.Need-add-i Inv-loop μ-loop
 add-i c = omega arith
@@ -46,15 +53,18 @@ loop-again c =
     let at = c .before .before .before in
     let l = at .before .before .args .entries .now in
     let i = at .loop .i in
-    let whole : 50 * i + 50 - 50 * i ≡ 50 = omega arith in (
+    let whole : 1000 * i + 1000 - 1000 * i ≡ 1000 = omega arith in (
       omega arith,
-      ap (λ (t : Bool). (at .loop .ok && t) && blocksCheck entryCheck 50 (520 - (i + 1)) (drop (50 * (i + 1)) l))
-          (c .entry-fits .ensures ∙ ap (λ (k : ℕ). entryCheck (take k (drop (50 * i) l))) whole)
-          ∙ blocks-step entryCheck 50 520 l i (at .loop .ok) _ (omega arith) (at .loop .inv .1),
+      ap (λ (t : Bool). (at .loop .ok && t) && blocksCheck (blocksCheck entryCheck 50 20) 1000 (26 - (i + 1)) (drop (1000 * (i + 1)) l))
+          (c .stack-fits .ensures ∙ ap (λ (k : ℕ). blocksCheck entryCheck 50 20 (take k (drop (1000 * i) l))) whole)
+          ∙ blocks-step (blocksCheck entryCheck 50 20) 1000 26 l i (at .loop .ok) _ (omega arith) (at .loop .inv .1),
     )
 
 returns : tie.Need-returns Inv-loop μ-loop
-returns c = let at = c .before in blocks-end entryCheck 50 520 (at .before .before .args .entries .now) (at .loop .i) (at .loop .ok) (omega arith) (at .loop .inv .1)
+returns c =
+    let at = c .before in
+    let l = at .before .before .args .entries .now in
+    blocks-end (blocksCheck entryCheck 50 20) 1000 26 l (at .loop .i) (at .loop .ok) (omega arith) (at .loop .inv .1) ∙ blocks-of entryCheck 50 20 26 l
 
 pub entries-fit-spec : {M : Type 1} → statement M
 entries-fit-spec =
@@ -64,11 +74,11 @@ entries-fit-spec =
     μ-loop
     loop-holds
     mul-at
-    add-entry-fits
-    sub-entry-fits
-    part-entry-fits-start
-    part-entry-fits-end
-    entry-fits-requires
+    add-stack-fits
+    sub-stack-fits
+    part-stack-fits-start
+    part-stack-fits-end
+    stack-fits-requires
     add-i
     loop-less
     loop-again

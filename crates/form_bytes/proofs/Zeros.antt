@@ -11,7 +11,7 @@ use lib.Bits.{bitOr, or-add-and, and-le-l, and-le-r}
 use lib.Dec.{eqb}
 use lib.ListN.{length, take, getD}
 use lib.Seq.{take-suc}
-use Rattle.form_table.specs.Check.{allZero}
+use Rattle.form_bytes.specs.Zeros.{allZero}
 
 -- two numbers are zero exactly if their union is
 both : (a b : ℕ) → Dec (a ≡ 0) → Dec (b ≡ 0) → eqb (bitOr a b) 0 ≡ eqb a 0 && eqb b 0

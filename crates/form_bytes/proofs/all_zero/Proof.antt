@@ -1,15 +1,15 @@
--- `check_table::zero::all_zero` meets its contract. Assumes nothing.
+-- `form_bytes::all_zero` meets its contract. Assumes nothing.
 use Prim.Native.Nat.{_-_, _≤_}
 use mathlib.Core.Path.{_≡_, refl, ap, _∙_}
 use lib.Dec.{eqb}
 use lib.ListN.{length, take}
 use lib.Seq.{take-all}
-use Rattle.form_table.specs.Check.{allZero}
-use Rattle.check_table.proofs.ZeroLaws.{zero-next}
+use Rattle.form_bytes.specs.Zeros.{allZero}
+use Rattle.form_bytes.proofs.Zeros.{zero-next}
 use borrow.Author.Needs.{needs}
 use native.Mathlib.Omega.{arith}
-use Rattle.check_table.proofs.zero.all_zero.Statement.{statement}
-use Rattle.check_table.proofs.zero.all_zero.Tie as tie
+use Rattle.form_bytes.proofs.all_zero.Statement.{statement}
+use Rattle.form_bytes.proofs.all_zero.Tie as tie
 
 abbrev Inv-loop : tie.InvT-loop
 Inv-loop s all₀ i₀ all i = (i ≤ length s) × (eqb all 0 ≡ allZero (take i s))
