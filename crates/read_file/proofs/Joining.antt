@@ -13,7 +13,7 @@ use Rattle.macros.specs.Refusals.FileRefusal.{macroTooLong}
 use Rattle.macros.specs.Macro.{Macro, Action, Call, pick, tags}
 use Rattle.macros.specs.Read.{Front, Reader, readFrom, step, skips, partByte, taken, count, commandsByte, commandsFresh}
 use Rattle.macros.specs.ReadSoFar.Joinable.{nothing}
-use Rattle.macros.specs.ReadSoFar.Part.{pattern, awaitSymbol, awaitQuote, replacement, commands}
+use Rattle.macros.specs.ReadSoFar.Part.{pattern, awaitSymbol, replacement, commands}
 use Rattle.macros.specs.ReadSoFar.Step.{done}
 use Rattle.macros.specs.ReadFile.Reader.{between, inside}
 use Rattle.macros.specs.ReadFile.Next.{go, refuse}
@@ -23,7 +23,7 @@ use Rattle.form_table.proofs.Order.{tags-reverse}
 use Rattle.read_scan.specs.Scan.{MacroRead, readMacro, after, faultOf, run, Here}
 use Rattle.form_items.specs.Items.{Wrote}
 use Rattle.read_pattern.specs.Pattern.{Begins, Patterned}
-use Rattle.read_file.specs.Action.{SymbolAt, QuoteAt, FrontAt, ReplacedFrom, Replaced, CommandsFrom, symbolOf}
+use Rattle.read_action.specs.Action.{FrontAt, ReplacedFrom, Replaced, CommandsFrom, symbolOf}
 use Rattle.read_file.specs.File.{ended, macroAt, MacroFrom, ReadsMacro, PartsFrom, Parted, wholeOf, noPattern, noNext, noEnd}
 use Rattle.read_scan.specs.declared.FileFault.{FileFault}
 use Rattle.read_scan.specs.declared.FileFault.the-variants.{MacroTooLong}
@@ -31,12 +31,12 @@ use Rattle.read_scan.specs.declared.Next.{Next}
 use Rattle.read_scan.specs.declared.Next.the-variants.{Byte, Refused as NoByte}
 use Rattle.read_pattern.specs.declared.Whole.{Whole}
 use Rattle.read_pattern.specs.declared.Whole.the-variants.{Pattern, Refused as NoWhole}
-use Rattle.read_file.specs.declared.Ended.{Ended}
-use Rattle.read_file.specs.declared.Ended.the-variants.{Upto, Refused as NoEnd}
+use Rattle.read_call.specs.declared.Ended.{Ended}
+use Rattle.read_call.specs.declared.Ended.the-variants.{Upto, Refused as NoEnd}
 use Rattle.read_file.specs.declared.Head.{Head}
 use Rattle.read_file.specs.declared.Built.{Built}
 use Rattle.read_file.specs.declared.Built.the-variants.{Made, Refused as NoMacro}
-use Rattle.read_scan.proofs.Laws.{out-of, macro-refuse, run-here, reached-behind}
+use Rattle.read_scan.proofs.Laws.{out-of, macro-refuse, run-here}
 use Rattle.form_items.proofs.Writing.{wrote-behind, wrote-all}
 use Rattle.read_pattern.proofs.Insides.{macro-begins}
 
@@ -69,27 +69,6 @@ module _ {s : List ℕ} {a q : ℕ} (x : Here s a q 59) (f : Front) (l : List Ac
   -- the `;` is its 513th byte
   pub done-late : 512 ≤ q - a → run s a ms false q (commands none f l cs) ≡ refusedAt macroTooLong q
   done-late h = first ∙ macro-refuse ms q (q - a) false (commands none f l cs) 59 _ macroTooLong (done-step (q - a) f l cs ms ∙ count-late (q - a) _ h)
-
--- THE SYMBOL AND THE QUOTE
-
-module _ (s : List ℕ) (a p : ℕ) {n : Next} (y : SymbolAt s a p n) where
-  pub front-none : {f : FileFault} {q : ℕ} → n ≡ NoByte f q → FrontAt s a p n
-  front-none {f} {q} i = let z : SymbolAt s a p (NoByte f q) = rw i at y in rw i z
-
-  module _ {b u : ℕ} (k : n ≡ Byte b u) where
-    pub its-symbol : SymbolAt s a p (Byte b u)
-    its-symbol = rw k at y
-
-    module _ {n₂ : Next} (z : QuoteAt s a (u + 1) n₂) where
-      pub front-open : {f : FileFault} {q : ℕ} → n₂ ≡ NoByte f q → FrontAt s a p n₂
-      front-open {f} {q} i =
-          let g : QuoteAt s a (u + 1) (NoByte f q) = rw i at z in
-          rw i (g .0, λ ps ms. its-symbol .2 ps ms ∙ g .1 (record { pieces = ps; symbol = symbolOf b }) ms)
-
-      pub front-made : {c v : ℕ} → n₂ ≡ Byte c v → FrontAt s a p (Byte b v)
-      front-made {c} {v} i =
-          let g : QuoteAt s a (u + 1) (Byte c v) = rw i at z in
-          (omega (arith, g .0, its-symbol .0), reached-behind (g .1 .stands), λ ps ms. its-symbol .2 ps ms ∙ g .2 (record { pieces = ps; symbol = symbolOf b }) ms)
 
 -- REPLACEMENT AND COMMANDS
 

@@ -1,11 +1,3 @@
-pub mod Phases
-pub mod Naming
-pub mod Ending
-pub mod Texts
-pub mod Marks
-pub mod Waiting
-pub mod Replacing
-pub mod Commanding
 pub mod Joining
 pub mod Seeking
 pub mod Storing

@@ -19,14 +19,14 @@ use Rattle.form_table.specs.Form.{slotBytes, bodyBytes, two, symbolCode, replac
 use Rattle.read_scan.specs.Scan.{MacroRead, faultOf, run}
 use Rattle.read_scan.specs.Scan.MacroRead.{refusedAt as noneAt, patternTo, macroTo}
 use Rattle.form_items.specs.Items.{Wrote}
-use Rattle.read_file.specs.Action.{symbolOf}
+use Rattle.read_action.specs.Action.{symbolOf}
 use Rattle.read_scan.specs.declared.FileFault.the-variants.{Incomplete}
 use Rattle.read_scan.specs.declared.Next.{Next}
 use Rattle.read_scan.specs.declared.Next.the-variants.{Byte, Refused as NoByte}
 use Rattle.read_pattern.specs.declared.Whole.{Whole}
 use Rattle.read_pattern.specs.declared.Whole.the-variants.{Pattern, Refused as NoWhole}
-use Rattle.read_file.specs.declared.Ended.{Ended}
-use Rattle.read_file.specs.declared.Ended.the-variants.{Upto, Refused as NoEnd}
+use Rattle.read_call.specs.declared.Ended.{Ended}
+use Rattle.read_call.specs.declared.Ended.the-variants.{Upto, Refused as NoEnd}
 use Rattle.read_file.specs.declared.Head.{Head}
 use Rattle.read_file.specs.declared.Built.{Built}
 use Rattle.read_file.specs.declared.Built.the-variants.{Made, Refused as NoMacro}

@@ -1,18 +1,18 @@
 // One macro from its first quote to its `;`, and a file of them.
 use crate::Added;
 use crate::Built;
-use crate::Ended;
 use crate::Head;
 use crate::MOST_FILE_BYTES;
 use crate::MOST_MACROS;
 use crate::Reading;
 use crate::SLOT_BYTES;
 use crate::Seek;
-use crate::actions::commands;
-use crate::actions::find_replacement;
-use crate::actions::replacement;
 use crate::slots::store;
 use form_items::clear;
+use read_action::actions::commands;
+use read_action::actions::find_replacement;
+use read_action::actions::replacement;
+use read_call::Ended;
 use read_pattern::Whole;
 use read_pattern::pattern::whole;
 use read_scan::FileFault;
@@ -24,7 +24,7 @@ ghost use lib.ListN.{length, getD};
 ghost use Rattle.macros.specs.Bounds.{mostMacros, mostTags};
 ghost use Rattle.form_table.specs.Form.{slotBytes, tableBytes, symbolCode};
 ghost use Rattle.read_scan.specs.Scan.{Reached};
-ghost use Rattle.read_file.specs.Action.{symbolOf};
+ghost use Rattle.read_action.specs.Action.{symbolOf};
 ghost use Rattle.read_file.specs.File.{MacroFrom, ReadsMacro, PartsFrom, noPattern, noNext, noEnd, opens, turned, Seeks, ZeroAt, AddsFrom, noQuote, noMacro, macrosBy, tableOf, Lent, Onto};
 
 // The code of the symbol `=` or `<` in a slot.

@@ -1,6 +1,4 @@
 // Reads macro files. What each answer says of the machine of the definitions stands in specs/.
-mod actions;
-mod calls;
 pub mod file;
 mod slots;
 
@@ -13,37 +11,6 @@ pub(crate) const MOST_FILE_BYTES: usize = 32768;
 pub(crate) const MOST_MACROS: usize = 96;
 
 pub(crate) const SLOT_BYTES: usize = 1024;
-
-// The entries of a stack, the bytes of an entry, and the largest counter.
-pub(crate) const MOST_ENTRIES: u64 = 20;
-
-pub(crate) const MOST_ENTRY_BYTES: usize = 50;
-
-pub(crate) const MOST_COUNTER: u64 = 999_999_999;
-
-// CALLS, REPLACEMENT AND COMMANDS
-
-// A letter, its move's code, and the byte behind them with its place; or a refusal with its place.
-pub(crate) enum Name {
-    Got(u8, u8, u8, usize),
-    Refused(FileFault, usize),
-}
-
-// What the byte behind a call's letter asks for: a text; a number of at most so much, for the item of this code; the item of this code; nothing.
-pub(crate) enum Tail {
-    Text,
-    Set(u8, u64),
-    Insert(u8),
-    Wrong,
-}
-
-// The place behind what was read, and the end of the items written; or a refusal with its place.
-pub(crate) enum Ended {
-    Upto(usize, usize),
-    Refused(FileFault, usize),
-}
-
-// A MACRO AND A FILE
 
 // What a slot's first bytes say: the symbol's code, the tags, and the bytes of the three parts.
 pub struct Head {

@@ -2,7 +2,7 @@ use mathlib.Core.Path.{refl}
 use borrow.Author.Tests.{ne-eqb}
 use Rattle.macros.specs.Macro.{pick}
 use Rattle.form_table.specs.Form.{symbolCode}
-use Rattle.read_file.specs.Action.{symbolOf}
+use Rattle.read_action.specs.Action.{symbolOf}
 use Rattle.read_file.proofs.file.symbol_code.Statement.{statement}
 use Rattle.read_file.proofs.file.symbol_code.Tie as tie
 

@@ -1,0 +1,3 @@
+pub mod Waiting
+pub mod Replacing
+pub mod Commanding

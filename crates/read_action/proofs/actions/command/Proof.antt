@@ -1,0 +1,55 @@
+use Rattle.read_action.proofs.Replacing.{here-mark, no-mark}
+use Rattle.read_action.proofs.Commanding.{command-39, command-text}
+use denote.Ref.{now}
+use borrow.Author.Needs.{needs}
+use Rattle.read_action.proofs.actions.command.Statement.{statement}
+use Rattle.read_action.proofs.actions.command.Tie as tie
+
+returns : tie.Need-returns
+returns c =
+    let args = c .before .before .before .args in
+    let pre = c .before .before .before .pre in
+    let if1 = c .if1 in
+    command-39 (now (args .out)) (args .n) (args .tags) (pre .0) (if1 .taken)
+
+is-mark-requires : tie.Need-is-mark-requires
+is-mark-requires c κs = tt
+
+marked-command-requires : tie.Need-marked-command-requires
+marked-command-requires c κs =
+    let is-mark = c .before .before .is-mark in
+    let if2 = c .before .if2 in
+    let pre = c .before .before .before .before .before .before .pre in
+    (here-mark (is-mark .ensures) (if2 .taken) (pre .0), pre .2, pre .3)
+
+same-length : tie.Need-same-length
+same-length c = search needs
+
+returns-2 : tie.Need-returns-2
+returns-2 c =
+    let marked-command = c .before .before .marked-command in
+    marked-command .ensures
+
+add-t14 : tie.Need-add-t14
+add-t14 c = search needs
+
+returns-3 : tie.Need-returns-3
+returns-3 c =
+    let is-mark = c .before .is-mark in
+    let if2 = c .if2 in
+    let args = c .before .before .before .before .before .args in
+    let pre = c .before .before .before .before .before .pre in
+    let if1 = c .before .before .if1 in
+    let m = no-mark (is-mark .ensures) (if2 .left) in command-text (now (args .out)) (args .n) (args .tags) (pre .0) (pre .1) (if1 .left) (m .0) (m .1)
+
+pub command-spec : {M : Type 1} → statement M
+command-spec =
+    tie.close
+    (tie.spec
+    returns
+    is-mark-requires
+    marked-command-requires
+    same-length
+    returns-2
+    add-t14
+    returns-3)

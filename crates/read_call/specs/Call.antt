@@ -1,0 +1,247 @@
+-- Calls: what reading one says of the machine, at every place where it may stand.
+use Prim.Native.Nat.{ℕ, _+_, _-_, _*_, _%_, _≤_, _<_}
+use mathlib.Core.Path.{_≡_}
+use mathlib.Core.Bool.{Bool, true, false, not, _&&_}
+use mathlib.Core.List.{List, [], _∷_, reverse}
+use mathlib.Core.Option.{Option, none, some}
+use mathlib.Core.Logic.{_⊎_}
+use lib.Dec.{eqb}
+use lib.ListN.{length, replicate}
+use Rattle.macros.specs.Macro.{Macro, Mark, Sign, Move, Call, pick, within, asciiLower, digit, tags}
+use Rattle.macros.specs.Macro.Mark.{stack, counter}
+use Rattle.macros.specs.Macro.Move.{still, before, after}
+use Rattle.macros.specs.Macro.Call.{insert}
+use Rattle.macros.specs.Formed.{numberFits}
+use Rattle.macros.specs.Read.{Part, CallSite, Phase, Turn, callByte, isCommand}
+use Rattle.macros.specs.Read.{frontOf, behindCall, isSign, signOf, isStill, numberEnd as closing}
+use Rattle.macros.specs.ReadSoFar.Part.{calling, callText}
+use Rattle.macros.specs.ReadSoFar.Phase.{begun, named, tagged, tagNamed, texted}
+use Rattle.macros.specs.ReadCalls.Turn.{into, textOf, closed, wrong}
+use Rattle.read_scan.specs.Scan.MacroRead.{refusedAt}
+use Rattle.form_bytes.specs.Fours.{four}
+use Rattle.form_table.specs.Form.{callItems, moveCode}
+use Rattle.read_scan.specs.Scan.{faultOf, run, Reached, Here}
+use Rattle.read_number.specs.Number.{Eats, most}
+use Rattle.form_items.specs.Items.{Wrote}
+use Rattle.read_scan.specs.declared.FileFault.{FileFault}
+use Rattle.read_scan.specs.declared.FileFault.the-variants.{Incomplete}
+use Rattle.read_scan.specs.declared.Next.{Next}
+use Rattle.read_scan.specs.declared.Next.the-variants.{Byte, Refused as NoByte}
+use Rattle.read_number.specs.declared.Number.{Number}
+use Rattle.read_number.specs.declared.Number.the-variants.{Got, Refused as NoNumber}
+use Rattle.read_call.specs.declared.Name.{Name}
+use Rattle.read_call.specs.declared.Name.the-variants.{Got as GotName, Refused as NoName}
+use Rattle.read_call.specs.declared.Tail.{Tail}
+use Rattle.read_call.specs.declared.Tail.the-variants.{Text, Set, Insert, Wrong}
+use Rattle.read_call.specs.declared.Ended.{Ended}
+use Rattle.read_call.specs.declared.Ended.the-variants.{Upto, Refused as NoEnd}
+
+-- `#` if true, else `&`
+abbrev pub markOf : Bool → Mark
+markOf true = counter
+markOf false = stack
+
+-- LETTERS AND THEIR SIGNS
+
+-- a sign's part of its move's code
+unfoldable pub signCode : ℕ → ℕ
+signCode b = pick (eqb b 43) 1 2
+
+-- phases that take a letter with at most one sign, where sg says whether one may stand: at the first byte b; behind a sign; behind a letter
+pub record Names (cmd sg : Bool) (b : ℕ) (start : Phase) (sgn : Sign → Phase) (nam : ℕ → Move → Phase) : Type 0 where
+  pub first : callByte cmd start b ≡ pick (isSign b && sg) (into (sgn (signOf b))) (pick (asciiLower b) (into (nam b still)) wrong)
+  pub second : (x : Sign) (c : ℕ) → callByte cmd (sgn x) c ≡ pick (asciiLower c) (into (nam c (before x))) wrong
+  pub third : (i c : ℕ) → (isSign c && sg) ≡ true → callByte cmd (nam i still) c ≡ into (nam i (after (signOf c)))
+
+-- the letter i with a move of the code m, read from b at p on, and the byte c behind them at q
+pub record Letter (s : List ℕ) (a p b : ℕ) (sg : Bool) (i m c q : ℕ) : Type 0 where
+  pub move : Move
+  pub code : m ≡ moveCode move
+  pub here : Here s a q c
+  pub solid : c ≡ 32 → ⊥
+  pub further : p < q
+  -- no sign that could still join
+  pub last : isStill move ≡ true → (isSign c && sg) ≡ false
+  pub answer : (pl : CallSite) (start : Phase) (sgn : Sign → Phase) (nam : ℕ → Move → Phase) → Names (isCommand pl) sg b start sgn nam
+      → (ms : List Macro)
+      → run s a ms false p (calling pl start) ≡ run s a ms false q (calling pl (nam i move))
+
+-- what reading a letter says
+abbrev pub Naming : List ℕ → ℕ → ℕ → ℕ → Bool → Name → Type 0
+Naming s a p b sg (GotName i m c q) = Letter s a p b sg i m c q
+Naming s a p b sg (NoName f q) =
+    (q ≤ length s) × ((pl : CallSite) (start : Phase) (sgn : Sign → Phase) (nam : ℕ → Move → Phase)
+    → Names (isCommand pl) sg b start sgn nam → (ms : List Macro) → run s a ms false p (calling pl start) ≡ refusedAt (faultOf f) q)
+
+-- whether a letter may have a sign: not as a command of a counter
+abbrev pub signsIn : Bool → Bool → Bool
+signsIn true cmd = not cmd
+signsIn false cmd = true
+
+-- the letter i with a move of the code m behind a tag's number and its comma, read from the comma at p on, and the byte d behind them at q
+pub record TagLetter (s : List ℕ) (a p i m d q : ℕ) : Type 0 where
+  pub move : Move
+  pub code : m ≡ moveCode move
+  pub here : Here s a q d
+  pub solid : d ≡ 32 → ⊥
+  pub further : p + 1 < q
+  pub last : isStill move ≡ true → (isSign d && true) ≡ false
+  pub answer : (w : ℕ) (pl : CallSite) (ms : List Macro)
+      → run s a ms false p (calling pl (tagged w)) ≡ run s a ms false q (calling pl (tagNamed w i move))
+
+-- what reading them says
+abbrev pub TagNaming : List ℕ → ℕ → ℕ → Name → Type 0
+TagNaming s a p (GotName i m d q) = TagLetter s a p i m d q
+TagNaming s a p (NoName f q) =
+    (q ≤ length s) × ((w : ℕ) (pl : CallSite) (ms : List Macro) → run s a ms false p (calling pl (tagged w)) ≡ refusedAt (faultOf f) q)
+
+-- THE ENDS OF CALLS
+
+-- the machine comes from p in the state F to q in the state G, at every place of a replacement or, if cmd, of a command,
+-- behind a pattern of k tags
+abbrev pub Comes : List ℕ → ℕ → Bool → ℕ → (CallSite → Part) → ℕ → (CallSite → Part) → ℕ → Type 0
+Comes s a cmd k F p G q =
+    (pl : CallSite) → isCommand pl ≡ cmd → tags (frontOf pl .pieces) ≡ k → (ms : List Macro)
+    → run s a ms false p (F pl) ≡ run s a ms false q (G pl)
+
+-- the call read from p up to q, from the state F on, and its items written from n up to e; x bytes of room come from what was read before p
+pub record Called (s : List ℕ) (a p : ℕ) (old out : List ℕ) (n x : ℕ) (cmd : Bool) (k : ℕ) (F : CallSite → Part) (q e : ℕ) : Type 0 where
+  pub call : Call
+  pub wrote : Wrote old out n (callItems call)
+  pub used : e ≡ n + length (callItems call)
+  pub room : e ≤ n + x + 2 * (q - p)
+  pub further : p < q
+  pub reached : Reached s a q
+  pub answer : Comes s a cmd k F p (λ pl. behindCall pl call) q
+
+-- what reading to the end of a call says
+abbrev pub Ends : List ℕ → ℕ → ℕ → List ℕ → List ℕ → ℕ → ℕ → Bool → ℕ → (CallSite → Part) → Ended → Type 0
+Ends s a p old out n x cmd k F (Upto q e) = Called s a p old out n x cmd k F q e
+Ends s a p old out n x cmd k F (NoEnd f q) =
+    (q ≤ length s) × ((pl : CallSite) → isCommand pl ≡ cmd → tags (frontOf pl .pieces) ≡ k → (ms : List Macro)
+    → run s a ms false p (F pl) ≡ refusedAt (faultOf f) q)
+
+-- a whole call, in a pattern of k tags
+abbrev pub CalledFrom : List ℕ → ℕ → ℕ → List ℕ → List ℕ → ℕ → Mark → Bool → ℕ → Ended → Type 0
+CalledFrom s a p old out n m cmd k r = Ends s a p old out n 0 cmd k (λ pl. calling pl (begun m)) r
+
+-- the lent bytes behind an answer: a refusal leaves zeros
+abbrev pub leftBy : List ℕ → Ended → List ℕ
+leftBy out (Upto q e) = out
+leftBy out (NoEnd f q) = replicate (length out) 0
+
+-- that a refusal leaves zeros
+abbrev pub Zeroed : List ℕ → List ℕ → Ended → Type 0
+Zeroed old out (Upto q e) = Unit {0}
+Zeroed old out (NoEnd f q) = out ≡ replicate (length old) 0
+
+-- what reading a whole call says of the answer and of all lent bytes
+pub record CallRead (s : List ℕ) (a p : ℕ) (old out : List ℕ) (n : ℕ) (m : Mark) (cmd : Bool) (k : ℕ) (r : Ended) : Type 0 where
+  pub from : CalledFrom s a p old out n m cmd k r
+  pub zeros : Zeroed old out r
+
+-- one that begins with a letter knows no tags
+abbrev pub NamedFrom : List ℕ → ℕ → ℕ → List ℕ → List ℕ → ℕ → Mark → Bool → Ended → Type 0
+NamedFrom s a p old out n m cmd r = (k : ℕ) → CalledFrom s a p old out n m cmd k r
+
+-- that a byte is none that the number of a stack's tag could begin with
+abbrev pub Starts : Bool → ℕ → Type 0
+Starts c b = c ≡ false → digit b ≡ false
+
+-- phases that take a number of at most top and a `)`: their calls
+pub record Sets (code i top : ℕ) (ph : Option ℕ → Phase) (c : ℕ → Call) : Type 0 where
+  pub eats : (pl : CallSite) → Eats true (λ o. calling pl (ph o))
+  pub others : (cmd : Bool) (o : Option ℕ) (b : ℕ) → digit b ≡ false → (b ≡ 41 → ⊥) → callByte cmd (ph o) b ≡ wrong
+  pub closes : (cmd : Bool) (o : Option ℕ) → callByte cmd (ph o) 41 ≡ closing c o
+  pub fits : (k v : ℕ) → numberFits k (c v) ≡ within 1 top v
+  pub items : (v : ℕ) → callItems (c v) ≡ code ∷ i ∷ four v
+
+abbrev pub SetFrom : List ℕ → ℕ → ℕ → List ℕ → List ℕ → ℕ → ℕ → ℕ → ℕ → Ended → Type 0
+SetFrom s a p old out n code i top r =
+    (ph : Option ℕ → Phase) (c : ℕ → Call) → Sets code i top ph c → (cmd : Bool) (k : ℕ)
+    → Ends s a p old out n 4 cmd k (λ pl. calling pl (ph none)) r
+
+-- what the byte c behind a letter with a move of the code m asks for, where sg says whether a sign may stand
+abbrev pub Asks : Mark → Bool → Bool → ℕ → ℕ → Tail → Type 0
+Asks mk cmd sg c m Text = (i : ℕ) (v : Move) → m ≡ moveCode v → callByte cmd (named mk i v) c ≡ textOf i v
+Asks mk cmd sg c m (Set code top) =
+    (top ≤ 999999999) × ((i : ℕ) (v : Move) → m ≡ moveCode v → (ph : Option ℕ → Phase) × (d : ℕ → Call) × Sets code i top ph d
+    × (callByte cmd (named mk i v) c ≡ into (ph none)))
+Asks mk cmd sg c m (Insert code) =
+    (i : ℕ) (v : Move) → m ≡ moveCode v → (callByte cmd (named mk i v) c ≡ closed (insert mk i v))
+    × (callItems (insert mk i v) ≡ code ∷ i ∷ [])
+Asks mk cmd sg c m Wrong =
+    (i : ℕ) (v : Move) → m ≡ moveCode v → (isStill v ≡ true → (isSign c && sg) ≡ false) → callByte cmd (named mk i v) c ≡ wrong
+
+-- that a number, which has a digit if m, is not closed by z, or is none from 1 to top
+abbrev pub Unclosed : ℕ → ℕ → Bool → ℕ → ℕ → Bool → Type 0
+Unclosed b z m v top true = (b ≡ z → ⊥) ⊎ ((b ≡ z) × ((m ≡ false) ⊎ ((m ≡ true) × ((v < 1) ⊎ (top < v)))))
+Unclosed b z m v top false = (b ≡ z) × (m ≡ true) × (1 ≤ v) × (v ≤ top)
+
+-- behind a tag's number w, of which v is kept
+abbrev pub TagFrom : List ℕ → ℕ → ℕ → List ℕ → List ℕ → ℕ → ℕ → ℕ → Ended → Type 0
+TagFrom s a p old out n v k r = (w : ℕ) → v ≡ most w → (cmd : Bool) → Ends s a p old out n 0 cmd k (λ pl. calling pl (tagged w)) r
+
+-- TEXT
+
+-- what a byte of a text of k bytes says, spelled from p up to q
+abbrev pub Texting : List ℕ → ℕ → ℕ → ℕ → Next → Type 0
+Texting s a p k (Byte b q) =
+    (p ≤ q) × (q < length s) × (q ≤ a + 512) × (k < 50)
+    × ((pl : CallSite) (i : ℕ) (v : Move) (t : List ℕ) → length t ≡ k → (ms : List Macro)
+    → run s a ms false p (callText pl i v t) ≡ run s a ms false (q + 1) (callText pl i v (b ∷ t)))
+Texting s a p k (NoByte f q) =
+    (q ≤ length s) × ((pl : CallSite) (i : ℕ) (v : Move) (t : List ℕ) → length t ≡ k → (ms : List Macro)
+    → run s a ms false p (callText pl i v t) ≡ refusedAt (faultOf f) q)
+
+-- the text t, newest byte first, read from p up to q and written from n up to e
+pub record TextRead (s : List ℕ) (a p : ℕ) (old out : List ℕ) (n q e : ℕ) : Type 0 where
+  pub text : List ℕ
+  pub wrote : Wrote old out n (reverse text)
+  pub used : e ≡ n + length text
+  pub short : length text ≤ 50
+  pub room : length text < q - p
+  pub reached : Reached s a q
+  pub answer : (pl : CallSite) (i : ℕ) (v : Move) (ms : List Macro)
+      → run s a ms false p (callText pl i v []) ≡ run s a ms false q (calling pl (texted i v text))
+
+abbrev pub TextFrom : List ℕ → ℕ → ℕ → List ℕ → List ℕ → ℕ → Ended → Type 0
+TextFrom s a p old out n (Upto q e) = TextRead s a p old out n q e
+TextFrom s a p old out n (NoEnd f q) =
+    (q ≤ length s) × ((pl : CallSite) (i : ℕ) (v : Move) (ms : List Macro)
+    → run s a ms false p (callText pl i v []) ≡ refusedAt (faultOf f) q)
+
+-- behind a text of k bytes
+unfoldable pub padding : ℕ → List ℕ
+padding k = pick (eqb (k % 2) 0) [] (0 ∷ [])
+
+-- around a text from n + 4 up to e: first its padding, then its length, then the item of the letter i with a move of the code m
+abbrev pub PutStore : List ℕ → List ℕ → ℕ → ℕ → ℕ → ℕ → ℕ → Type 0
+PutStore old out n e i m r =
+    (r ≡ e + length (padding (e - (n + 4)))) × (padded : List ℕ) × (sized : List ℕ) × (length padded ≡ length old)
+    × (length sized ≡ length old)
+    × Wrote old padded e (padding (e - (n + 4))) × Wrote padded sized (n + 2) (43 ∷ (e - (n + 4)) ∷ [])
+    × Wrote sized out n ((72 + m) ∷ i ∷ [])
+
+-- behind the `:` of the letter i, whose move has the code m
+abbrev pub StoreFrom : List ℕ → ℕ → ℕ → List ℕ → List ℕ → ℕ → ℕ → ℕ → Ended → Type 0
+StoreFrom s a p old out n i m r =
+    (v : Move) → m ≡ moveCode v → (cmd : Bool) (k : ℕ) → Ends s a p old out n 4 cmd k (λ pl. callText pl i v []) r
+
+-- REFUSALS HANDED ON
+
+abbrev pub nextEnd : Next → Ended
+nextEnd (Byte b q) = NoEnd Incomplete q
+nextEnd (NoByte f q) = NoEnd f q
+
+abbrev pub numberEnd : Number → Ended
+numberEnd (Got n m b q) = NoEnd Incomplete q
+numberEnd (NoNumber f q) = NoEnd f q
+
+abbrev pub nameEnd : Name → Ended
+nameEnd (GotName i m b q) = NoEnd Incomplete q
+nameEnd (NoName f q) = NoEnd f q
+
+abbrev pub nextName : Next → Name
+nextName (Byte b q) = NoName Incomplete q
+nextName (NoByte f q) = NoName f q

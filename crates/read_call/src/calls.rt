@@ -1,0 +1,481 @@
+// Calls of a replacement and of commands, from behind their `&(` or `#(` to behind their `)`.
+use crate::Ended;
+use crate::MOST_COUNTER;
+use crate::MOST_ENTRIES;
+use crate::MOST_ENTRY_BYTES;
+use crate::Name;
+use crate::Tail;
+use crate::ends::next_end;
+use crate::ends::number_end;
+use crate::ends::or_zeros;
+use crate::ends::unclosed;
+use form_bytes::put_number;
+use form_items::codes::BEHIND;
+use form_items::codes::DIVIDE;
+use form_items::codes::INSERT_ENTRY;
+use form_items::codes::INSERT_VALUE;
+use form_items::codes::MINUS;
+use form_items::codes::PLUS;
+use form_items::codes::SET_INCREMENT;
+use form_items::codes::SET_POINTER;
+use form_items::codes::SET_VALUE;
+use form_items::codes::STILL;
+use form_items::codes::STORE_TAG;
+use form_items::codes::STORE_TEXT;
+use form_items::codes::STORED_SIZE;
+use form_items::codes::STORED_TAG;
+use form_items::put_item;
+use read_bytes::escaped_byte;
+use read_bytes::is_break;
+use read_bytes::is_lower;
+use read_number::Number;
+use read_number::digits;
+use read_scan::FileFault;
+use read_scan::Next;
+use read_scan::scan::any_byte;
+use read_scan::scan::call_byte;
+use read_scan::scan::next_byte;
+use read_scan::scan::wrong_byte;
+ghost use mathlib.Core.Path.{_≡_};
+ghost use mathlib.Core.Bool.{Bool, true, false, _&&_};
+ghost use mathlib.Core.List.{[], _∷_};
+ghost use Prim.Native.Nat.{_≤_, _<_, _*_, _+_, _-_};
+ghost use lib.ListN.{length};
+ghost use Rattle.macros.specs.Macro.{digit};
+ghost use Rattle.macros.specs.Macro.Mark.{stack};
+ghost use Rattle.macros.specs.Read.{isSign};
+ghost use Rattle.read_scan.specs.Scan.{Reached, Here};
+ghost use Rattle.form_items.specs.Items.{Wrote};
+ghost use Rattle.read_call.specs.Call.{CallRead, CalledFrom, NamedFrom, Naming, TagNaming, Texting, TextFrom, SetFrom, TagFrom, StoreFrom, PutStore, Asks, Starts, signsIn, markOf, signCode, padding, nextName, nameEnd};
+
+// REFUSALS HANDED ON
+
+// A letter's refusal, as its call's.
+fn name_end(n: Name) -> Ended
+    ensures { λ r. ⌜ r ≡ nameEnd n ⌝ }
+{
+    match n {
+        Name::Got(_, _, _, q) => Ended::Refused(FileFault::Incomplete, q),
+        Name::Refused(f, q) => Ended::Refused(f, q),
+    }
+}
+
+// A byte's refusal, as a letter's.
+fn next_name(n: Next) -> Name
+    ensures { λ r. ⌜ r ≡ nextName n ⌝ }
+{
+    match n {
+        Next::Byte(_, q) => Name::Refused(FileFault::Incomplete, q),
+        Next::Refused(f, q) => Name::Refused(f, q),
+    }
+}
+
+// LETTERS AND THEIR SIGNS
+
+// Whether a byte is a sign, where one may stand.
+fn takes_sign(b: u8, signs: bool) -> bool
+    ensures { λ r. ⌜ r ≡ (isSign b && signs) ⌝ }
+{
+    if b == b'+' {
+        return signs;
+    }
+    if b == b'-' {
+        return signs;
+    }
+    false
+}
+
+// The code of a move by `+` or `-`.
+fn sign_code(b: u8) -> u8
+    ensures { λ r. ⌜ r ≡ signCode b ⌝ }
+{
+    if b == b'+' {
+        return PLUS;
+    }
+    MINUS
+}
+
+// A letter behind the sign b.
+fn signed_name(s: &[u8], a: usize, at: usize, b: u8, signs: bool) -> Name
+    requires { ⌜ Here (now s) a at b × ((isSign b && signs) ≡ true) ⌝ }
+    ensures { λ r. ⌜ Naming (now (s .entry)) a at b signs r ⌝ }
+{
+    let next = call_byte(s, a, at + 1);
+    let Next::Byte(c, q) = next else {
+        return next_name(next);
+    };
+    if !is_lower(c) {
+        return Name::Refused(wrong_byte(c), q);
+    }
+    let last = call_byte(s, a, q + 1);
+    let Next::Byte(d, z) = last else {
+        return next_name(last);
+    };
+    Name::Got(c, sign_code(b), d, z)
+}
+
+// A letter, perhaps with a sign before or behind it; b is its first byte.
+fn name(s: &[u8], a: usize, at: usize, b: u8, signs: bool) -> Name
+    requires { ⌜ Here (now s) a at b × (b ≡ 32 → ⊥) ⌝ }
+    ensures { λ r. ⌜ Naming (now (s .entry)) a at b signs r ⌝ }
+{
+    if takes_sign(b, signs) {
+        return signed_name(s, a, at, b, signs);
+    }
+    if !is_lower(b) {
+        return Name::Refused(wrong_byte(b), at);
+    }
+    let next = call_byte(s, a, at + 1);
+    let Next::Byte(c, q) = next else {
+        return next_name(next);
+    };
+    if !takes_sign(c, signs) {
+        return Name::Got(b, STILL, c, q);
+    }
+    let last = call_byte(s, a, q + 1);
+    let Next::Byte(d, z) = last else {
+        return next_name(last);
+    };
+    Name::Got(b, BEHIND + sign_code(c), d, z)
+}
+
+// NUMBERS
+
+// A number, at most `top`, behind the `=`, `,` or `:` of the letter i, and its `)`: if it is out of range, the `)` is a wrong byte, 16.
+fn set_call(
+    s: &[u8],
+    out: &mut [u8],
+    a: usize,
+    at: usize,
+    n: usize,
+    code: u8,
+    i: u8,
+    top: u64,
+) -> Ended
+    requires { ⌜ Reached (now s) a at × (n + 4 + 2 * (a + 513 - at) ≤ length (now out)) × (top ≤ 999999999) ⌝ }
+    ensures { λ r. ⌜ SetFrom (now (s .entry)) a at (now (out .entry)) (now (out .exit)) n code i top r ⌝ }
+{
+    let number = digits(s, a, at, true);
+    let Number::Got(v, some, b, q) = number else {
+        return number_end(number);
+    };
+    if unclosed(b, b')', some, v, top) {
+        return Ended::Refused(wrong_byte(b), q);
+    }
+    put_item(out, n, code, i);
+    put_number(out, n + 2, v as u32);
+    Ended::Upto(q + 1, n + 6)
+}
+
+// The `,` behind a tag's number, which must be the byte b, and the letter behind it.
+fn tag_name(s: &[u8], a: usize, at: usize, b: u8) -> Name
+    requires { ⌜ Here (now s) a at b × (b ≡ 32 → ⊥) × (digit b ≡ false) ⌝ }
+    ensures { λ r. ⌜ TagNaming (now (s .entry)) a at r ⌝ }
+{
+    if b != b',' {
+        return Name::Refused(wrong_byte(b), at);
+    }
+    let next = call_byte(s, a, at + 1);
+    let Next::Byte(c, q) = next else {
+        return next_name(next);
+    };
+    name(s, a, q, c, true)
+}
+
+// Behind a tag's number v, whose next byte is b: if the pattern has no such tag, the `)` is a wrong byte, 16.
+fn tag_call(
+    s: &[u8],
+    out: &mut [u8],
+    a: usize,
+    at: usize,
+    b: u8,
+    n: usize,
+    v: u64,
+    tags: usize,
+) -> Ended
+    requires { ⌜ Here (now s) a at b × (b ≡ 32 → ⊥) × (digit b ≡ false) × (n + 2 * (a + 513 - at) ≤ length (now out)) × (tags ≤ 99) ⌝ }
+    ensures { λ r. ⌜ TagFrom (now (s .entry)) a at (now (out .entry)) (now (out .exit)) n v tags r ⌝ }
+{
+    let named = tag_name(s, a, at, b);
+    let Name::Got(i, m, d, z) = named else {
+        return name_end(named);
+    };
+    if unclosed(d, b')', true, v, tags as u64) {
+        return Ended::Refused(wrong_byte(d), z);
+    }
+    put_item(out, n, STORE_TAG + m, i);
+    put_item(out, n + 2, STORED_TAG, v as u8);
+    Ended::Upto(z + 1, n + 4)
+}
+
+// TEXT
+
+// A byte of a text that has k bytes so far, from b on, with its last place: a raw quote, `;` or line feed is 12, the 51st byte 16.
+fn text_byte(s: &[u8], a: usize, at: usize, b: u8, k: usize) -> Next
+    requires { ⌜ Here (now s) a at b × (b ≡ 58 → ⊥) ⌝ }
+    ensures { λ r. ⌜ Texting (now (s .entry)) a at k r ⌝ }
+{
+    if is_break(b) {
+        return Next::Refused(FileFault::Incomplete, at);
+    }
+    if MOST_ENTRY_BYTES <= k {
+        return Next::Refused(FileFault::BadCall, at);
+    }
+    if b != b'\\' {
+        return Next::Byte(b, at);
+    }
+    let raw = any_byte(s, a, at + 1);
+    let Next::Byte(e, z) = raw else {
+        return raw;
+    };
+    Next::Byte(escaped_byte(e), z)
+}
+
+// A text up to its `:`, written from n on.
+fn put_text(s: &[u8], out: &mut [u8], a: usize, first: usize, n: usize) -> Ended
+    requires { ⌜ Reached (now s) a first × (n + 2 * (a + 513 - first) ≤ length (now out)) ⌝ }
+    ensures { λ r. ⌜ TextFrom (now (s .entry)) a first (now (out .entry)) (now (out .exit)) n r ⌝ }
+{
+    let mut at = first;
+    let mut k: usize = 0;
+    loop {
+        let next = next_byte(s, a, at);
+        let Next::Byte(b, q) = next else {
+            return next_end(next);
+        };
+        if b == b':' {
+            return Ended::Upto(q + 1, n + k);
+        }
+        let text = text_byte(s, a, q, b, k);
+        let Next::Byte(c, z) = text else {
+            return next_end(text);
+        };
+        out[n + k] = c;
+        at = z + 1;
+        k = k + 1;
+    }
+}
+
+// A zero behind a text that has an odd length; the text stands from n to e.
+fn pad(out: &mut [u8], n: usize, e: usize) -> usize
+    requires { ⌜ (n ≤ e) × (e < length (now out)) ⌝ }
+    ensures { λ r. ⌜ Wrote (now (out .entry)) (now (out .exit)) e (padding (e - n)) × (r ≡ e + length (padding (e - n))) ⌝ }
+{
+    if (e - n) % 2 == 0 {
+        return e;
+    }
+    out[e] = 0;
+    e + 1
+}
+
+// Behind the text from n + 4 to e its zero, before it its length and the item of the letter i with the move m.
+fn put_store(out: &mut [u8], n: usize, e: usize, i: u8, m: u8) -> usize
+    requires { ⌜ (n + 4 ≤ e) × (e ≤ n + 54) × (e < length (now out)) × (m ≤ 4) ⌝ }
+    ensures { λ r. ⌜ PutStore (now (out .entry)) (now (out .exit)) n e i m r ⌝ }
+{
+    let end = pad(out, n + 4, e);
+    put_item(out, n + 2, STORED_SIZE, (e - (n + 4)) as u8);
+    put_item(out, n, STORE_TEXT + m, i);
+    end
+}
+
+// Behind the `:` of the letter i with the move m. The text's length is stored when it is known.
+fn text_call(s: &[u8], out: &mut [u8], a: usize, at: usize, n: usize, i: u8, m: u8) -> Ended
+    requires { ⌜ Reached (now s) a at × (n + 4 + 2 * (a + 513 - at) ≤ length (now out)) × (m ≤ 4) ⌝ }
+    ensures { λ r. ⌜ StoreFrom (now (s .entry)) a at (now (out .entry)) (now (out .exit)) n i m r ⌝ }
+{
+    let text = put_text(s, out, a, at, n + 4);
+    let Ended::Upto(q, e) = text else {
+        return text;
+    };
+    let next = call_byte(s, a, q);
+    let Next::Byte(b, z) = next else {
+        return next_end(next);
+    };
+    if b != b')' {
+        return Ended::Refused(wrong_byte(b), z);
+    }
+    let end = put_store(out, n, e, i, m);
+    Ended::Upto(z + 1, end)
+}
+
+// CALLS
+
+// What the byte c behind a letter with the move m asks for in `&(..)`.
+fn stack_tail(c: u8, m: u8, cmd: bool) -> Tail
+    requires { ⌜ m ≤ 4 ⌝ }
+    ensures { λ r. ⌜ Asks (markOf false) cmd (signsIn false cmd) c m r ⌝ }
+{
+    if c == b':' {
+        return Tail::Text;
+    }
+    if c == b'=' {
+        if 0 < m {
+            return Tail::Wrong;
+        }
+        return Tail::Set(SET_POINTER, MOST_ENTRIES);
+    }
+    if c != b')' {
+        return Tail::Wrong;
+    }
+    if cmd {
+        return Tail::Wrong;
+    }
+    Tail::Insert(INSERT_ENTRY + m)
+}
+
+// What the byte c behind a letter with the move m asks for in `#(..)`.
+fn counter_tail(c: u8, m: u8, cmd: bool) -> Tail
+    requires { ⌜ m ≤ 4 ⌝ }
+    ensures { λ r. ⌜ Asks (markOf true) cmd (signsIn true cmd) c m r ⌝ }
+{
+    if c == b',' {
+        if 0 < m {
+            return Tail::Wrong;
+        }
+        return Tail::Set(SET_INCREMENT, MOST_COUNTER);
+    }
+    if c == b'=' {
+        if 0 < m {
+            return Tail::Wrong;
+        }
+        return Tail::Set(SET_VALUE, MOST_COUNTER);
+    }
+    if c == b':' {
+        if (0 < m) | cmd {
+            return Tail::Wrong;
+        }
+        return Tail::Set(DIVIDE, MOST_COUNTER);
+    }
+    if c != b')' {
+        return Tail::Wrong;
+    }
+    if cmd {
+        return Tail::Wrong;
+    }
+    Tail::Insert(INSERT_VALUE + m)
+}
+
+// What the byte c behind a letter with the move m asks for, in `&(..)` or, if counter, in `#(..)`.
+fn tail(c: u8, m: u8, counter: bool, cmd: bool) -> Tail
+    requires { ⌜ m ≤ 4 ⌝ }
+    ensures { λ r. ⌜ Asks (markOf counter) cmd (signsIn counter cmd) c m r ⌝ }
+{
+    if counter {
+        return counter_tail(c, m, cmd);
+    }
+    stack_tail(c, m, cmd)
+}
+
+// Whether a letter may have a sign: not as a command of a counter.
+fn signs_in(counter: bool, cmd: bool) -> bool
+    ensures { λ r. ⌜ r ≡ signsIn counter cmd ⌝ }
+{
+    if counter {
+        return !cmd;
+    }
+    true
+}
+
+// A call from its letter on, whose first byte is b.
+fn named_call(
+    s: &[u8],
+    out: &mut [u8],
+    a: usize,
+    at: usize,
+    b: u8,
+    n: usize,
+    counter: bool,
+    cmd: bool,
+) -> Ended
+    requires { ⌜ Here (now s) a at b × (b ≡ 32 → ⊥) × Starts counter b × (n + 2 * (a + 513 - at) ≤ length (now out)) ⌝ }
+    ensures { λ r. ⌜ NamedFrom (now (s .entry)) a at (now (out .entry)) (now (out .exit)) n (markOf counter) cmd r ⌝ }
+{
+    let named = name(s, a, at, b, signs_in(counter, cmd));
+    let Name::Got(i, m, c, z) = named else {
+        return name_end(named);
+    };
+    let asked = tail(c, m, counter, cmd);
+    match asked {
+        Tail::Text => text_call(s, out, a, z + 1, n, i, m),
+        Tail::Set(code, top) => set_call(s, out, a, z + 1, n, code, i, top),
+        Tail::Insert(code) => {
+            put_item(out, n, code, i);
+            Ended::Upto(z + 1, n + 2)
+        }
+        Tail::Wrong => Ended::Refused(wrong_byte(c), z),
+    }
+}
+
+// A call behind its `&(`: a stored tag's begins with a number, any other with its letter.
+fn stack_call(
+    s: &[u8],
+    out: &mut [u8],
+    a: usize,
+    at: usize,
+    n: usize,
+    cmd: bool,
+    tags: usize,
+) -> Ended
+    requires { ⌜ Reached (now s) a at × (n + 2 * (a + 513 - at) ≤ length (now out)) × (tags ≤ 99) ⌝ }
+    ensures { λ r. ⌜ CalledFrom (now (s .entry)) a at (now (out .entry)) (now (out .exit)) n stack cmd tags r ⌝ }
+{
+    let number = digits(s, a, at, true);
+    let Number::Got(v, some, b, q) = number else {
+        return number_end(number);
+    };
+    if some {
+        return tag_call(s, out, a, q, b, n, v, tags);
+    }
+    named_call(s, out, a, q, b, n, false, cmd)
+}
+
+// A call behind its `#(`.
+fn counter_call(s: &[u8], out: &mut [u8], a: usize, at: usize, n: usize, cmd: bool) -> Ended
+    requires { ⌜ Reached (now s) a at × (n + 2 * (a + 513 - at) ≤ length (now out)) ⌝ }
+    ensures { λ r. ⌜ NamedFrom (now (s .entry)) a at (now (out .entry)) (now (out .exit)) n (markOf true) cmd r ⌝ }
+{
+    let next = call_byte(s, a, at);
+    let Next::Byte(b, q) = next else {
+        return next_end(next);
+    };
+    named_call(s, out, a, q, b, n, true, cmd)
+}
+
+// One call behind its `&(` or, if counter, `#(`, in a replacement or, if cmd, as a command.
+fn one_call(
+    s: &[u8],
+    out: &mut [u8],
+    a: usize,
+    at: usize,
+    n: usize,
+    counter: bool,
+    cmd: bool,
+    tags: usize,
+) -> Ended
+    requires { ⌜ Reached (now s) a at × (n + 2 * (a + 513 - at) ≤ length (now out)) × (tags ≤ 99) ⌝ }
+    ensures { λ r. ⌜ CalledFrom (now (s .entry)) a at (now (out .entry)) (now (out .exit)) n (markOf counter) cmd tags r ⌝ }
+{
+    if counter {
+        return counter_call(s, out, a, at, n, cmd);
+    }
+    stack_call(s, out, a, at, n, cmd, tags)
+}
+
+// One call, as above; a refusal leaves zeros in the lent bytes.
+pub fn call(
+    s: &[u8],
+    out: &mut [u8],
+    a: usize,
+    at: usize,
+    n: usize,
+    counter: bool,
+    cmd: bool,
+    tags: usize,
+) -> Ended
+    requires { ⌜ Reached (now s) a at × (n + 2 * (a + 513 - at) ≤ length (now out)) × (tags ≤ 99) ⌝ }
+    ensures { λ r. ⌜ CallRead (now (s .entry)) a at (now (out .entry)) (now (out .exit)) n (markOf counter) cmd tags r ⌝ }
+{
+    let read = one_call(s, out, a, at, n, counter, cmd, tags);
+    or_zeros(out, read)
+}
