@@ -286,15 +286,16 @@ module _ (lines trace : List ℕ) {b trace′ : List ℕ} {h : Bool} (f : OfStat
   pub hands-done : {b′ out₁ out′ z t : List ℕ} {o : Bool} {p : ℕ} {r : Fed} → GoesOut b′ out₁ out′ z t o p r → IsState z → trace′ ≡ handedOver h lines trace → Hands b lines trace trace′ r
   hands-done {b′} {out₁} {out′} {z} {t} {o} {p} {r} g s e st hb = by-came e st hb ∙ sym (kept-done (isOn (st .trace)) r lines trace (s .0 .nflag) o t out′ (g .kind (s .0) (s .1)))
 
-  module _ {g : Bool} {order : Obeyed} (q : g ≡ leavesTrace h order) (e : trace′ ≡ handedOver g lines trace) where
-    as-ordered : {o : Obeyed} → order ≡ o → trace′ ≡ handedOver (leavesTrace h o) lines trace
-    as-ordered d = e ∙ ap (λ (j : Bool). handedOver j lines trace) (q ∙ ap (leavesTrace h) d)
+-- and by what a control line is found to be
+module _ (lines trace : List ℕ) (h : Bool) {trace′ : List ℕ} {g : Bool} {order : Obeyed} (q : g ≡ leavesTrace h order) (e : trace′ ≡ handedOver g lines trace) where
+  as-ordered : {o : Obeyed} → order ≡ o → trace′ ≡ handedOver (leavesTrace h o) lines trace
+  as-ordered d = e ∙ ap (λ (j : Bool). handedOver j lines trace) (q ∙ ap (leavesTrace h) d)
 
-    pub hands-taken : order ≡ Taken → OfState b (λ st. trace′ ≡ handedOver (isOn (st .trace)) lines trace)
-    hands-taken d = by-came (as-ordered d)
+  pub hands-taken : {b : List ℕ} → OfState b (λ st. h ≡ isOn (st .trace)) → order ≡ Taken → OfState b (λ st. trace′ ≡ handedOver (isOn (st .trace)) lines trace)
+  hands-taken f d = by-came lines trace f (as-ordered d)
 
-    pub hands-wrong : {w : ControlWhy} → order ≡ Wrong w → OfState b (λ st. trace′ ≡ trace)
-    hands-wrong d st hb = as-ordered d
+  pub hands-wrong : {b : List ℕ} {w : ControlWhy} → order ≡ Wrong w → OfState b (λ st. trace′ ≡ trace)
+  hands-wrong d st hb = as-ordered d
 
 -- whether a line is not refused
 abbrev isTaken : Fed → Bool

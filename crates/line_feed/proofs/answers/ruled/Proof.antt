@@ -50,7 +50,7 @@ same-length-5 : tie.Need-same-length-5
 same-length-5 c = c .before .before .before .before .before .before .before .before .before .before .before .before .before .before .before .before .before .before .before .before .before .before .before .control .kept .1 .1 .0
 
 returns : tie.Need-returns
-returns c = (rule-taken (c .before .before .before .before .before .before .before .before .before .before .before .before .before .before .before .before .before .before .before .before .before .before .before .control .ensures) (c .before .before .before .before .before .enum-told .given .1) (c .before .before .before .before .before .before .before .before .before .keep .ensures) (c .before .before .before .before .before .before .before .before .before .before .before .before .before .before .before .before .before .before .before .before .before .before .before .before .before .before .before .before .before .before .before .before .before .pre .0 .ends .output) (c .before .before .lay-out .ensures) (c .before .before .before .before .before .before .before .before .before .before .before .before .before .before .before .before .before .before .before .before .before .before .before .before .before .before .before .before .before .before .before .before .before .args .begun), hands-taken (now (c .before .before .before .before .before .before .before .before .before .before .before .before .before .before .before .before .before .before .before .before .before .before .before .before .before .before .before .before .before .before .before .before .before .args .lines)) (now (c .before .before .before .before .before .before .before .before .before .before .before .before .before .before .before .before .before .before .before .before .before .before .before .before .before .before .before .before .before .before .before .before .before .args .trace)) (c .before .before .before .before .before .before .before .before .before .before .before .before .before .before .before .before .is-traced .ensures) (c .before .before .before .before .before .before .before .before .before .before .before .before .before .before .before .leaves-trace .ensures) (c .before .before .before .before .before .before .before .before .before .before .before .before .before .before .hand-over .ensures) (c .before .before .before .before .before .enum-told .given .1))
+returns c = (rule-taken (c .before .before .before .before .before .before .before .before .before .before .before .before .before .before .before .before .before .before .before .before .before .before .before .control .ensures) (c .before .before .before .before .before .enum-told .given .1) (c .before .before .before .before .before .before .before .before .before .keep .ensures) (c .before .before .before .before .before .before .before .before .before .before .before .before .before .before .before .before .before .before .before .before .before .before .before .before .before .before .before .before .before .before .before .before .before .pre .0 .ends .output) (c .before .before .lay-out .ensures) (c .before .before .before .before .before .before .before .before .before .before .before .before .before .before .before .before .before .before .before .before .before .before .before .before .before .before .before .before .before .before .before .before .before .args .begun), hands-taken (now (c .before .before .before .before .before .before .before .before .before .before .before .before .before .before .before .before .before .before .before .before .before .before .before .before .before .before .before .before .before .before .before .before .before .args .lines)) (now (c .before .before .before .before .before .before .before .before .before .before .before .before .before .before .before .before .before .before .before .before .before .before .before .before .before .before .before .before .before .before .before .before .before .args .trace)) (c .before .before .before .before .before .before .before .before .before .before .before .before .before .before .before .before .is-traced .result) (c .before .before .before .before .before .before .before .before .before .before .before .before .before .before .before .leaves-trace .ensures) (c .before .before .before .before .before .before .before .before .before .before .before .before .before .before .hand-over .ensures) (c .before .before .before .before .before .before .before .before .before .before .before .before .before .before .before .before .is-traced .ensures) (c .before .before .before .before .before .enum-told .given .1))
 
 why-control-requires : tie.Need-why-control-requires
 why-control-requires c κs = tt
@@ -68,7 +68,7 @@ same-length-9 : tie.Need-same-length-9
 same-length-9 c = c .before .before .before .before .before .before .before .before .before .before .before .before .before .before .before .before .before .before .before .before .control .kept .1 .1 .0
 
 returns-2 : tie.Need-returns-2
-returns-2 c = (rule-wrong (c .before .before .before .before .before .before .before .before .before .before .before .before .before .before .before .before .before .before .before .before .control .ensures) (c .before .before .order .given .1) (c .why-control .ensures) (c .before .before .before .before .before .before .keep .ensures) (c .before .before .before .before .before .before .before .before .before .before .before .before .before .before .before .before .before .before .before .before .before .before .before .before .before .before .before .before .before .before .args .begun), hands-wrong (now (c .before .before .before .before .before .before .before .before .before .before .before .before .before .before .before .before .before .before .before .before .before .before .before .before .before .before .before .before .before .before .args .lines)) (now (c .before .before .before .before .before .before .before .before .before .before .before .before .before .before .before .before .before .before .before .before .before .before .before .before .before .before .before .before .before .before .args .trace)) (c .before .before .before .before .before .before .before .before .before .before .before .before .before .is-traced .ensures) (c .before .before .before .before .before .before .before .before .before .before .before .before .leaves-trace .ensures) (c .before .before .before .before .before .before .before .before .before .before .before .hand-over .ensures) (c .before .before .order .given .1))
+returns-2 c = (rule-wrong (c .before .before .before .before .before .before .before .before .before .before .before .before .before .before .before .before .before .before .before .before .control .ensures) (c .before .before .order .given .1) (c .why-control .ensures) (c .before .before .before .before .before .before .keep .ensures) (c .before .before .before .before .before .before .before .before .before .before .before .before .before .before .before .before .before .before .before .before .before .before .before .before .before .before .before .before .before .before .args .begun), hands-wrong (now (c .before .before .before .before .before .before .before .before .before .before .before .before .before .before .before .before .before .before .before .before .before .before .before .before .before .before .before .before .before .before .args .lines)) (now (c .before .before .before .before .before .before .before .before .before .before .before .before .before .before .before .before .before .before .before .before .before .before .before .before .before .before .before .before .before .before .args .trace)) (c .before .before .before .before .before .before .before .before .before .before .before .before .before .is-traced .result) (c .before .before .before .before .before .before .before .before .before .before .before .before .leaves-trace .ensures) (c .before .before .before .before .before .before .before .before .before .before .before .hand-over .ensures) (c .before .before .order .given .1))
 
 pub ruled-spec : {M : Type 1} → statement M
 ruled-spec =
