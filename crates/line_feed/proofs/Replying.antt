@@ -23,7 +23,7 @@ use Rattle.lines.specs.Feeding.{Kind, Answer, orderOf, kindOfDone, refusal, out
 use Rattle.lines.specs.Feeding.{feed as fed}
 use Rattle.lines.specs.Feeding.Kind.{refusedWith, out, withheld, controlled}
 use Rattle.lines.specs.Feeding.Order.{wrong}
-use Rattle.form_state.specs.Access.{Holds, OfState}
+use Rattle.form_state.specs.Access.{Holds, IsState, OfState}
 use Rattle.line_memory.specs.Memory.{Memories, Feeding, IsTable, Counted, padded}
 use Rattle.line_memory.proofs.Copying.{padded-whole}
 use Rattle.line_control.specs.Contract.{Orders}
@@ -41,7 +41,7 @@ use Rattle.line_passes.specs.declared.Ended.the-variants.{Done, Control as AtCo
 use Rattle.line_passes.proofs.Starting.{state-length}
 use Rattle.line_feed.specs.Contract.{Untraced, untraced, LentUntraced, laidOut, tracedOut, Answers, Feeds}
 use Rattle.line_answer.specs.Fed.{refusalOf, kindOf}
-use Rattle.line_feed.specs.Answering.{Counts, controlWhy, workWhy, Fits, withheldBy, Finished, GoesOut, keptBy, Ruling, Rules, After, beside, Replying, Replies, isTaken, TraceRoom, TakesWith, keptTrace, Takes}
+use Rattle.line_feed.specs.Answering.{Counts, controlWhy, workWhy, Fits, withheldBy, Finished, GoesOut, keptBy, Ruling, Rules, After, beside, Replying, Replies, leavesTrace, handedOver, keptTrace, Hands, TraceRoom, Takes}
 use Rattle.line_answer.specs.declared.Why.{Why}
 use Rattle.line_answer.specs.declared.Why.the-variants.{BudgetTooLarge, LineTooLong, BadByte}
 use Rattle.line_answer.specs.declared.Fed.{Fed}
@@ -246,6 +246,105 @@ module _ {m : Untraced} {count : ℕ} {left : After} {r : Ended} where
             (record { kind = refl; passes = c .count; size = refl; table = h; state = hb; output = refl });
       }
 
+-- THE TRACE
+
+-- the flag, by its test
+pub flag-on : {b : List ℕ} {r c : Bool} → OfState b (λ st. r ≡ isOn (st .trace)) → r ≡ c → OfState b (λ st. c ≡ isOn (st .trace))
+flag-on f e st h = sym e ∙ f st h
+
+pub is-on : (n : ℕ) → ltb 0 n ≡ isOn n
+unfolding isOn
+is-on zero = refl
+is-on (suc n) = lt-ltb 0 (suc n) (omega arith)
+
+-- handed over or not
+pub handed-on : {traced : Bool} (lines old : List ℕ) {new : List ℕ} → traced ≡ true → new ≡ padded lines (length old) → new ≡ handedOver traced lines old
+handed-on lines old t e = e ∙ ap (λ (b : Bool). handedOver b lines old) (sym t)
+
+pub handed-off : {traced : Bool} (lines old : List ℕ) → traced ≡ false → old ≡ handedOver traced lines old
+handed-off lines old t = ap (λ (b : Bool). handedOver b lines old) (sym t)
+
+-- a line that is done is not refused
+never-refused : (n : ℕ) (o : Bool) (t : List ℕ) {w : Refusal} → kindOfDone n o t ≡ refusedWith w → ⊥
+unfolding kindOfDone
+never-refused zero true t e = let z : _≡_ {A = ℕ} 0 1 = cc in omega arith
+never-refused zero false t e = let z : _≡_ {A = ℕ} 0 1 = cc in omega arith
+never-refused (suc n) true t e = let z : _≡_ {A = ℕ} 0 1 = cc in omega arith
+never-refused (suc n) false t e = let z : _≡_ {A = ℕ} 0 1 = cc in omega arith
+
+kept-done : (b : Bool) (r : Fed) (lines old : List ℕ) (n : ℕ) (o : Bool) (t out₁ : List ℕ) → kindOfDone n o t ≡ kindOf r out₁ → keptTrace b r lines old ≡ handedOver b lines old
+kept-done b (Out p k) lines old n o t out₁ e = refl
+kept-done b (Withheld p) lines old n o t out₁ e = refl
+kept-done b (Control p) lines old n o t out₁ e = refl
+kept-done b (Refused w p) lines old n o t out₁ e = absurd (never-refused n o t e)
+
+-- by the flag of the state that came
+module _ (lines trace : List ℕ) {b trace′ : List ℕ} {h : Bool} (f : OfState b (λ st. h ≡ isOn (st .trace))) where
+  by-came : trace′ ≡ handedOver h lines trace → OfState b (λ st. trace′ ≡ handedOver (isOn (st .trace)) lines trace)
+  by-came e st hb = e ∙ ap (λ (j : Bool). handedOver j lines trace) (f st hb)
+
+  pub hands-done : {b′ out₁ out′ z t : List ℕ} {o : Bool} {p : ℕ} {r : Fed} → GoesOut b′ out₁ out′ z t o p r → IsState z → trace′ ≡ handedOver h lines trace → Hands b lines trace trace′ r
+  hands-done {b′} {out₁} {out′} {z} {t} {o} {p} {r} g s e st hb = by-came e st hb ∙ sym (kept-done (isOn (st .trace)) r lines trace (s .0 .nflag) o t out′ (g .kind (s .0) (s .1)))
+
+-- and by what a control line is found to be
+module _ (lines trace : List ℕ) (h : Bool) {trace′ : List ℕ} {g : Bool} {order : Obeyed} (q : g ≡ leavesTrace h order) (e : trace′ ≡ handedOver g lines trace) where
+  as-ordered : {o : Obeyed} → order ≡ o → trace′ ≡ handedOver (leavesTrace h o) lines trace
+  as-ordered d = e ∙ ap (λ (j : Bool). handedOver j lines trace) (q ∙ ap (leavesTrace h) d)
+
+  pub hands-taken : {b : List ℕ} → OfState b (λ st. h ≡ isOn (st .trace)) → order ≡ Taken → OfState b (λ st. trace′ ≡ handedOver (isOn (st .trace)) lines trace)
+  hands-taken f d = by-came lines trace f (as-ordered d)
+
+  pub hands-wrong : {b : List ℕ} {w : ControlWhy} → order ≡ Wrong w → OfState b (λ st. trace′ ≡ trace)
+  hands-wrong d st hb = as-ordered d
+
+-- whether a line is not refused
+abbrev isTaken : Fed → Bool
+isTaken (Out p n) = true
+isTaken (Withheld p) = true
+isTaken (Control p) = true
+isTaken (Refused w p) = false
+
+kept-taken : (b : Bool) (r : Fed) (lines old : List ℕ) → isTaken r ≡ true → keptTrace b r lines old ≡ handedOver b lines old
+kept-taken b (Out p n) lines old t = refl
+kept-taken b (Withheld p) lines old t = refl
+kept-taken b (Control p) lines old t = refl
+kept-taken b (Refused w p) lines old t = absurd (false≢true t)
+
+kept-refused : (b : Bool) (r : Fed) (lines old : List ℕ) → isTaken r ≡ false → keptTrace b r lines old ≡ old
+kept-refused b (Out p n) lines old t = absurd (false≢true (sym t))
+kept-refused b (Withheld p) lines old t = absurd (false≢true (sym t))
+kept-refused b (Control p) lines old t = absurd (false≢true (sym t))
+kept-refused b (Refused w p) lines old t = refl
+
+-- what the answer says of a trace, by whether the line is taken
+module _ (ms : Table) (st : State) (sent : Sent) {m m′ : Untraced} {r : Fed} (h : Answers (answer ms st (historyOf ms st sent)) m m′ r) where
+  abbrev given : Answer
+  given = answer ms st (historyOf ms st sent)
+
+  by-kind : (r : Fed) → given .kind ≡ kindOf r (m′ .output) → (isTaken r ≡ true → given .traceText ≡ tracing st (passesOf (historyOf ms st sent))) × (isTaken r ≡ false → given .traceText ≡ none)
+  by-kind (Out p n) e = (λ t. subst (λ (k : Kind). WritesIf k given (tracing st (passesOf (historyOf ms st sent)))) e (answer-writes ms st (historyOf ms st sent)), λ t. absurd (false≢true (sym t)))
+  by-kind (Withheld p) e = (λ t. subst (λ (k : Kind). WritesIf k given (tracing st (passesOf (historyOf ms st sent)))) e (answer-writes ms st (historyOf ms st sent)), λ t. absurd (false≢true (sym t)))
+  by-kind (Control p) e = (λ t. subst (λ (k : Kind). WritesIf k given (tracing st (passesOf (historyOf ms st sent)))) e (answer-writes ms st (historyOf ms st sent)), λ t. absurd (false≢true (sym t)))
+  by-kind (Refused w p) e = (λ t. absurd (false≢true t), λ t. subst (λ (k : Kind). WritesIf k given (tracing st (passesOf (historyOf ms st sent)))) e (answer-writes ms st (historyOf ms st sent)))
+
+  pub trace-taken : isTaken r ≡ true → given .traceText ≡ tracing st (passesOf (historyOf ms st sent))
+  trace-taken = by-kind r (h .kind) .0
+
+  pub trace-refused : isTaken r ≡ false → given .traceText ≡ none
+  trace-refused = by-kind r (h .kind) .1
+
+tracing-on : (st : State) (xs : List Pass) → true ≡ isOn (st .trace) → tracing st xs ≡ some (traceOf xs)
+unfolding tracing traceIf
+tracing-on st xs e = rw (← e) refl
+
+tracing-off : (st : State) (xs : List Pass) → false ≡ isOn (st .trace) → tracing st xs ≡ none
+unfolding tracing traceIf
+tracing-off st xs e = rw (← e) refl
+
+-- the memories, with that of the trace
+abbrev whole : Untraced → List ℕ → Memories
+whole m trace = record { table = m .table; state = m .state; output = m .output; trace = trace }
+
 -- FROM ITS START
 
 -- a refusal's kind is no other
@@ -319,106 +418,37 @@ module _ (sent : Sent) {m : Untraced} {count : ℕ} {traced : Bool} {lines : Lis
           let c : Comes traced (historyOf ms st sent) left (AtRefusal w p) = rw e at (x .runs .comes ms h (cs .each ms h) st hb) in
           absurd (refused-not ms h st hb w c t)
 
-      pub taken-with : TakesWith sent m m′ traced lines (left .trace) a
-      taken-with = record { answers = taken-answers; traces = traces-of r refl; untraced = x .runs .untraced }
+      -- what the lent memory holds then: the trace if the flag was 1 when the line came
+      module _ (trace : List ℕ) {trace′ : List ℕ} (room₂ : length trace ≡ mostTraceBytes) (l : length (left .trace) ≡ length lines) (hands : Hands (m .state) (left .trace) trace trace′ a) where
+        module _ (ms : Table) (h : IsTable (m .table) ms) (st : State) (hb : Holds (m .state) st) where
+          abbrev xs : List Pass
+          xs = passesOf (historyOf ms st sent)
 
--- THE TRACE
+          abbrev text : Option (List ℕ)
+          text = answer ms st (historyOf ms st sent) .traceText
 
--- what the answer says of a trace, by whether the line is taken
-module _ (ms : Table) (st : State) (sent : Sent) {m m′ : Untraced} {r : Fed} (h : Answers (answer ms st (historyOf ms st sent)) m m′ r) where
-  abbrev given : Answer
-  given = answer ms st (historyOf ms st sent)
+          by-flag : (i : Bool) → isOn (st .trace) ≡ i → isTaken a ≡ true → trace′ ≡ tracedOut text trace
+          unfolding tracedOut
+          by-flag true i t =
+              let q : traced ≡ true = room .flag st hb ∙ i in
+              let e : trace′ ≡ padded (left .trace) (length trace) = hands st hb ∙ kept-taken _ a (left .trace) trace t ∙ ap (λ (j : Bool). handedOver j (left .trace) trace) i in
+              let n : length (left .trace) ≡ length trace = l ∙ ap length (room .clear q) ∙ length-replicate {A = ℕ} mostTraceBytes 0 ∙ sym room₂ in
+              let says : text ≡ some (traceOf xs) = trace-taken ms st sent (taken-answers ms h st hb) t ∙ tracing-on st xs (sym i) in
+              padded-whole (left .trace) (length trace) n e ∙ traces-of r refl q t ms h st hb ∙ ap (λ (k : Option (List ℕ)). tracedOut k trace) (sym says)
+          by-flag false i t =
+              let e : trace′ ≡ trace = hands st hb ∙ kept-taken _ a (left .trace) trace t ∙ ap (λ (j : Bool). handedOver j (left .trace) trace) i in
+              let says : text ≡ none = trace-taken ms st sent (taken-answers ms h st hb) t ∙ tracing-off st xs (sym i) in
+              e ∙ ap (λ (k : Option (List ℕ)). tracedOut k trace) (sym says)
 
-  by-kind : (r : Fed) → given .kind ≡ kindOf r (m′ .output) → (isTaken r ≡ true → given .traceText ≡ tracing st (passesOf (historyOf ms st sent))) × (isTaken r ≡ false → given .traceText ≡ none)
-  by-kind (Out p n) e = (λ t. subst (λ (k : Kind). WritesIf k given (tracing st (passesOf (historyOf ms st sent)))) e (answer-writes ms st (historyOf ms st sent)), λ t. absurd (false≢true (sym t)))
-  by-kind (Withheld p) e = (λ t. subst (λ (k : Kind). WritesIf k given (tracing st (passesOf (historyOf ms st sent)))) e (answer-writes ms st (historyOf ms st sent)), λ t. absurd (false≢true (sym t)))
-  by-kind (Control p) e = (λ t. subst (λ (k : Kind). WritesIf k given (tracing st (passesOf (historyOf ms st sent)))) e (answer-writes ms st (historyOf ms st sent)), λ t. absurd (false≢true (sym t)))
-  by-kind (Refused w p) e = (λ t. absurd (false≢true t), λ t. subst (λ (k : Kind). WritesIf k given (tracing st (passesOf (historyOf ms st sent)))) e (answer-writes ms st (historyOf ms st sent)))
+          by-answer : (b : Bool) → isTaken a ≡ b → trace′ ≡ tracedOut text trace
+          unfolding tracedOut
+          by-answer true t = by-flag (isOn (st .trace)) refl t
+          by-answer false t =
+              let says : text ≡ none = trace-refused ms st sent (taken-answers ms h st hb) t in
+              hands st hb ∙ kept-refused _ a (left .trace) trace t ∙ ap (λ (k : Option (List ℕ)). tracedOut k trace) (sym says)
 
-  pub trace-taken : isTaken r ≡ true → given .traceText ≡ tracing st (passesOf (historyOf ms st sent))
-  trace-taken = by-kind r (h .kind) .0
-
-  pub trace-refused : isTaken r ≡ false → given .traceText ≡ none
-  trace-refused = by-kind r (h .kind) .1
-
-tracing-on : (st : State) (xs : List Pass) → true ≡ isOn (st .trace) → tracing st xs ≡ some (traceOf xs)
-unfolding tracing traceIf
-tracing-on st xs e = rw (← e) refl
-
-tracing-off : (st : State) (xs : List Pass) → false ≡ isOn (st .trace) → tracing st xs ≡ none
-unfolding tracing traceIf
-tracing-off st xs e = rw (← e) refl
-
--- the whole trace is handed over, or the memory is as it was
-kept-taken : (r : Fed) (lines old : List ℕ) → isTaken r ≡ true → keptTrace r lines old ≡ lines
-kept-taken (Out p n) lines old t = refl
-kept-taken (Withheld p) lines old t = refl
-kept-taken (Control p) lines old t = refl
-kept-taken (Refused w p) lines old t = absurd (false≢true t)
-
-kept-refused : (r : Fed) (lines old : List ℕ) → isTaken r ≡ false → keptTrace r lines old ≡ old
-kept-refused (Out p n) lines old t = absurd (false≢true (sym t))
-kept-refused (Withheld p) lines old t = absurd (false≢true (sym t))
-kept-refused (Control p) lines old t = absurd (false≢true (sym t))
-kept-refused (Refused w p) lines old t = refl
-
-pub kept-on : (r : Fed) (lines old : List ℕ) {new : List ℕ} → isTaken r ≡ true → length lines ≡ length old → new ≡ padded lines (length old) → new ≡ keptTrace r lines old
-kept-on r lines old t l e = padded-whole lines (length old) l e ∙ sym (kept-taken r lines old t)
-
-pub kept-off : (r : Fed) (lines old : List ℕ) → isTaken r ≡ false → old ≡ keptTrace r lines old
-kept-off r lines old t = sym (kept-refused r lines old t)
-
--- the memories, with that of the trace
-abbrev whole : Untraced → List ℕ → Memories
-whole m trace = record { table = m .table; state = m .state; output = m .output; trace = trace }
-
-module _ {sent : Sent} {m m′ : Untraced} {lines lines′ : List ℕ} {r : Fed} where
-  -- under TRACE 1
-  pub takes-traced : TakesWith sent m m′ true lines lines′ r → OfState (m .state) (λ st. true ≡ isOn (st .trace)) → {trace trace′ : List ℕ} → trace′ ≡ keptTrace r lines′ trace
-      → Takes (record { sent = sent; lent = whole m trace; left = whole m′ trace′ }) r
-  unfolding tracedOut
-  takes-traced x on {trace} {trace′} e =
-      record {
-        answers = x .answers;
-        traces = λ ms h st hb. go (isTaken r) refl ms h st hb;
-      }
-    where
-      go : (b : Bool) → isTaken r ≡ b → (ms : Table) → IsTable (m .table) ms → (st : State) → Holds (m .state) st
-          → trace′ ≡ tracedOut (answer ms st (historyOf ms st sent) .traceText) trace
-      go true t ms h st hb =
-          let xs = passesOf (historyOf ms st sent) in
-          let a : answer ms st (historyOf ms st sent) .traceText ≡ some (traceOf xs) = trace-taken ms st sent (x .answers ms h st hb) t ∙ tracing-on st xs (on st hb) in
-          e ∙ kept-taken r lines′ trace t ∙ x .traces refl t ms h st hb ∙ ap (λ (k : Option (List ℕ)). tracedOut k trace) (sym a)
-      go false t ms h st hb =
-          let a : answer ms st (historyOf ms st sent) .traceText ≡ none = trace-refused ms st sent (x .answers ms h st hb) t in
-          e ∙ kept-refused r lines′ trace t ∙ ap (λ (k : Option (List ℕ)). tracedOut k trace) (sym a)
-
-  -- under TRACE 0
-  pub takes-untraced : TakesWith sent m m′ false lines lines′ r → OfState (m .state) (λ st. false ≡ isOn (st .trace)) → Takes (record { sent = sent; lent = whole m lines; left = whole m′ lines′ }) r
-  unfolding tracedOut
-  takes-untraced x off =
-      record {
-        answers = x .answers;
-        traces = λ ms h st hb. go (isTaken r) refl ms h st hb;
-      }
-    where
-      go : (b : Bool) → isTaken r ≡ b → (ms : Table) → IsTable (m .table) ms → (st : State) → Holds (m .state) st
-          → lines′ ≡ tracedOut (answer ms st (historyOf ms st sent) .traceText) lines
-      go true t ms h st hb =
-          let a : answer ms st (historyOf ms st sent) .traceText ≡ none = trace-taken ms st sent (x .answers ms h st hb) t ∙ tracing-off st (passesOf (historyOf ms st sent)) (off st hb) in
-          x .untraced refl ∙ ap (λ (k : Option (List ℕ)). tracedOut k lines) (sym a)
-      go false t ms h st hb =
-          let a : answer ms st (historyOf ms st sent) .traceText ≡ none = trace-refused ms st sent (x .answers ms h st hb) t in
-          x .untraced refl ∙ ap (λ (k : Option (List ℕ)). tracedOut k lines) (sym a)
-
--- the flag, by its test
-pub flag-on : {b : List ℕ} {r c : Bool} → OfState b (λ st. r ≡ isOn (st .trace)) → r ≡ c → OfState b (λ st. c ≡ isOn (st .trace))
-flag-on f e st h = sym e ∙ f st h
-
-pub is-on : (n : ℕ) → ltb 0 n ≡ isOn n
-unfolding isOn
-is-on zero = refl
-is-on (suc n) = lt-ltb 0 (suc n) (omega arith)
+        pub takes : Takes (record { sent = sent; lent = whole m trace; left = whole m′ trace′ }) a
+        takes = record { answers = taken-answers; traces = λ ms h st hb. by-answer ms h st hb (isTaken a) refl }
 
 -- FEEDING
 

@@ -8,8 +8,8 @@ use Rattle.macros.specs.Bounds.{mostLineBytes, mostTraceBytes}
 use Rattle.macros.specs.Macro.{Table}
 use Rattle.macros.specs.Formed.{Bytes}
 use Rattle.lines.specs.State.{State}
-use Rattle.lines.specs.Line.{Sent, Pass, Line, passesOf as historyPasses}
-use Rattle.lines.specs.Trace.{traceOf, isOn, historyOf}
+use Rattle.lines.specs.Line.{Pass, Line}
+use Rattle.lines.specs.Trace.{isOn, historyOf}
 use Rattle.lines.specs.Feeding.{orderOf, outputOf, kindOfDone, ofOrder, answer}
 use Rattle.form_state.specs.Form.{stateBytes}
 use Rattle.form_state.specs.Access.{Holds, IsState, OfState}
@@ -53,6 +53,29 @@ abbrev pub workWhy : WorkWhy → Why
 workWhy BudgetUsedUp = UsedUp
 workWhy (AtWork f) = Stopped f
 workWhy TraceTooLong = TraceFull
+
+-- THE TRACE
+
+-- whether a control line leaves a trace
+abbrev pub leavesTrace : (traced : Bool) → Order → Bool
+leavesTrace traced Taken = traced
+leavesTrace traced (Wrong w) = false
+
+-- what the trace's memory holds when a trace is handed over, or none is
+abbrev pub handedOver : (traced : Bool) → (lines old : List ℕ) → List ℕ
+handedOver true lines old = padded lines (length old)
+handedOver false lines old = old
+
+-- and behind a line with this answer
+abbrev pub keptTrace : (traced : Bool) → Fed → (lines old : List ℕ) → List ℕ
+keptTrace traced (Out p n) lines old = handedOver traced lines old
+keptTrace traced (Withheld p) lines old = handedOver traced lines old
+keptTrace traced (Control p) lines old = handedOver traced lines old
+keptTrace traced (Refused w p) lines old = old
+
+-- "With TRACE 0 when the line comes, or where it is refused, that memory is untouched": b is the state that came
+abbrev pub Hands : (b lines trace trace′ : List ℕ) → Fed → Type 0
+Hands b lines trace trace′ r = OfState b (λ st. trace′ ≡ keptTrace (isOn (st .trace)) r lines trace)
 
 -- THE END OF A LINE
 
@@ -113,32 +136,13 @@ pub record Replies (m m′ : Untraced) (count : ℕ) (left : After) (e : Ended) 
   pub answers : (ms : Table) → IsTable (m .table) ms → length ms ≡ count → (old : State) → Holds (m .state) old
       → (traced : Bool) (lines : List ℕ) (whole : Line) → Comes traced whole (beside left lines) e → Answers (answer ms old whole) m m′ r
 
--- A LINE THAT IS NOT REFUSED BEFORE ITS PASSES, and its trace
+-- A LINE THAT IS NOT REFUSED BEFORE ITS PASSES
 
-abbrev pub isTaken : Fed → Bool
-isTaken (Out p n) = true
-isTaken (Withheld p) = true
-isTaken (Control p) = true
-isTaken (Refused w p) = false
-
--- the memory to which the trace goes that the state asks for, if it asks for one
+-- the memory of its own to which the trace goes that the state asks for, if it asks for one
 pub record TraceRoom (b : List ℕ) (traced : Bool) (lines : List ℕ) : Type 0 where
   pub flag : OfState b (λ st. traced ≡ isOn (st .trace))
   pub clear : traced ≡ true → lines ≡ replicate mostTraceBytes 0
-
--- the line, with its trace in that memory
-pub record TakesWith (sent : Sent) (m m′ : Untraced) (traced : Bool) (lines lines′ : List ℕ) (r : Fed) : Type 0 where
-  pub answers : (ms : Table) → IsTable (m .table) ms → (st : State) → Holds (m .state) st → Answers (answer ms st (historyOf ms st sent)) m m′ r
-  pub traces : traced ≡ true → isTaken r ≡ true → (ms : Table) → IsTable (m .table) ms → (st : State) → Holds (m .state) st
-      → lines′ ≡ padded (traceOf (historyPasses (historyOf ms st sent))) mostTraceBytes
-  pub untraced : traced ≡ false → lines′ ≡ lines
-
--- what the trace's memory holds behind a line whose trace is `lines`
-abbrev pub keptTrace : Fed → (lines old : List ℕ) → List ℕ
-keptTrace (Out p n) lines old = lines
-keptTrace (Withheld p) lines old = lines
-keptTrace (Control p) lines old = lines
-keptTrace (Refused w p) lines old = old
+  pub short : length lines ≤ mostTraceBytes
 
 -- the line is taken, or refused by its passes
 pub record Takes (f : Feeding) (r : Fed) : Type 0 where

@@ -9,11 +9,13 @@ use line_memory::lay_out;
 use line_passes::Ended;
 use line_passes::Why as WorkWhy;
 use line_passes::run_line;
+ghost use Prim.Native.Nat.{_≤_};
 ghost use mathlib.Core.Path.{_≡_};
 ghost use lib.ListN.{length};
+ghost use Rattle.form_state.specs.Form.{stateBytes};
 ghost use Rattle.form_state.specs.Access.{IsState, OfState};
-ghost use Rattle.line_feed.specs.Contract.{LentUntraced, Lent};
-ghost use Rattle.line_feed.specs.Answering.{controlWhy, workWhy, withheldBy, Finished, GoesOut, keptBy, Ruling, Rules, Replying, Replies, Fits, isTaken, keptTrace, TraceRoom, TakesWith, Takes};
+ghost use Rattle.line_feed.specs.Contract.{Lent};
+ghost use Rattle.line_feed.specs.Answering.{controlWhy, workWhy, withheldBy, leavesTrace, handedOver, Hands, Finished, GoesOut, keptBy, Ruling, Rules, Replying, Replies, Fits, TraceRoom, Takes};
 ghost use mathlib.Core.Bool.{true};
 ghost use Rattle.lines.specs.Trace.{isOn};
 
@@ -37,6 +39,36 @@ fn why_work(w: WorkWhy) -> Why
         WorkWhy::BudgetUsedUp => Why::BudgetUsedUp,
         WorkWhy::AtWork(f) => Why::AtWork(f),
         WorkWhy::TraceTooLong => Why::TraceTooLong,
+    }
+}
+
+// THE TRACE
+
+// Whether a state asks for a trace: the flag that `$TRACE` sets.
+fn is_traced(state: &[u8]) -> bool
+    requires { ⌜ length (now state) ≡ stateBytes ⌝ }
+    ensures { λ r. ⌜ OfState (now (state .entry)) (λ st. r ≡ isOn (st .trace)) ⌝ }
+{
+    0 < state[0]
+}
+
+// Whether a control line leaves a trace: one that is wrong leaves none.
+fn leaves_trace(traced: bool, order: Order) -> bool
+    ensures { λ r. ⌜ r ≡ leavesTrace traced order ⌝ }
+{
+    match order {
+        Order::Taken => traced,
+        Order::Refused(_) => false,
+    }
+}
+
+// The lines of a trace go to the memory that was lent for them.
+fn hand_over(trace: &mut [u8], lines: &[u8], traced: bool)
+    requires { ⌜ length (now lines) ≤ length (now trace) ⌝ }
+    ensures { λ _. ⌜ now (trace .exit) ≡ handedOver traced (now (lines .entry)) (now (trace .entry)) ⌝ }
+{
+    if traced {
+        lay_out(trace, lines);
     }
 }
 
@@ -92,20 +124,23 @@ fn keep(state: &mut [u8], after: &[u8], order: Order)
     lay_out(state, after);
 }
 
-// A control line: the table and the state after it, and no output.
+// A control line: the table and the state after it, its trace by the state that came, and no output.
 fn ruled(
     table: &mut [u8],
     count: usize,
     state: &mut [u8],
     output: &mut [u8],
+    trace: &mut [u8],
     after: &mut [u8],
     line: &[u8],
+    lines: &[u8],
     begun: usize,
 ) -> Fed
-    requires { ⌜ Ruling (record { table = now table; state = now state; output = now output }) count (record { state = now after; text = now line }) ⌝ }
-    ensures { λ r. ⌜ Rules (record { table = now (table .entry); state = now (state .entry); output = now (output .entry) }) (record { table = now (table .exit); state = now (state .exit); output = now (output .exit) }) count (record { state = now (after .entry); text = now (line .entry) }) begun r ⌝ }
+    requires { ⌜ Ruling (record { table = now table; state = now state; output = now output }) count (record { state = now after; text = now line }) × (length (now lines) ≤ length (now trace)) ⌝ }
+    ensures { λ r. ⌜ Rules (record { table = now (table .entry); state = now (state .entry); output = now (output .entry) }) (record { table = now (table .exit); state = now (state .exit); output = now (output .exit) }) count (record { state = now (after .entry); text = now (line .entry) }) begun r × Hands (now (state .entry)) (now (lines .entry)) (now (trace .entry)) (now (trace .exit)) r ⌝ }
 {
     let order = control(table, count, after, line);
+    hand_over(trace, lines, leaves_trace(is_traced(state), order));
     keep(state, after, order);
     let Order::Refused(w) = order else {
         lay_out(output, &line[..0]);
@@ -114,25 +149,38 @@ fn ruled(
     Fed::Refused(why_control(w), begun)
 }
 
-// The answer to a line whose passes are over: `after` is the state and `text` holds the line then.
+// The answer to a line whose passes are over: `after` is the state, `text` holds the line and `lines` its trace then.
 fn reply(
     table: &mut [u8],
     count: usize,
     state: &mut [u8],
     output: &mut [u8],
+    trace: &mut [u8],
     after: &mut [u8],
     text: &[u8],
+    lines: &[u8],
     ended: Ended,
 ) -> Fed
-    requires { ⌜ Replying (record { table = now table; state = now state; output = now output }) count (record { state = now after; text = now text }) ended ⌝ }
-    ensures { λ r. ⌜ Replies (record { table = now (table .entry); state = now (state .entry); output = now (output .entry) }) (record { table = now (table .exit); state = now (state .exit); output = now (output .exit) }) count (record { state = now (after .entry); text = now (text .entry) }) ended r ⌝ }
+    requires { ⌜ Replying (record { table = now table; state = now state; output = now output }) count (record { state = now after; text = now text }) ended × (length (now lines) ≤ length (now trace)) ⌝ }
+    ensures { λ r. ⌜ Replies (record { table = now (table .entry); state = now (state .entry); output = now (output .entry) }) (record { table = now (table .exit); state = now (state .exit); output = now (output .exit) }) count (record { state = now (after .entry); text = now (text .entry) }) ended r × Hands (now (state .entry)) (now (lines .entry)) (now (trace .entry)) (now (trace .exit)) r ⌝ }
 {
     match ended {
         Ended::Done(n, occurred, begun) => {
+            hand_over(trace, lines, is_traced(state));
             return done(state, output, after, &text[..n], occurred, begun);
         }
         Ended::Control(n, begun) => {
-            return ruled(table, count, state, output, after, &text[..n], begun);
+            return ruled(
+                table,
+                count,
+                state,
+                output,
+                trace,
+                after,
+                &text[..n],
+                lines,
+                begun,
+            );
         }
         Ended::Refused(w, begun) => {
             return Fed::Refused(why_work(w), begun);
@@ -140,61 +188,29 @@ fn reply(
     }
 }
 
-// THE TRACE
-
-// Whether a line is traced: the flag that `$TRACE` sets, when the line comes.
-fn is_traced(state: &[u8]) -> bool
-    requires { ⌜ IsState (now state) ⌝ }
-    ensures { λ r. ⌜ OfState (now (state .entry)) (λ st. r ≡ isOn (st .trace)) ⌝ }
-{
-    0 < state[0]
-}
-
-// Whether a line is not refused.
-fn is_taken(fed: Fed) -> bool
-    ensures { λ r. ⌜ r ≡ isTaken fed ⌝ }
-{
-    match fed {
-        Fed::Out(_, _) => true,
-        Fed::Withheld(_) => true,
-        Fed::Control(_) => true,
-        Fed::Refused(_, _) => false,
-    }
-}
-
-// A line that is taken hands its trace over.
-fn keep_trace(trace: &mut [u8], lines: &[u8], fed: Fed)
-    requires { ⌜ length (now lines) ≡ length (now trace) ⌝ }
-    ensures { λ _. ⌜ now (trace .exit) ≡ keptTrace fed (now (lines .entry)) (now (trace .entry)) ⌝ }
-{
-    if is_taken(fed) {
-        lay_out(trace, lines);
-    }
-}
-
 // A LINE THAT 4, 21 AND 22 DO NOT REFUSE
 
-// Its trace, if it is traced, goes to `lines`.
+// Its trace, if it is traced, stands in `lines` until the line is taken.
 fn take_with(
     table: &mut [u8],
     state: &mut [u8],
     line: &[u8],
     budget: usize,
     output: &mut [u8],
+    trace: &mut [u8],
     lines: &mut [u8],
     traced: bool,
 ) -> Fed
-    requires { ⌜ LentUntraced (record { table = now table; state = now state; output = now output }) × Fits (now line) × TraceRoom (now state) traced (now lines) ⌝ }
-    ensures { λ r. ⌜ TakesWith (record { line = now (line .entry); budget = budget }) (record { table = now (table .entry); state = now (state .entry); output = now (output .entry) }) (record { table = now (table .exit); state = now (state .exit); output = now (output .exit) }) traced (now (lines .entry)) (now (lines .exit)) r ⌝ }
+    requires { ⌜ Lent (record { table = now table; state = now state; output = now output; trace = now trace }) × Fits (now line) × TraceRoom (now state) traced (now lines) ⌝ }
+    ensures { λ r. ⌜ Takes (record { sent = record { line = now (line .entry); budget = budget }; lent = record { table = now (table .entry); state = now (state .entry); output = now (output .entry); trace = now (trace .entry) }; left = record { table = now (table .exit); state = now (state .exit); output = now (output .exit); trace = now (trace .exit) } }) r ⌝ }
 {
     let mut after = [0u8; 26236];
     let mut text = [0u8; 1054];
     let count = count_macros(table);
-    // The slice tells the compiler the state's size: then `after` is not cleared before the state is copied to it.
     let ended = run_line(
         table,
         count,
-        &state[..26236],
+        &state[..26236], // of a known size, so that the compiler does not clear `after` before the state is copied to it
         line,
         budget,
         &mut after,
@@ -202,10 +218,20 @@ fn take_with(
         lines,
         traced,
     );
-    reply(table, count, state, output, &mut after, &text, ended)
+    reply(
+        table,
+        count,
+        state,
+        output,
+        trace,
+        &mut after,
+        &text,
+        lines,
+        ended,
+    )
 }
 
-// One that is traced, in a memory of its own until it is taken.
+// One that is traced, in a memory of its own: a line that is not traced has none.
 fn take_traced(
     table: &mut [u8],
     state: &mut [u8],
@@ -218,9 +244,7 @@ fn take_traced(
     ensures { λ r. ⌜ Takes (record { sent = record { line = now (line .entry); budget = budget }; lent = record { table = now (table .entry); state = now (state .entry); output = now (output .entry); trace = now (trace .entry) }; left = record { table = now (table .exit); state = now (state .exit); output = now (output .exit); trace = now (trace .exit) } }) r ⌝ }
 {
     let mut lines = [0u8; 65536];
-    let fed = take_with(table, state, line, budget, output, &mut lines, true);
-    keep_trace(trace, &lines, fed);
-    fed
+    take_with(table, state, line, budget, output, trace, &mut lines, true)
 }
 
 // Traced or not.
@@ -238,5 +262,6 @@ pub(crate) fn take_line(
     if is_traced(state) {
         return take_traced(table, state, line, budget, output, trace);
     }
-    take_with(table, state, line, budget, output, trace, false)
+    let mut none = [0u8; 0];
+    take_with(table, state, line, budget, output, trace, &mut none, false)
 }

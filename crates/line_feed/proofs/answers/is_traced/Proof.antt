@@ -1,13 +1,13 @@
 use native.Mathlib.Omega.{arith}
 use mathlib.Core.Path.{_∙_, ap}
 use lib.Dec.{ltb}
-use Rattle.form_state.proofs.Held.{is-long, read-trace}
+use Rattle.form_state.proofs.Held.{read-trace}
 use Rattle.line_feed.proofs.Replying.{is-on}
 use Rattle.line_feed.proofs.answers.is_traced.Statement.{statement}
 use Rattle.line_feed.proofs.answers.is_traced.Tie as tie
 
 shared-slice-read-result : tie.Need-shared-slice-read-result
-shared-slice-read-result c = omega (arith, is-long (c .before .args .state .now) (c .before .pre))
+shared-slice-read-result c = omega (arith, c .before .pre)
 
 returns : tie.Need-returns
 returns c = λ st h. ap (ltb 0) (read-trace (c .before .args .state .now) st h) ∙ is-on (st .trace)
