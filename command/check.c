@@ -46,6 +46,7 @@ const struct command check_command = {
     "also shows which part is not ended. Without a fault it gives the number of\n"
     "macros, and warns of what is seldom meant:\n"
     "  ignored text that holds &, #, a digit or a quote other than '\n"
+    "  a call before a pattern with other text beside it\n"
     "  a skip that holds a quote or a line feed\n"
     "  a byte over 127 in a class\n"
     "  a macro that is the same as an older one\n\n"

@@ -125,7 +125,7 @@ struct part {
 };
 
 /* What an unfinished macro lacks, after the part of it that is open. */
-enum lacking { LACKS_SYMBOL, LACKS_REPLACEMENT, LACKS_END };
+enum lacking { LACKS_PATTERN, LACKS_SYMBOL, LACKS_REPLACEMENT, LACKS_END };
 
 struct scan {
     const uint8_t *file;
@@ -198,7 +198,7 @@ void find_change(struct change *change, const struct step *step);
 struct replay {
     const uint8_t *macros;
     size_t count; /* of the macros */
-    uint8_t closed[M7_MOST_MACROS], passed[M7_MOST_MACROS];
+    uint8_t closed[M7_MOST_MACROS], passed[M7_MOST_MACROS], begun[M7_MOST_MACROS];
     uint8_t state[M7_STATE_BYTES];
     size_t size; /* of the text */
     int feeds;   /* the text holds line feeds */

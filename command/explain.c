@@ -20,7 +20,8 @@ static const char reader[] = "whoever looks words up";
 static const struct number numbers[] = {
     {M7_BAD_TABLE, host,
      "The table's memory does not hold what m7_read or m7_feed left there. Lend those\n"
-     "bytes, or read the macro file again.\n",
+     "bytes, or read the macro file again; so too for a table that was kept since\n"
+     "before calls could stand before a pattern.\n",
      NULL, NULL, NULL, "a table whose first byte was set to 3"},
     {M7_BAD_STATE, host,
      "The state's memory does not hold what m7_fresh or m7_feed left there. Lend those\n"
@@ -45,7 +46,8 @@ static const struct number numbers[] = {
      "A macro is 'pattern', then = or <, then 'replacement', then commands, then ; at\n"
      "its end. One of these is missing, or a quoted text, class, call or skip (from a\n"
      "/ to the next) is not ended. Inside quotes write \\' for a quote, \\; for ; and\n"
-     "\\n for a line feed.\n",
+     "\\n for a line feed. A call before a pattern begins its macro: no ; may stand\n"
+     "between the two. Put a comment that holds &( or #( between two /.\n",
      "'a'='b'", NULL, NULL, NULL},
     {M7_BAD_CLASS, writer,
      "A class [..] has a member. The ends of a range are two lower case letters, two\n"
@@ -63,13 +65,15 @@ static const struct number numbers[] = {
      "'a}'='b';", NULL, NULL, NULL},
     {M7_BAD_CALL, writer,
      "&(..) calls a stack and #(..) a counter; i is a letter from a to z.\n"
+     "  before a pattern   &(i=n) &(i:text:) #(i=n) #(i,n)\n"
      "  in a pattern       &(i) #(i)\n"
      "  in a replacement   {n} &(i) &(n,i) &(i=n) &(i:text:) #(i) #(i=n) #(i,n) #(i:n)\n"
      "  as a command       &(n,i) &(i=n) &(i:text:) #(i=n) #(i,n)\n"
      "Except in a pattern, one + or - may stand before or after the i of &(i), &(n,i),\n"
      "&(i:text:) and #(i). The n of {n} and &(n,i) is a tag that the pattern has, that\n"
      "of &(i=n) is 1 to 20, that of #(i=n), #(i,n) and #(i:n) 1 to 999,999,999. A text\n"
-     "has at most 50 bytes. Write \\{ for a brace, and \\& or \\# where no call is meant.\n",
+     "has at most 50 bytes. Write \\{ for a brace, and \\& or \\# where no call is meant;\n"
+     "before a pattern \\ has no effect: put a comment between two /.\n",
      "'a'='{2}';", NULL, NULL, NULL},
     {M7_NO_ELEMENT, writer,
      "Between its quotes a pattern has something to match. Braces alone do not count;\n"
@@ -77,12 +81,15 @@ static const struct number numbers[] = {
      "''='b';", NULL, NULL, NULL},
     {M7_MACRO_TOO_LONG, writer,
      "From a macro's first quote to its ; there are at most 512 bytes, spaces and\n"
-     "comments counted. Written out, a macro can be longer, since a \\ is put before\n"
-     "more bytes than need one. Divide the macro in two.\n",
+     "comments counted; with calls before its pattern, from the & or # of the first.\n"
+     "Written out, a macro can be longer, since a \\ is put before more bytes than need\n"
+     "one. Divide the macro in two.\n",
      NULL, NULL, NULL, "a pattern of 600 letters"},
     {M7_TOO_MANY_MACROS, writer,
-     "A table has at most 96 macros, those that $MACRO added counted. Take out what is\n"
-     "no longer needed, or run two tables one after the other.\n",
+     "A table has at most 96 macros, those that $MACRO added counted. The place is\n"
+     "where the next one begins: its first quote, or the & or # of a call before its\n"
+     "pattern. Take out what is no longer needed, or run two tables one after the\n"
+     "other.\n",
      NULL, NULL, NULL, "a file with 97 macros"},
     {M7_LINE_TOO_LONG, sender,
      "A line has at most 1,054 bytes, its line feed not counted. Divide it.\n",
@@ -113,7 +120,8 @@ static const struct number numbers[] = {
      "'{a*}'<'b'&(1,t);", "aaaaaaaaaaaaaaaaaaaaaaaaaaaaaaaaaaaaaaaaaaaaaaaaaaa", NULL, NULL},
     {M7_POINTER_TOO_HIGH, work,
      "A stack has 20 entries, and a + moves its pointer up by one. Move it down with -\n"
-     "when an entry is no longer needed, or set it with &(i=n).\n",
+     "when an entry is no longer needed, or set it with &(i=n). A call before a\n"
+     "pattern runs on every line that tries its macro, also where nothing fits.\n",
      "'c'<'&(s=20)&(+s)';", "c", NULL, NULL},
     {M7_COUNTER_TOO_HIGH, work,
      "A counter goes from 1 to 999,999,999, and a + adds its increment. Set it back\n"

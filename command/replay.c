@@ -1,10 +1,13 @@
 /* The passes of a line one at a time, by the rules of 01's part 6: each pass is a
-   line fed to its macro alone. Of a refused line there is no other trace, and the
-   trace of another may have texts with line feeds. */
+   line fed to its macro alone. The calls before a pattern run in a macro's first pass
+   on a line (02, N2), so for the later ones they are taken out of it. Of a refused line
+   there is no other trace, and the trace of another may have texts with line feeds. */
 #include "command.h"
 #include <string.h>
 
-enum { ONCE = 1 }; /* the symbol < in a slot */
+/* In a slot: the symbol <, where the length of the calls before the pattern stands,
+   and the bytes before the items, of which these calls are the first. */
+enum { ONCE = 1, CALLS_LENGTH = 2, HEADER_BYTES = 10 };
 
 size_t macros_in(const uint8_t *macros)
 {
@@ -60,6 +63,16 @@ static void add_feeds(uint8_t *table, uint8_t byte)
     memcpy(table + M7_SLOT_BYTES, feeds, M7_SLOT_BYTES);
 }
 
+/* Takes the calls before the pattern out of a slot. */
+static void drop_calls(uint8_t *slot)
+{
+    size_t calls = slot[CALLS_LENGTH] + (size_t)256 * slot[CALLS_LENGTH + 1];
+    size_t rest = M7_SLOT_BYTES - HEADER_BYTES - calls;
+    memmove(slot + HEADER_BYTES, slot + HEADER_BYTES + calls, rest);
+    memset(slot + HEADER_BYTES + rest, 0, calls);
+    memset(slot + CALLS_LENGTH, 0, 2);
+}
+
 /* Feeds the text to one macro, which then is closed, so that it has one pass. A line
    feed cannot be sent: another byte is, and a pass before makes line feeds of it. */
 static m7_answer feed_to(struct replay *replay, size_t number, uint8_t *output, uint8_t *trace)
@@ -68,6 +81,8 @@ static m7_answer feed_to(struct replay *replay, size_t number, uint8_t *output, 
     uint8_t byte = replay->feeds ? unused_byte(replay) : 0;
     memcpy(alone, replay->macros + M7_SLOT_BYTES * (number - 1), M7_SLOT_BYTES);
     alone[0] = ONCE;
+    if (replay->begun[number - 1])
+        drop_calls(alone);
     memset(alone + M7_SLOT_BYTES, 0, 2 * M7_SLOT_BYTES); /* a $MACRO line may have filled them */
     if (byte != 0)
         add_feeds(alone, byte);
@@ -102,6 +117,7 @@ enum replayed next_pass(struct replay *replay)
         return NONE_DUE;
     replay->step.number = number;
     replay->answer = answer = feed_to(replay, number, output, trace);
+    replay->begun[number - 1] = 1;
     if (answer.number == M7_BAD_BYTE)
         return UNKNOWN;
     if (answer.number != 0)

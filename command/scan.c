@@ -173,31 +173,42 @@ static int quoted(struct scan *s, enum part_kind kind)
     return 1;
 }
 
-/* Steps over ignored text and skips, and calls where they are commands, up to
-   one of the bytes `until`; 0 if there is none. */
-static int find(struct scan *s, const char *until, int commands)
+/* Steps over ignored text and skips up to one of the bytes `until` or, where calls
+   count, to a call; 0 if there is none. */
+static int find(struct scan *s, const char *until, int calls)
 {
     struct part *ignored = NULL;
-    while (more(s) && memchr(until, here(s), strlen(until)) == NULL) {
-        int is_call = commands && at_call(s);
-        if (here(s) != '/' && !is_call) {
-            ignored = ignored == NULL ? begin(s, IGNORED) : ignored;
-            step(s);
-            ended(s, ignored);
+    while (more(s) && memchr(until, here(s), strlen(until)) == NULL && !(calls && at_call(s))) {
+        if (here(s) == '/') {
+            ignored = NULL;
+            skips(s);
             continue;
         }
-        ignored = NULL;
-        if (is_call)
-            call(s);
-        else
-            skips(s);
+        ignored = ignored == NULL ? begin(s, IGNORED) : ignored;
+        step(s);
+        ended(s, ignored);
     }
     return more(s);
 }
 
+/* The same, over calls, up to the byte `until`. */
+static int find_after_calls(struct scan *s, const char *until)
+{
+    while (find(s, until, 1)) {
+        if (!at_call(s))
+            return 1;
+        call(s);
+    }
+    return 0;
+}
+
+/* From its first quote, or from the first call before its pattern. */
 static void macro(struct scan *s)
 {
     struct part *part = begin(s, MACRO);
+    s->lacks = LACKS_PATTERN;
+    if (!find_after_calls(s, "'"))
+        return;
     s->lacks = LACKS_SYMBOL;
     if (!quoted(s, PATTERN) || !find(s, "=<", 0))
         return;
@@ -206,7 +217,7 @@ static void macro(struct scan *s)
     if (!find(s, "'", 0))
         return;
     s->lacks = LACKS_END;
-    if (!quoted(s, REPLACEMENT) || !find(s, ";", 1))
+    if (!quoted(s, REPLACEMENT) || !find_after_calls(s, ";"))
         return;
     step(s);
     ended(s, part);
@@ -218,6 +229,6 @@ void scan_file(struct scan *s, const uint8_t *file, size_t size)
     s->size = size;
     s->at = 0;
     s->count = 0;
-    while (find(s, "'", 0))
+    while (find(s, "'", 1))
         macro(s);
 }

@@ -55,6 +55,9 @@ static const struct part *open_macro(void)
     return NULL;
 }
 
+/* Whether the last macro began with a call, and its pattern has not begun. */
+static int before_pattern(void) { return open_macro() != NULL && scan.lacks == LACKS_PATTERN; }
+
 static const char *what_lacks(enum part_kind kind)
 {
     switch (kind) {
@@ -66,7 +69,8 @@ static const char *what_lacks(enum part_kind kind)
     case CALL: return "this call lacks its )";
     case CALL_TEXT: return "this call's text lacks its second :";
     default:
-        return scan.lacks == LACKS_SYMBOL ? "this macro lacks its symbol, = or <"
+        return scan.lacks == LACKS_PATTERN ? "this call begins a macro, which lacks its pattern in quotes"
+               : scan.lacks == LACKS_SYMBOL ? "this macro lacks its symbol, = or <"
                : scan.lacks == LACKS_REPLACEMENT ? "this macro lacks its replacement in quotes"
                : "this macro lacks its ;";
     }
@@ -78,10 +82,13 @@ static int same_line(const struct table *table, size_t one, size_t other)
            == place_of(table->file, table->size, other).line;
 }
 
-/* What to write if the byte where 12 shows is meant as it stands. */
+/* What to write if the byte where 12 shows is meant as it stands, or if no call is
+   meant before a pattern. */
 static const char *meant(const struct table *table, const struct part *open)
 {
     size_t at = table->answer.place;
+    if (before_pattern() && (open->kind == MACRO || open->kind == CALL))
+        return " (a comment stands between two /)";
     if (at >= table->size || open->kind == CALL || open->kind == TAG_NUMBER)
         return "";
     if (open->kind == MACRO && (table->file[at] != '\'' || !same_line(table, open->from, at)))
@@ -109,6 +116,11 @@ static void show_open(FILE *out, const struct table *table)
 static const char *call_forms(const struct table *table, const struct part *call)
 {
     int is_stack = table->file[call->from] == '&', quoted = 0;
+    if (before_pattern())
+        return is_stack ? "note: before a pattern a stack call is &(i=n) or &(i:text:); a comment "
+                          "stands between two /"
+                        : "note: before a pattern a counter call is #(i=n) or #(i,n); a comment "
+                          "stands between two /";
     for (const struct part *part = scan.parts; part < call; part++) {
         if (part->open && part->kind == PATTERN)
             return is_stack ? "note: in a pattern a stack call is &(i), i a letter from a to z"
@@ -135,7 +147,7 @@ static size_t tags(void)
 static int stores_tag(const struct table *table, const struct part *call)
 {
     size_t at = table->answer.place;
-    return table->file[at] == ')' && table->file[call->from] == '&'
+    return !before_pattern() && table->file[at] == ')' && table->file[call->from] == '&'
            && memchr(table->file + call->from, ',', at - call->from) != NULL;
 }
 
@@ -171,7 +183,8 @@ static void show_class(FILE *out, const struct table *table)
 /* What the first fault has to do with, by its number. */
 static void show_notes(FILE *out, const struct table *table)
 {
-    const struct part *brace = last_open(1), *macro = open_macro();
+    const struct part *brace = last_open(1);
+    size_t at = table->answer.place;
     switch (table->answer.number) {
     case M7_INCOMPLETE:
         show_open(out, table);
@@ -181,15 +194,14 @@ static void show_notes(FILE *out, const struct table *table)
         show_class(out, table);
         break;
     case M7_BAD_BRACE:
-        if (brace != NULL && table->file[table->answer.place] == '\'')
+        if (brace != NULL && table->file[at] == '\'')
             show_place(out, table, brace->from, "note: this brace is open");
         break;
     case M7_BAD_CALL:
         show_call(out, table);
         break;
-    case M7_MACRO_TOO_LONG:
-        if (macro != NULL)
-            show_place(out, table, macro->from, "note: the macro begins here");
+    case M7_MACRO_TOO_LONG: /* at its 513th byte */
+        show_place(out, table, at - M7_MOST_MACRO_BYTES, "note: the macro begins here");
         break;
     default:
         break;

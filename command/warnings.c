@@ -11,8 +11,8 @@ static struct scan scan;
 static const char *ignored_letter(uint32_t point)
 {
     if (point == '&' || point == '#')
-        return "warning: ignored: a command is &(..) or #(..) after the replacement, without a "
-               "space before its (";
+        return "warning: ignored: a call is &(..) or #(..) before the pattern or after the "
+               "replacement, without a space before its (";
     if (quote_like(point))
         return "warning: ignored: only ' is a quote";
     if (point >= '0' && point <= '9')
@@ -35,6 +35,39 @@ static size_t warn_ignored(FILE *out, const struct table *table, const struct pa
         i += length == 0 ? 1 : length;
     }
     return 0;
+}
+
+/* Whether the bytes hold more than spaces and line ends. */
+static int has_words(const struct table *table, size_t from, size_t to)
+{
+    while (from < to && memchr(" \t\r\n", table->file[from], 4) != NULL)
+        from++;
+    return from < to;
+}
+
+/* Whether ignored text with more than spaces stands before the macro, in its line. */
+static int words_before(const struct table *table, const struct part *macro)
+{
+    size_t line = place_of(table->file, table->size, macro->from).from;
+    if (macro == scan.parts || macro[-1].kind != IGNORED)
+        return 0;
+    return has_words(table, macro[-1].from > line ? macro[-1].from : line, macro[-1].to);
+}
+
+/* Of a macro that begins with a call: other text stands before that call, or between
+   it and the pattern. */
+static size_t warn_call(FILE *out, const struct table *table, const struct part *macro)
+{
+    int words = words_before(table, macro);
+    if (table->file[macro->from] == '\'') /* it begins with its pattern */
+        return 0;
+    for (const struct part *part = macro; part->kind != PATTERN; part++)
+        words |= part->kind == IGNORED && has_words(table, part->from, part->to);
+    if (words)
+        show_place(out, table, macro->from,
+                   "warning: a call before a pattern with other text beside it: it runs when a line first "
+                   "tries the macro; a comment stands between two /");
+    return (size_t)words;
 }
 
 static size_t warn_skip(FILE *out, const struct table *table, const struct part *part)
@@ -105,6 +138,7 @@ size_t show_warnings(FILE *out, const struct table *table)
             warnings += warn_class(out, table, part);
         } else if (part->kind == MACRO && macros < M7_MOST_MACROS) {
             starts[macros] = part->from;
+            warnings += warn_call(out, table, part);
             warnings += warn_macro(out, table, macros++, starts);
         }
     }

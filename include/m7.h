@@ -51,6 +51,9 @@
    do harm. To check a table and a state that were loaded, without using them:
    feed a line of M7_MOST_LINE_BYTES + 1 bytes. The answer is 3, 1 or 2 if one
    of them is bad, and 21 if both are good; nothing is changed either way.
+   The form of a table changed when calls could stand before a pattern: tables
+   with macros that were kept from before are refused with 1, and are to be
+   read again from their macro files. States did not change.
 
    LINES FROM STRANGERS
 
@@ -98,11 +101,12 @@ extern "C" {
    machine, and may be stored and copied as it is.
 
    A slot: byte 0 is the macro's symbol (1 for <, 2 for =; 0 if the slot is
-   unused), byte 1 the number of its tags, bytes 2 to 7 the lengths in bytes of
-   its pattern, its replacement and its commands, two bytes each, low byte
-   first. After them stand these three, in items of two bytes, a code and an
-   operand (crates/form_table/specs/Form.antt has the codes). So the number of
-   macros in a table is the number of slots whose first byte is not 0. */
+   unused), byte 1 the number of its tags, bytes 2 to 9 the lengths in bytes of
+   the calls before its pattern, its pattern, its replacement and its commands,
+   two bytes each, low byte first. After them stand these four, in items of two
+   bytes, a code and an operand (crates/form_table/specs/Form.antt has the
+   codes). So the number of macros in a table is the number of slots whose
+   first byte is not 0. */
 #define M7_TABLE_BYTES 98304
 #define M7_SLOT_BYTES 1024
 
@@ -188,7 +192,8 @@ typedef struct m7_answer {
        many. In writing out: the file would have more.
    11  The file holds byte 0.
    12  Something is not ended: a quoted text, a class, a call or a skip; or a
-       macro lacks its symbol, its replacement or its semicolon.
+       macro lacks its symbol, its replacement or its semicolon, or, behind a
+       call before its pattern, that pattern.
    13  A class is empty, or its range falls or mixes kinds.
    14  A closure has nothing before it to repeat.
    15  In a pattern, a right brace has no left one, a left brace is still open
@@ -196,10 +201,12 @@ typedef struct m7_answer {
    16  A call or {n} is not in its form, stands where it may not, has a number
        out of range, or names a tag that the pattern does not have.
    17  A pattern has no element.
-   18  A macro has more than 512 bytes, from its first quote to its semicolon.
-       In writing out: a macro as it would be written has more.
+   18  A macro has more than 512 bytes, from its first quote, or from the & or
+       # of the first call before its pattern, to its semicolon; the place is
+       the 513th. In writing out: a macro as it would be written has more.
    19  There is a 97th macro, those of the table counted with those that
-       $MACRO adds; the place is its first quote.
+       $MACRO adds; the place is its first quote, or the & or # of the first
+       call before its pattern.
 
    The table's at work, at the first such step:
    31  Another pass is due and the budget is used up.
@@ -244,6 +251,9 @@ typedef struct m7_answer {
 #define M7_CONTROL 3
 
 /* Reads a macro file as a new table, whatever the table's memory held before.
+   A macro is perhaps calls, then its pattern, symbol and replacement, perhaps
+   commands, and a semicolon; other text between these parts is ignored. So is
+   what stands before a macro, but &( or #( outside a skip begins one there.
    Refusals: 3, then 10 to 19. Taken: the table's memory holds the table, and
    length is the number of its macros. An empty file is a table without
    macros. */
@@ -275,6 +285,11 @@ m7_answer m7_fresh(uint8_t *state, size_t state_size);
    line 23 and, where it is $MACRO, 12 to 19. 36 shows at the end of a pass;
    then it is looked at whether the line begins with $, and then 31. A refused
    line leaves table, state, output and trace as they were.
+
+   The calls before a macro's pattern run once for each line, when the macro's
+   first pass on it begins; they can give 34, with that pass begun. They are no
+   occurrence: what they changed in the state stays if the line is taken, but
+   the trace does not show them, and a line can be withheld all the same.
 
    Taken, by kind:
    M7_OUT       the output holds the rewritten line, length bytes, and zeros

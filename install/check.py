@@ -61,6 +61,9 @@ def states():
     assert song.feed(b"re") == b"2 re" and song.kind == m7.OUT
     assert m7.Song(b"'^'<'#(n+) ';", kept).feed(b"re") == b"2 re"
     assert m7.Song(b"", kept).feed(b"$NFLAG 1") is None
+    psalm = m7.Song(b"#(v=1)'|'<'#(v+) ';")
+    assert psalm.feed(b"|a |b") == b"1 a 2 b" and psalm.feed(b"|c") == b"1 c"
+    assert psalm.written() == b"#(v=1)'|'<'#(v+) ';\n"
     assert refused(m7.Song, b"", b"\2" + kept[1:]) == (2, 0, 0)
     assert refused(m7.Song, b"", kept[1:]) == (3, 0, 0)
     assert refused(m7.Song, b"", b"x") == refused(m7.Song, b"", b"") == (3, 0, 0)

@@ -271,17 +271,17 @@ static void nulls_of_words(void)
 
 static void table_layout(void)
 {
-    static const uint8_t header[8] = {1, 1, 10, 0, 2, 0, 6, 0};
+    static const uint8_t header[10] = {1, 1, 6, 0, 10, 0, 2, 0, 6, 0};
     size_t i;
     none();
     memset(table.now, 0xA5, M7_TABLE_BYTES);
     CHECK(reading() == 0 && answer.length == 0);
     for (i = 0; i < M7_TABLE_BYTES; i++)
         CHECK(table.now[i] == 0);
-    use("'q'='r';'a{b}c'<'d'#(n=7);");
+    use("'q'='r';#(v=1)'a{b}c'<'d'#(n=7);");
     CHECK(answer.length == 0 && table.now[0] == 2);
     CHECK(memcmp(table.now + 1024, header, sizeof header) == 0);
-    for (i = 1024 + 8 + 18; i < M7_TABLE_BYTES; i++)
+    for (i = 1024 + 10 + 24; i < M7_TABLE_BYTES; i++)
         CHECK(table.now[i] == 0);
 }
 

@@ -48,9 +48,11 @@ static void put_macro(void)
         "$MACRO\\/\\noldline:$MACRO\\/\\nmacro \\#:1\\nnewline:\\'x\\'=\\'\\'\\;",
         "\\noldline:", "\\nmacro \\#:1", "\\nmacro \\#:9999999", "\\nnewline:b",
         "b\\noldline:b\\nmacro \\#:1\\nnewline:b"};
+    static const char *const before[] = {
+        "#(n=1)", "&(s:a:)", "&(s+:b:)", "&(s=20)&(-s:c:)", "#(n,3)#(n=19)", "&(s=20)&(+s:x:)"};
     size_t size = strlen(file);
-    snprintf(file + size, sizeof file - size, "'%s'%c'%s%s'%s;", ONE_OF(patterns), "<="[below(2)], ONE_OF(texts),
-             below(3) ? "" : ONE_OF(texts), below(3) ? "" : "&(s:b:)");
+    snprintf(file + size, sizeof file - size, "%s'%s'%c'%s%s'%s;", below(3) ? "" : ONE_OF(before), ONE_OF(patterns),
+             "<="[below(2)], ONE_OF(texts), below(3) ? "" : ONE_OF(texts), below(3) ? "" : "&(s:b:)");
 }
 
 static void put_line(void)

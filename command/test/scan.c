@@ -56,7 +56,8 @@ static void put_some(const char *const *texts, uint32_t count, uint32_t most)
 
 static void put_macro(void)
 {
-    static const char *const before[] = {" ", "\n", ";", "#(a)", "x", "=", "]", "\\", "\""};
+    static const char *const before[] = {
+        " ", "\n", ";", "#(a=1)", "&/x/(+b:\\':)", "#(c,2)", "&(d:/:/x\\::)", "& (", "#", "x", "=", "]", "\\", "\""};
     static const char *const pattern[] = {
         "a", "b*", "?1", "[ab]", "[~a-z']*-", "[a/]", "[\\]']", "[\\']*", "^", "&(a)", "#/x/(b)*", "{a}", "{b{c}",
         "}", "\\'", "\\/", "\\\\", "&", "#", "(", "[\\\\]", "*/x/-"};
@@ -65,7 +66,7 @@ static void put_macro(void)
         "a", "[", "&(a)", "&(a:\\::)", "&(a:/:/x:)", "&/y/(1,a)", "#(b+)", "{1}", "\\'", "\\;", "\\/", "&", "=", "~"};
     static const char *const commands[] = {
         " ", "&(1,a)", "&(a:x\\\\:)", "#(b=1)", "& (", "&", "#/z/(c,2)", "x", "\\", "[", "=", "\n", "&(b:\\':)"};
-    SOME(before, 3);
+    SOME(before, 4);
     put("'a");
     SOME(pattern, 6);
     put("'");
@@ -129,7 +130,7 @@ static void without_ignored(void)
 
 static const char *end_of(const struct part *part)
 {
-    static const char *const rest[] = {"='';", "'';", ";"};
+    static const char *const rest[] = {"'a'='';", "='';", "'';", ";"};
     switch (part->kind) {
     case SKIP: return "/";
     case CLASS: return "]";

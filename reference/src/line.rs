@@ -7,6 +7,7 @@ use crate::read::read_after;
 use crate::refusal::{
     Refusal, BUDGET_TOO_LARGE, BUDGET_USED_UP, CONTROL, LINE_BYTE, LINE_TOO_LONG,
 };
+use crate::replace::run_calls;
 use crate::state::State;
 use crate::trace::Trace;
 
@@ -54,6 +55,8 @@ pub struct Engine {
 struct Work<'a> {
     table: &'a [Macro],
     open: Vec<bool>,
+    /// The macros that this line has tried.
+    tried: Vec<bool>,
     state: State,
     line: Vec<u8>,
     budget: u64,
@@ -162,6 +165,7 @@ impl<'a> Work<'a> {
         Work {
             table,
             open: vec![true; table.len()],
+            tried: vec![false; table.len()],
             state: state.clone(),
             line: line.to_vec(),
             budget,
@@ -193,8 +197,13 @@ impl<'a> Work<'a> {
     }
 
     /// Whether the macro at `index` occurred; if so and it is `<`, it closes.
+    /// On its first pass the calls before its pattern act.
     fn one_pass(&mut self, index: usize) -> Result<bool, Refusal> {
         let by = &self.table[index];
+        if !self.tried[index] {
+            self.tried[index] = true;
+            run_calls(&by.before, &mut self.state)?;
+        }
         let passed = pass(by, &self.line, &mut self.state)?;
         if let Some(history) = &mut self.history {
             let (line, occurrences) = (passed.line.clone(), passed.occurrences);

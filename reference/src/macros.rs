@@ -1,4 +1,5 @@
-//! What a macro is: symbol, pattern, replacement and commands (reading 17).
+//! What a macro is: calls before its pattern, pattern, symbol, replacement and
+//! commands (reading 17; 02, reading 11).
 
 /// `=` keeps a macro open, `<` closes it to the line once it occurred.
 #[derive(Clone, Copy, Debug, PartialEq, Eq)]
@@ -76,7 +77,7 @@ pub enum Move {
     After(Sign),
 }
 
-/// One step of a replacement, or one command.
+/// One step of a replacement, one command, or one call before a pattern.
 #[derive(Clone, Debug, PartialEq, Eq)]
 pub enum Action {
     Literal(u8),
@@ -94,6 +95,8 @@ pub enum Action {
 
 #[derive(Clone, Debug, PartialEq, Eq)]
 pub struct Macro {
+    /// The calls before the pattern, which run when a line first tries it.
+    pub before: Vec<Action>,
     pub pattern: Vec<Item>,
     pub symbol: Symbol,
     pub replacement: Vec<Action>,

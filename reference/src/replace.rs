@@ -56,22 +56,36 @@ impl<'a> Occurrence<'a> {
                 store_tag(state, *i, self.tag(*n))?;
                 move_after(state, *i, *step)?;
             }
-            Action::StoreText(i, text, step) => {
-                move_before(state, *i, *step)?;
-                state.stack_mut(*i).store(text);
-                move_after(state, *i, *step)?;
-            }
-            Action::SetPointer(i, n) => state.stack_mut(*i).pointer = *n,
             Action::Value(i, step) => insert_value(state, *i, *step, new)?,
-            Action::SetCounter(i, n) => state.counter_mut(*i).value = *n,
-            Action::SetIncrement(i, n) => state.counter_mut(*i).increment = *n,
             Action::Divided(i, n) => {
                 let value = state.counter(*i).value;
                 new.append(format!("{} {}", value / n, value % n).as_bytes())?;
             }
+            needs_no_occurrence => set(needs_no_occurrence, state)?,
         }
         Ok(())
     }
+}
+
+/// The calls before a pattern act, from left to right.
+pub fn run_calls(calls: &[Action], state: &mut State) -> Result<(), Refusal> {
+    calls.iter().try_for_each(|call| set(call, state))
+}
+
+/// An action that inserts nothing and reads no tag.
+fn set(action: &Action, state: &mut State) -> Result<(), Refusal> {
+    match action {
+        Action::StoreText(i, text, step) => {
+            move_before(state, *i, *step)?;
+            state.stack_mut(*i).store(text);
+            move_after(state, *i, *step)?;
+        }
+        Action::SetPointer(i, n) => state.stack_mut(*i).pointer = *n,
+        Action::SetCounter(i, n) => state.counter_mut(*i).value = *n,
+        Action::SetIncrement(i, n) => state.counter_mut(*i).increment = *n,
+        _ => {}
+    }
+    Ok(())
 }
 
 fn move_before(state: &mut State, letter: u8, step: Option<Move>) -> Result<(), Refusal> {

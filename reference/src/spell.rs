@@ -62,7 +62,7 @@ fn ends_in_star(item: &Item) -> bool {
     matches!(item, Item::Element(Element::Unit(_, Closure::OneOrMore)))
 }
 
-/// A shortest spelling, from the first quote to the `;`.
+/// A shortest spelling, from the first byte to the `;`.
 pub fn shortest_spelling(spelled: &Macro) -> Vec<u8> {
     spell_macro(&Shortest, spelled)
 }

@@ -23,9 +23,10 @@ pub trait Rule {
     }
 }
 
-/// The macro from its first quote to its `;`.
+/// The macro from its first byte to its `;`.
 pub fn spell_macro(rule: &dyn Rule, spelled: &Macro) -> Vec<u8> {
     let mut speller = Speller { rule, bytes: Vec::new() };
+    speller.actions(&spelled.before);
     speller.bytes.push(b'\'');
     speller.pattern(&spelled.pattern);
     speller.bytes.push(b'\'');

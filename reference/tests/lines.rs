@@ -3,7 +3,7 @@
 #[allow(dead_code)]
 mod naive;
 
-use m7_reference::generate::{any_case, any_macro, bound_case, Random};
+use m7_reference::generate::{any_case, any_table, bound_case, Random};
 use m7_reference::line::{Answer, Engine, Fed, Kind};
 use m7_reference::macros::{Macro, Symbol};
 use m7_reference::read::read_file;
@@ -133,6 +133,17 @@ fn a_larger_budget_gives_the_same_answer() {
 /// Longer lines have too many divisions to list.
 const TRIED: usize = 9;
 
+/// How many lines showed what 02, N2 says of calls before a pattern.
+#[derive(Debug, Default)]
+struct Seen {
+    /// They ran, and one of them ended the line with 34.
+    ran: usize,
+    stopped: usize,
+    /// A macro still open fits the final text under the final state, but not
+    /// under the state of its last try.
+    fits_now: usize,
+}
+
 /// A line by the words of demand 3, without control lines.
 struct Naive<'a> {
     table: &'a [Macro],
@@ -142,8 +153,11 @@ struct Naive<'a> {
     /// Macros that have passed without an occurrence since the last one.
     passed_over: Vec<bool>,
     passes: u64,
+    /// The state in which each macro's last pass tried place 0.
+    last_try: Vec<Option<State>>,
     /// The lines of each pass with an occurrence.
     trace: Vec<u8>,
+    seen: &'a mut Seen,
 }
 
 impl Naive<'_> {
@@ -154,6 +168,13 @@ impl Naive<'_> {
 
     fn pass(&mut self, at: usize) -> Result<(), Refusal> {
         self.passes += 1;
+        if self.last_try[at].is_none() {
+            self.seen.ran += usize::from(!self.table[at].before.is_empty());
+            let ran = naive::run_before(&self.table[at], &mut self.state);
+            self.seen.stopped += usize::from(ran.is_err());
+            ran?;
+        }
+        self.last_try[at] = Some(self.state.clone());
         let (line, occurrences) = naive::pass(&self.table[at], &self.line, &mut self.state)?;
         if occurrences == 0 {
             self.passed_over[at] = true;
@@ -186,20 +207,27 @@ impl Naive<'_> {
         tried.then(|| Kind::Out(self.line.clone()))
     }
 
-    /// No macro still open has a division at any place of the final text.
-    fn no_division_is_left(&self) {
-        for at in (0..self.table.len()).filter(|at| self.open[*at]) {
-            for place in 0..=self.line.len() {
-                let pattern = &self.table[at].pattern;
-                assert_eq!(naive::chosen(pattern, &self.line, place, &self.state), None);
-            }
+    /// Whether a macro has a division at any place of the text under a state.
+    fn fits(&self, at: usize, state: &State) -> bool {
+        let pattern = &self.table[at].pattern;
+        let chosen = |place| naive::chosen(pattern, &self.line, place, state);
+        (0..=self.line.len()).any(|place| chosen(place).is_some())
+    }
+
+    /// No macro still open fits the final text under the state of its last try.
+    fn no_division_is_left(&mut self) {
+        let open: Vec<usize> = (0..self.table.len()).filter(|at| self.open[*at]).collect();
+        for at in &open {
+            let state = self.last_try[*at].as_ref().expect("each open macro was tried");
+            assert!(!self.fits(*at, state), "{:?} on {:?}", self.table, self.line);
         }
+        self.seen.fits_now += usize::from(open.iter().any(|at| self.fits(*at, &self.state)));
     }
 }
 
 /// The answer and the trace, and the state after it; none where the line
 /// cannot be tried.
-fn naive_line(engine: &Engine, line: &[u8], budget: u64) -> Option<(Fed, State)> {
+fn naive_line(engine: &Engine, line: &[u8], budget: u64, seen: &mut Seen) -> Option<(Fed, State)> {
     let mut naive = Naive {
         table: &engine.table,
         state: engine.state.clone(),
@@ -207,7 +235,9 @@ fn naive_line(engine: &Engine, line: &[u8], budget: u64) -> Option<(Fed, State)>
         open: vec![true; engine.table.len()],
         passed_over: vec![false; engine.table.len()],
         passes: 0,
+        last_try: vec![None; engine.table.len()],
         trace: Vec::new(),
+        seen,
     };
     let kind = naive.run(budget)?;
     let refused = matches!(kind, Kind::Refused(_));
@@ -222,16 +252,15 @@ fn naive_line(engine: &Engine, line: &[u8], budget: u64) -> Option<(Fed, State)>
 #[test]
 fn lines_are_those_of_demand_3() {
     let mut random = Random::new(9);
-    let mut compared = 0;
+    let (mut compared, mut seen) = (0, Seen::default());
     for _ in 0..SMALL {
         let count = 1 + random.below(3);
-        let table: Vec<Macro> = (0..count).map(|_| any_macro(&mut random, false)).collect();
-        let mut engine = Engine::new(table);
+        let mut engine = Engine::new(any_table(&mut random, false, count));
         engine.state.trace = random.one_in(2);
         for _ in 0..3 {
             let length = random.below(6);
             let line: Vec<u8> = (0..length).map(|_| *random.pick(b"aaaaaab1-\xe9")).collect();
-            let naive = naive_line(&engine, &line, 12);
+            let naive = naive_line(&engine, &line, 12, &mut seen);
             let fed = engine.feed_traced(&line, 12);
             if let Some((wanted, state)) = naive {
                 assert_eq!(fed, wanted, "{:?} on {line:?}", engine.table);
@@ -240,6 +269,6 @@ fn lines_are_those_of_demand_3() {
             }
         }
     }
-    println!("{compared} lines compared");
-    assert!(compared > SMALL);
+    println!("{compared} lines compared; {seen:?}");
+    assert!(compared > SMALL && [seen.ran, seen.stopped, seen.fits_now].iter().all(|n| *n > 40));
 }

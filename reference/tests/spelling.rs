@@ -142,19 +142,26 @@ fn among_all_short_texts_none_is_shorter() {
     let replacements = fewest_bytes("'{a}'='", "';", b"a\\&#():{}1", 5);
     let texts = fewest_bytes("'a'='&(a:", ":)';", b"a\\:/&({", 5);
     let counters = fewest_bytes("'a'='#(", ")';", b"a:,=10 +/", 5);
-    println!("{patterns} {signs} {classes} {replacements} {texts} {counters} macros");
+    let calls = fewest_bytes("#(a=1)&(a", ")'a'='';", b"a:=1+-\\)&", 5);
+    println!("{patterns} {signs} {classes} {replacements} {texts} {counters} {calls} macros");
     assert!(patterns > 1000 && signs > 1000 && classes > 1000 && replacements > 1000);
+    assert!(calls > 100);
 }
 
 fn of_actions(tags: usize, replacement: Vec<Action>, commands: Vec<Action>) -> Macro {
     let mut pattern = vec![Item::Open; tags];
     pattern.push(literal(b'a'));
     pattern.extend(vec![Item::Close; tags]);
-    Macro { pattern, symbol: Symbol::Equals, replacement, commands }
+    Macro { before: Vec::new(), pattern, symbol: Symbol::Equals, replacement, commands }
+}
+
+fn of_calls(before: Vec<Action>) -> Macro {
+    Macro { before, ..of_actions(1, Vec::new(), Vec::new()) }
 }
 
 fn of_pattern(pattern: Vec<Item>) -> Macro {
-    Macro { pattern, symbol: Symbol::Less, replacement: Vec::new(), commands: Vec::new() }
+    let (symbol, none) = (Symbol::Less, Vec::new);
+    Macro { before: none(), pattern, symbol, replacement: none(), commands: none() }
 }
 
 fn literal(byte: u8) -> Item {
@@ -202,5 +209,29 @@ fn some_macros_are_spelled_by_no_file() {
     ];
     for made in &not_spelled {
         assert!(!some_file_spells(made), "{made:?}");
+    }
+}
+
+/// Before a pattern no tag is stored, and nothing is inserted.
+#[test]
+fn some_calls_before_a_pattern_are_spelled_by_no_file() {
+    let text = |length: usize| Action::StoreText(b'a', vec![b'x'; length], None);
+    let spelled = [
+        of_calls(vec![text(50), Action::SetPointer(b'a', 20), Action::SetCounter(b'b', 1)]),
+        of_calls(vec![Action::SetIncrement(b'b', 100); 62]),
+    ];
+    assert!(spelled.iter().all(some_file_spells));
+    let not_spelled = [
+        of_calls(vec![Action::Tag(1)]),
+        of_calls(vec![Action::Literal(b'a')]),
+        of_calls(vec![Action::Entry(b'a', None)]),
+        of_calls(vec![Action::Value(b'a', None)]),
+        of_calls(vec![Action::Divided(b'a', 4)]),
+        of_calls(vec![Action::StoreTag(1, b'a', None)]),
+        of_calls(vec![text(51)]),
+        of_calls(vec![Action::SetIncrement(b'b', 100); 63]),
+    ];
+    for made in not_spelled {
+        assert!(!some_file_spells(&made), "{made:?}");
     }
 }

@@ -6,5 +6,5 @@ mod table;
 mod taken;
 
 pub use state::{state_form, state_of};
-pub use table::{slot_form, table_form, SLOT_BYTES};
+pub use table::{slot_form, table_form, HEADER_BYTES, SLOT_BYTES};
 pub use taken::table_of;

@@ -6,6 +6,8 @@ use m7_reference::macros::{
 };
 
 pub const SLOT_BYTES: usize = 1024;
+/// Symbol, tags and four lengths.
+pub const HEADER_BYTES: usize = 10;
 
 /// Puts a table's form over whatever `bytes` held.
 pub fn table_form(table: &[Macro], bytes: &mut [u8]) {
@@ -16,8 +18,9 @@ pub fn table_form(table: &[Macro], bytes: &mut [u8]) {
     bytes[SLOT_BYTES * table.len()..].fill(0);
 }
 
-/// Symbol, tags, the lengths of the three parts, the parts, zeros.
+/// Symbol, tags, the lengths of the four parts, the parts, zeros.
 pub fn slot_form(made: &Macro) -> Vec<u8> {
+    let before: Vec<u8> = made.before.iter().flat_map(action_items).collect();
     let pattern: Vec<u8> = made.pattern.iter().flat_map(piece_items).collect();
     let replacement: Vec<u8> = made.replacement.iter().flat_map(action_items).collect();
     let commands: Vec<u8> = made.commands.iter().flat_map(action_items).collect();
@@ -26,10 +29,10 @@ pub fn slot_form(made: &Macro) -> Vec<u8> {
         Symbol::Equals => 2,
     };
     let mut slot = vec![symbol, made.tags() as u8];
-    for part in [&pattern, &replacement, &commands] {
+    for part in [&before, &pattern, &replacement, &commands] {
         slot.extend((part.len() as u16).to_le_bytes());
     }
-    slot.extend([pattern, replacement, commands].concat());
+    slot.extend([before, pattern, replacement, commands].concat());
     slot.resize(SLOT_BYTES.max(slot.len()), 0);
     slot
 }

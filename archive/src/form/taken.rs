@@ -2,7 +2,7 @@
 //! care; they are a form exactly if the table found has that form, and 01
 //! takes it exactly if some file spells each of its macros.
 
-use super::table::{slot_form, SLOT_BYTES};
+use super::table::{slot_form, HEADER_BYTES, SLOT_BYTES};
 use crate::engine::TABLE_BYTES;
 use m7_reference::macros::{
     Action, Class, Closure, Element, Item, Macro, Member, Move, Sign, Symbol, Table, Unit,
@@ -20,12 +20,14 @@ pub fn table_of(bytes: &[u8]) -> Option<Table> {
 
 fn macro_of(slot: &[u8]) -> Option<Macro> {
     let length = |at: usize| u16::from_le_bytes([slot[at], slot[at + 1]]) as usize;
-    let mut items = Items { bytes: &slot[8..] };
-    let mut pattern = items.part(length(2))?;
-    let mut replacement = items.part(length(4))?;
-    let mut commands = items.part(length(6))?;
+    let mut items = Items { bytes: &slot[HEADER_BYTES..] };
+    let mut before = items.part(length(2))?;
+    let mut pattern = items.part(length(4))?;
+    let mut replacement = items.part(length(6))?;
+    let mut commands = items.part(length(8))?;
     let made = Macro {
         symbol: if slot[0] == 1 { Symbol::Less } else { Symbol::Equals },
+        before: all(&mut before, action)?,
         pattern: all(&mut pattern, piece)?,
         replacement: all(&mut replacement, action)?,
         commands: all(&mut commands, action)?,

@@ -3,8 +3,9 @@
 
 use super::{refused, Group, Trial, OLD};
 use crate::engine::{self, FILE_BYTES, OUTPUT_BYTES, STATE_BYTES, TABLE_BYTES, TRACE_BYTES};
-use crate::form::{state_of, table_of, SLOT_BYTES};
+use crate::form::{slot_form, state_of, table_of, HEADER_BYTES, SLOT_BYTES};
 use m7_reference::generate::Random;
+use std::mem::swap;
 
 /// A place of the table, mostly in a macro or a little behind it.
 fn table_place(random: &mut Random, table: &[u8]) -> usize {
@@ -14,9 +15,9 @@ fn table_place(random: &mut Random, table: &[u8]) -> usize {
     }
     let slot = random.below(macros);
     let bytes = &table[SLOT_BYTES * slot..SLOT_BYTES * (slot + 1)];
-    let used = bytes.iter().rposition(|byte| *byte != 0).map_or(8, |last| last + 2);
+    let used = bytes.iter().rposition(|byte| *byte != 0).map_or(HEADER_BYTES, |last| last + 2);
     let place = match random.below(4) {
-        0 => random.below(8),
+        0 => random.below(HEADER_BYTES),
         1 => random.below(used) | 1,
         _ => random.below(used),
     };
@@ -72,11 +73,31 @@ fn other_size(random: &mut Random, size: usize) -> usize {
 }
 
 impl Trial {
+    /// Another byte in the table, or in one of eight a macro's parts exchanged.
     fn change_table(&mut self, random: &mut Random) {
-        let place = table_place(random, &self.table_bytes);
-        self.table_bytes[place] = other_byte(random, self.table_bytes[place]);
+        if !random.one_in(8) || !self.exchange_parts(random) {
+            let place = table_place(random, &self.table_bytes);
+            self.table_bytes[place] = other_byte(random, self.table_bytes[place]);
+        }
         self.table.hold(&self.table_bytes);
         self.plain_table = table_of(&self.table_bytes);
+    }
+
+    /// Exchanges the calls before a macro's pattern and its commands or its
+    /// replacement; whether there were any. A tag stored or a text inserted
+    /// before a pattern is 1.
+    fn exchange_parts(&mut self, random: &mut Random) -> bool {
+        let table = self.plain_table.as_deref().unwrap_or_default();
+        if table.is_empty() {
+            return false;
+        }
+        let at = random.below(table.len());
+        let mut made = table[at].clone();
+        let other = if random.one_in(2) { &mut made.commands } else { &mut made.replacement };
+        swap(&mut made.before, other);
+        let slot = &mut self.table_bytes[SLOT_BYTES * at..SLOT_BYTES * (at + 1)];
+        slot.copy_from_slice(&slot_form(&made));
+        made != table[at]
     }
 
     fn change_state(&mut self, random: &mut Random) {
@@ -97,7 +118,7 @@ impl Trial {
         self.plain_state = None;
     }
 
-    /// Writing out and feeding with a byte of the table changed.
+    /// Writing out and feeding with the table changed.
     pub fn changed_table(&mut self, random: &mut Random, line: &[u8]) {
         let kept = self.keep();
         self.change_table(random);

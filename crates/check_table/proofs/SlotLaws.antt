@@ -6,11 +6,13 @@ use mathlib.Core.List.{List}
 use native.Mathlib.Nat.{add-zero}
 use native.Mathlib.Omega.{arith}
 use borrow.Author.Tests.{eq-eqb, ne-eqb, le-leb, lt-leb}
+use lib.Dec.{leb}
 use lib.ListN.{length, getD, take, drop, length-drop}
 use lib.Seq.{take-all, getD-drop, drop-drop}
 use Rattle.macros.specs.Macro.{within}
 use Rattle.form_bytes.specs.Zeros.{allZero}
-use Rattle.form_table.specs.Check.{itemsFit, twoAt, partsFit, slotFits, slotsFit, checks}
+use Rattle.form_table.specs.Form.{slotBytes, headerBytes, bodyBytes}
+use Rattle.form_table.specs.Check.{itemsFit, twoAt, itemsAt, partsFit, slotFits, slotsFit, checks}
 
 -- what a part without an end has
 rest : (s : List ℕ) (m : ℕ) → take (length s - m) (drop m s) ≡ drop m s
@@ -18,28 +20,46 @@ rest s m = take-all (length s - m) (drop m s) (simp length-drop (omega arith))
 
 -- A SLOT
 
-module _ (s : List ℕ) (p r c : ℕ) (a : p ≡ twoAt s 2) (b : r ≡ twoAt s 4) (d : c ≡ twoAt s 6) (symbol : within 1 2 (getD s 0 0) ≡ true) where
-  parts : slotFits s ≡ partsFit s p r c
+module _ (s : List ℕ) (b p r c : ℕ) (before : b ≡ twoAt s 2) (pattern : p ≡ twoAt s 4) (replacement : r ≡ twoAt s 6) (commands : c ≡ twoAt s 8)
+    (symbol : within 1 2 (getD s 0 0) ≡ true) where
+  parts : slotFits s ≡ partsFit s b p r c
   unfolding slotFits
-  parts = rw (symbol, a, b, d)
+  parts = rw (symbol, before, pattern, replacement, commands)
 
-  pub slot-long : 1024 < 8 + p + r + c → slotFits s ≡ false
+  pub slot-long : slotBytes < headerBytes + b + p + r + c → slotFits s ≡ false
   unfolding partsFit
-  slot-long h = parts ∙ rw (lt-leb (p + r + c) 1016 (omega arith))
+  slot-long h = parts ∙ rw (lt-leb (b + p + r + c) bodyBytes (omega arith))
 
-  pub slot-tail : 8 + p + r + c ≤ 1024 → allZero (take (length s - (8 + p + r + c)) (drop (8 + p + r + c) s)) ≡ false → slotFits s ≡ false
-  unfolding partsFit
-  slot-tail h z = parts ∙ rw (le-leb (p + r + c) 1016 (omega arith), ap allZero (sym (rest s (8 + p + r + c))) ∙ z)
+  module _ (h : headerBytes + b + p + r + c ≤ slotBytes) where
+    few : leb (b + p + r + c) bodyBytes ≡ true
+    few = le-leb (b + p + r + c) bodyBytes (omega arith)
 
-  pub slot-items :
-      8 + p + r + c ≤ 1024 → allZero (take (length s - (8 + p + r + c)) (drop (8 + p + r + c) s)) ≡ true
-      → itemsFit (getD s 1 0) (take (8 + p - 8) (drop 8 s)) (take (8 + p + r - (8 + p)) (drop (8 + p) s)) (take (8 + p + r + c - (8 + p + r)) (drop (8 + p + r) s)) ≡ slotFits s
-  unfolding partsFit
-  slot-items h z =
-      let e : 8 + p - 8 ≡ p = omega arith in
-      let f : 8 + p + r - (8 + p) ≡ r = omega arith in
-      let g : 8 + p + r + c - (8 + p + r) ≡ c = omega arith in
-      rw (e, f, g) (sym (parts ∙ rw (le-leb (p + r + c) 1016 (omega arith), ap allZero (sym (rest s (8 + p + r + c))) ∙ z)))
+    pub slot-tail : allZero (take (length s - (headerBytes + b + p + r + c)) (drop (headerBytes + b + p + r + c) s)) ≡ false → slotFits s ≡ false
+    unfolding partsFit
+    slot-tail z = parts ∙ rw (few, ap allZero (sym (rest s (headerBytes + b + p + r + c))) ∙ z)
+
+    -- what the code takes for the items at a place
+    items : (at n k : ℕ) → at ≡ headerBytes + n → take (at + k - at) (drop at s) ≡ itemsAt s n k
+    unfolding itemsAt
+    items at n k e = let f : at + k - at ≡ k = omega arith in rw (f, e)
+
+    pub slot-items :
+        allZero (take (length s - (headerBytes + b + p + r + c)) (drop (headerBytes + b + p + r + c) s)) ≡ true
+        → itemsFit (getD s 1 0)
+        (take (headerBytes + b - headerBytes) (drop headerBytes s))
+        (take (headerBytes + b + p - (headerBytes + b)) (drop (headerBytes + b) s))
+        (take (headerBytes + b + p + r - (headerBytes + b + p)) (drop (headerBytes + b + p) s))
+        (take (headerBytes + b + p + r + c - (headerBytes + b + p + r)) (drop (headerBytes + b + p + r) s))
+        ≡ slotFits s
+    unfolding partsFit
+    slot-items z =
+        rw (
+          items headerBytes 0 b (omega arith),
+          items (headerBytes + b) b p (omega arith),
+          items (headerBytes + b + p) (b + p) r (omega arith),
+          items (headerBytes + b + p + r) (b + p + r) c (omega arith),
+        )
+        (sym (parts ∙ rw (few, ap allZero (sym (rest s (headerBytes + b + p + r + c))) ∙ z)))
 
 -- SLOTS
 

@@ -1,5 +1,10 @@
 // 01, refusal 1: whether lent bytes are the form of an accepted table.
 use form_bytes::all_zero;
+use form_items::layout::BEFORE_AT;
+use form_items::layout::COMMANDS_AT;
+use form_items::layout::HEADER_BYTES;
+use form_items::layout::PATTERN_AT;
+use form_items::layout::REPLACEMENT_AT;
 use form_items::two_at;
 ghost use mathlib.Core.Path.{_≡_};
 ghost use Prim.Native.Nat.{_≤_};
@@ -10,10 +15,10 @@ mod actions;
 mod bytes;
 mod pattern;
 
-// Pattern, replacement and commands behind a header of k tags.
-fn items_fit(k: u8, ps: &[u8], rs: &[u8], cs: &[u8]) -> bool
-    requires { ⌜ (length (now ps) ≤ 1024) × (length (now rs) ≤ 1024) × (length (now cs) ≤ 1024) ⌝ }
-    ensures { λ r. ⌜ r ≡ itemsFit k (now (ps .entry)) (now (rs .entry)) (now (cs .entry)) ⌝ }
+// The calls before a pattern, pattern, replacement and commands behind a header of k tags; those calls have no tag to store.
+fn items_fit(k: u8, bs: &[u8], ps: &[u8], rs: &[u8], cs: &[u8]) -> bool
+    requires { ⌜ (length (now bs) ≤ 1024) × (length (now ps) ≤ 1024) × (length (now rs) ≤ 1024) × (length (now cs) ≤ 1024) ⌝ }
+    ensures { λ r. ⌜ r ≡ itemsFit k (now (bs .entry)) (now (ps .entry)) (now (rs .entry)) (now (cs .entry)) ⌝ }
 {
     let walked = pattern::walk_pattern(ps);
     let pattern::PatternNext::At(p) = walked else {
@@ -33,7 +38,14 @@ fn items_fit(k: u8, ps: &[u8], rs: &[u8], cs: &[u8]) -> bool
     let actions::ActionNext::At(c) = commanded else {
         return false;
     };
-    actions::actions_end(c) & (c.spelled <= 512)
+    if !actions::actions_end(c) {
+        return false;
+    }
+    let called = actions::walk_actions(true, 0, c.spelled, bs);
+    let actions::ActionNext::At(b) = called else {
+        return false;
+    };
+    actions::actions_end(b) & (b.spelled <= 512)
 }
 
 fn slot_fits(s: &[u8]) -> bool
@@ -43,9 +55,10 @@ fn slot_fits(s: &[u8]) -> bool
     if !bytes::is_within(1, 2, s[0]) {
         return false;
     }
-    let replacement = 8 + two_at(s, 2);
-    let commands = replacement + two_at(s, 4);
-    let end = commands + two_at(s, 6);
+    let pattern = HEADER_BYTES + two_at(s, BEFORE_AT);
+    let replacement = pattern + two_at(s, PATTERN_AT);
+    let commands = replacement + two_at(s, REPLACEMENT_AT);
+    let end = commands + two_at(s, COMMANDS_AT);
     if 1024 < end {
         return false;
     }
@@ -54,7 +67,8 @@ fn slot_fits(s: &[u8]) -> bool
     }
     items_fit(
         s[1],
-        &s[8..replacement],
+        &s[HEADER_BYTES..pattern],
+        &s[pattern..replacement],
         &s[replacement..commands],
         &s[commands..end],
     )

@@ -1,5 +1,6 @@
 // Items of two bytes, a code of the table's form and an operand: storing one, and how many bytes an action's take; a number in two bytes; and storing zeros.
 pub mod codes;
+pub mod layout;
 
 ghost use Prim.Native.Nat.{_≤_, _<_, _+_};
 ghost use mathlib.Core.Path.{_≡_};

@@ -14,7 +14,8 @@ use Rattle.form_table.specs.Form.{slotBytes, patternItems, replacementIt
 use Rattle.form_table.specs.FormLaws.{OneForm}
 use Rattle.form_table.specs.Check.{twoAt}
 use Rattle.form_table.proofs.Basics.{clash}
-use Rattle.form_table.proofs.Slots.{pattern-part, replacement-part, commands-part, pattern-at, replacement-at, commands-at, symbol-at}
+use Rattle.form_table.proofs.Slots.{before-part, pattern-part, replacement-part, commands-part}
+use Rattle.form_table.proofs.Slots.{before-at, pattern-at, replacement-at, commands-at, symbol-at}
 use Rattle.form_table.proofs.Tables.{filled, zero-first, first-slot, more-slots, first-used}
 use Rattle.form_table.proofs.Decoded.{one-pattern, one-replacement, one-commands}
 
@@ -26,33 +27,42 @@ one-symbol less equal e = absurd (omega arith)
 one-symbol less less e = refl
 
 module _ (m k : Macro) (e : slot m ≡ slot k) where
+  same-before : callsItems (m .before) ≡ callsItems (k .before)
+  same-before =
+      let l : length (callsItems (m .before)) ≡ length (callsItems (k .before)) = sym (before-at m) ∙ (ap (λ (s : List ℕ). twoAt s 2) e ∙ before-at k) in
+      sym (before-part m) ∙ rw (l, e) (before-part k)
+
   same-pattern : patternItems (m .pattern) ≡ patternItems (k .pattern)
   same-pattern =
-      let l : length (patternItems (m .pattern)) ≡ length (patternItems (k .pattern)) = sym (pattern-at m) ∙ (ap (λ (s : List ℕ). twoAt s 2) e ∙ pattern-at k) in
-      sym (pattern-part m) ∙ rw (l, e) (pattern-part k)
+      let b : length (callsItems (m .before)) ≡ length (callsItems (k .before)) = ap (λ (s : List ℕ). length s) same-before in
+      let l : length (patternItems (m .pattern)) ≡ length (patternItems (k .pattern)) = sym (pattern-at m) ∙ (ap (λ (s : List ℕ). twoAt s 4) e ∙ pattern-at k) in
+      sym (pattern-part m) ∙ rw (b, l, e) (pattern-part k)
 
   same-replacement : replacementItems (m .replacement) ≡ replacementItems (k .replacement)
   same-replacement =
+      let b : length (callsItems (m .before)) ≡ length (callsItems (k .before)) = ap (λ (s : List ℕ). length s) same-before in
       let p : length (patternItems (m .pattern)) ≡ length (patternItems (k .pattern)) = ap (λ (s : List ℕ). length s) same-pattern in
       let l : length (replacementItems (m .replacement)) ≡ length (replacementItems (k .replacement)) =
-      sym (replacement-at m) ∙ (ap (λ (s : List ℕ). twoAt s 4) e ∙ replacement-at k) in
-      sym (replacement-part m) ∙ rw (p, l, e) (replacement-part k)
+      sym (replacement-at m) ∙ (ap (λ (s : List ℕ). twoAt s 6) e ∙ replacement-at k) in
+      sym (replacement-part m) ∙ rw (b, p, l, e) (replacement-part k)
 
   same-commands : callsItems (m .commands) ≡ callsItems (k .commands)
   same-commands =
+      let b : length (callsItems (m .before)) ≡ length (callsItems (k .before)) = ap (λ (s : List ℕ). length s) same-before in
       let p : length (patternItems (m .pattern)) ≡ length (patternItems (k .pattern)) = ap (λ (s : List ℕ). length s) same-pattern in
       let r : length (replacementItems (m .replacement)) ≡ length (replacementItems (k .replacement)) = ap (λ (s : List ℕ). length s) same-replacement in
-      let l : length (callsItems (m .commands)) ≡ length (callsItems (k .commands)) = sym (commands-at m) ∙ (ap (λ (s : List ℕ). twoAt s 6) e ∙ commands-at k) in
-      sym (commands-part m) ∙ rw (p, r, l, e) (commands-part k)
+      let l : length (callsItems (m .commands)) ≡ length (callsItems (k .commands)) = sym (commands-at m) ∙ (ap (λ (s : List ℕ). twoAt s 8) e ∙ commands-at k) in
+      sym (commands-part m) ∙ rw (b, p, r, l, e) (commands-part k)
 
   one-macro : Spellable m → Spellable k → m ≡ k
   one-macro f g =
+      let b : m .before ≡ k .before = one-commands (m .before) (k .before) same-before in
       let p : m .pattern ≡ k .pattern = one-pattern (m .pattern) (k .pattern) (f .0 .pattern .pieces) (g .0 .pattern .pieces) same-pattern in
       let y : m .symbol ≡ k .symbol =
       one-symbol (m .symbol) (k .symbol) (sym (symbol-at m) ∙ (ap (λ (s : List ℕ). getD s 0 0) e ∙ symbol-at k)) in
       let r : m .replacement ≡ k .replacement = one-replacement (m .replacement) (k .replacement) same-replacement in
       let c : m .commands ≡ k .commands = one-commands (m .commands) (k .commands) same-commands in
-      λ i. record { pattern = p i; symbol = y i; replacement = r i; commands = c i }
+      λ i. record { before = b i; pattern = p i; symbol = y i; replacement = r i; commands = c i }
 
 one-table : (n : ℕ) (ms ks : Table) → length ms ≤ n → length ks ≤ n → Each Spellable ms → Each Spellable ks → filled n ms ≡ filled n ks → ms ≡ ks
 unfolding slots

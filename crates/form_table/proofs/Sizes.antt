@@ -119,15 +119,28 @@ replacement-size a (x ∷ xs) = simp length-append (omega (arith, action-size a 
 
 -- A MACRO
 
--- the shortest spelling by its three parts
+-- the shortest spelling by its four parts
 pub shortest-size : (m : Macro) → length (shortest m)
-    ≡ 6 + length (spellPattern nothing (m .pattern)) + length (spellReplacement none (m .replacement)) + length (commandsBytes spellText (m .commands))
+    ≡ 6 + length (commandsBytes spellText (m .before)) + length (spellPattern nothing (m .pattern))
+    + length (spellReplacement none (m .replacement)) + length (commandsBytes spellText (m .commands))
 unfolding shortest
 shortest-size m = simp length-append (omega arith)
 
-pub body-length : (m : Macro) → length (body m) ≡ length (patternItems (m .pattern)) + length (replacementItems (m .replacement)) + length (callsItems (m .commands))
+-- the items by their four parts
+pub body-length : (m : Macro) → length (body m)
+    ≡ length (callsItems (m .before)) + length (patternItems (m .pattern))
+    + length (replacementItems (m .replacement)) + length (callsItems (m .commands))
 unfolding body
 body-length m = simp length-append (omega arith)
 
 pub bodySize : BodySize
-bodySize m = omega (arith, shortest-size m, body-length m, pattern-size nothing (m .pattern), replacement-size none (m .replacement), calls-size (m .commands))
+bodySize m =
+    omega (
+      arith,
+      shortest-size m,
+      body-length m,
+      calls-size (m .before),
+      pattern-size nothing (m .pattern),
+      replacement-size none (m .replacement),
+      calls-size (m .commands),
+    )

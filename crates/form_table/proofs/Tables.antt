@@ -14,7 +14,7 @@ use Rattle.macros.specs.Macro.Symbol.{equal, less}
 use Rattle.macros.specs.Formed.{Octets}
 use Rattle.macros.specs.Accepted.{Spellable, Each, Accepted}
 use Rattle.macros.proofs.Laws.{accepted-means, each-spellable}
-use Rattle.form_table.specs.Form.{slotBytes, bodyBytes, tableBytes, patternItems, replacementItems, two, symbolCode, header, body, slot, slots, form}
+use Rattle.form_table.specs.Form.{slotBytes, bodyBytes, tableBytes, patternItems, replacementItems, callsItems, two, symbolCode, header, body, slot, slots, form}
 use Rattle.form_table.specs.FormLaws.{Fits, FormSize}
 use Rattle.form_bytes.specs.Zeros.{allZero}
 use Rattle.form_table.specs.Check.{slotFits, slotsFit, checks, CheckExact}
@@ -54,8 +54,9 @@ module _ (m : Macro) (f : Spellable m) where
   unfolding body
   body-octets =
       let k : tags (reverse (m .pattern)) ≤ mostTags = few-tags (reverse (m .pattern)) (f .0 .pattern .pieces) in
-      octets-append (patternItems (m .pattern)) _ (pattern-octets (m .pattern) [] (f .0 .pattern .pieces))
-      (octets-append (replacementItems (m .replacement)) _ (replacement-octets _ (m .replacement) k (f .0 .replacement)) (commands-octets _ (m .commands) k (f .0 .commands)))
+      octets-append (callsItems (m .before)) _ (commands-octets 0 (m .before) (omega arith) (f .0 .before))
+      (octets-append (patternItems (m .pattern)) _ (pattern-octets (m .pattern) [] (f .0 .pattern .pieces))
+      (octets-append (replacementItems (m .replacement)) _ (replacement-octets _ (m .replacement) k (f .0 .replacement)) (commands-octets _ (m .commands) k (f .0 .commands))))
 
   header-octets : Octets (header m)
   unfolding header two

@@ -1,4 +1,5 @@
--- The walk over the items of a replacement, or of commands: what no form has is refused, and the shortest spelling's bytes are counted.
+-- The walk over the items of a replacement, or of commands (those before a pattern are such too): what no form has is refused, and the
+-- shortest spelling's bytes are counted.
 use Prim.Native.Nat.{ℕ, _+_, _-_, _*_, _/_, _%_}
 use mathlib.Core.Bool.{Bool, true, false, not, _&&_, _||_}
 use mathlib.Core.List.{[], _∷_}
@@ -115,7 +116,7 @@ textStep n q c o =
 unfoldable pub highStep : (n l w : ℕ) → Option ActionState
 highStep n l w = given (within 1 l w) (actionAt (n + figures w) (behindAction false))
 
--- the items of a replacement, or of commands, behind a pattern of k tags
+-- the items of a replacement, or of commands, where k tags may be named
 unfoldable pub actionStep : (cmd : Bool) → (k : ℕ) → ActionState → ℕ → ℕ → Option ActionState
 actionStep cmd k (actionAt n (behindAction a)) c o = beginStep cmd k n a c o
 actionStep cmd k (actionAt n tagDue) c o = given (eqb c 42 && within 1 k o) (actionAt (n + figures o) (behindAction false))

@@ -1,6 +1,6 @@
 -- The form of a table as bytes: 96 slots of 1,024 bytes, oldest macro first; unused bytes are zero.
--- A slot: its symbol (1 for `<`, 2 for `=`), its tags, the lengths of its three parts (two bytes each, low byte first),
--- then pattern, replacement and commands in items of two bytes, and zeros.
+-- A slot: its symbol (1 for `<`, 2 for `=`), its tags, the lengths of its four parts (two bytes each, low byte first),
+-- then the calls before its pattern, pattern, replacement and commands in items of two bytes, and zeros.
 use Prim.Native.Nat.{ℕ, zero, suc, _+_, _-_, _*_, _/_, _%_}
 use mathlib.Core.Bool.{Bool, true, false}
 use mathlib.Core.List.{List, [], _∷_, _++_}
@@ -23,9 +23,13 @@ use Rattle.macros.specs.Macro.Symbol.{equal, less}
 abbrev pub slotBytes : ℕ
 slotBytes = 1024
 
+-- the bytes of a slot's symbol, tags and lengths
+abbrev pub headerBytes : ℕ
+headerBytes = 10
+
 -- the bytes of a slot behind its lengths
 abbrev pub bodyBytes : ℕ
-bodyBytes = 1016
+bodyBytes = 1014
 
 abbrev pub tableBytes : ℕ
 tableBytes = 98304
@@ -127,11 +131,12 @@ symbolCode equal = 2
 unfoldable pub header : Macro → List ℕ
 header m =
     symbolCode (m .symbol) ∷ tags (m .pattern)
-    ∷ (two (length (patternItems (m .pattern)))
-    ++ (two (length (replacementItems (m .replacement))) ++ two (length (callsItems (m .commands)))))
+    ∷ (two (length (callsItems (m .before)))
+    ++ (two (length (patternItems (m .pattern)))
+    ++ (two (length (replacementItems (m .replacement))) ++ two (length (callsItems (m .commands))))))
 
 unfoldable pub body : Macro → List ℕ
-body m = patternItems (m .pattern) ++ (replacementItems (m .replacement) ++ callsItems (m .commands))
+body m = callsItems (m .before) ++ (patternItems (m .pattern) ++ (replacementItems (m .replacement) ++ callsItems (m .commands)))
 
 unfoldable pub slot : Macro → List ℕ
 slot m = header m ++ (body m ++ replicate (bodyBytes - length (body m)) 0)

@@ -1,6 +1,6 @@
 -- What the form of a table is held to.
 -- FormSize rules out must-fail/form_size_body, form_size_class_end and form_size_tail,
--- OneForm must-fail/one_form_call_code and one_form_symbol.
+-- OneForm must-fail/one_form_before, one_form_call_code and one_form_symbol.
 use Prim.Native.Nat.{_*_, _-_, _≤_}
 use mathlib.Core.Path.{_≡_}
 use lib.ListN.{length}

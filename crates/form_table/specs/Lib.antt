@@ -5,3 +5,4 @@ pub mod Walk
 pub mod PatternWalk
 pub mod ActionWalk
 pub mod Check
+pub mod FormCases

@@ -1,4 +1,4 @@
--- The macros that are due, by the bytes that say which are closed.
+-- The macros that are due, and those that have passed, by the bytes that say so.
 -- Assumes nothing.
 use Prim.Native.Nat.{ℕ, zero, suc, _+_, _-_, _≤_, _<_}
 use mathlib.Core.Path.{_≡_, refl, ap, sym, _∙_}
@@ -17,7 +17,7 @@ use Rattle.macros.specs.Macro.Symbol.{equal, less}
 use Rattle.form_table.specs.Form.{symbolCode}
 use Rattle.lines.specs.Line.{Numbered, isIn, unlessClosed, openFrom, newestFirst, closing, isControl}
 use Rattle.line_memory.specs.Memory.{IsTable}
-use Rattle.line_passes.specs.Passing.{dueBelow, isSet, Closes, closedFlags, OpenBelow}
+use Rattle.line_passes.specs.Flags.{dueBelow, isSet, Begun, Closes, begunFlags, closedFlags, OpenBelow}
 use Rattle.line_memory.proofs.Slotting.{SlotAt, slot-at}
 
 -- WHICH ARE DUE
@@ -58,16 +58,13 @@ module _ (closed : List ℕ) (ms : Table) where
 
 -- THE BYTES
 
-set-true : (n : ℕ) → (n ≡ 0 → ⊥) → isSet n ≡ true
+pub set-true : (n : ℕ) → (n ≡ 0 → ⊥) → isSet n ≡ true
 set-true zero f = absurd (f refl)
 set-true (suc n) f = refl
 
-set-false : (n : ℕ) → n ≡ 0 → isSet n ≡ false
-set-false n e = ap isSet e
-
 module _ (table : List ℕ) (ms : Table) (h : IsTable table ms) (flags closed : List ℕ) (g : Closes flags closed) where
   -- closed macros are passed over
-  pub skipped : (k r : ℕ) → k ≤ length ms → r ≤ k → ((i : ℕ) → r ≤ i → i < k → getD flags i 0 ≡ 0 → ⊥) → dueBelow k closed ms ≡ dueBelow r closed ms
+  pub skipped : (k r : ℕ) → k ≤ length ms → r ≤ k → ((i : ℕ) → r ≤ i → i < k → getD flags i 0 ≡ 1) → dueBelow k closed ms ≡ dueBelow r closed ms
   unfolding unlessClosed
   skipped zero r l e f = let z : r ≡ 0 = omega arith in rw z refl
   skipped (suc k) r l e f = by (decLe r k) (λ y. skipped k r (omega arith) y (λ i a b. f i a (omega arith)))
@@ -76,7 +73,7 @@ module _ (table : List ℕ) (ms : Table) (h : IsTable table ms) (flags closed : 
       by (no n) ih = let z : r ≡ suc k = omega arith in rw z refl
       by (yes y) ih =
           let s = slot-at table ms h k (omega arith) in
-          let c : isIn k closed ≡ true = g k (omega (arith, h .accepted .count)) ∙ set-true (getD flags k 0) (f k y (omega arith)) in
+          let c : isIn k closed ≡ true = g k (omega (arith, h .accepted .count)) ∙ eq-eqb (getD flags k 0) 1 (f k y (omega arith)) in
           due-next closed ms k (s .macro) (omega arith) (s .there) ∙ (rw c refl ∙ ih y)
 
   -- none is open
@@ -88,14 +85,18 @@ module _ (table : List ℕ) (ms : Table) (h : IsTable table ms) (flags closed : 
   pub first-due : (k r : ℕ) → k ≤ length ms → OpenBelow flags k (suc r) → (s : SlotAt table ms r) → dueBelow k closed ms ≡ record { number = r; macro = s .macro } ∷ dueBelow r closed ms
   unfolding unlessClosed
   first-due k r l o s =
-      let c : isIn r closed ≡ false = g r (omega (arith, h .accepted .count, o .below)) ∙ set-false (getD flags r 0) (o .opened r refl) in
+      let c : isIn r closed ≡ false = g r (omega (arith, h .accepted .count, o .below)) ∙ ne-eqb (getD flags r 0) 1 (o .opened r refl) in
       skipped k (suc r) l (o .below) (o .closed) ∙ (due-next closed ms r (s .macro) (omega (arith, o .below)) (s .there) ∙ rw c refl)
 
--- CLOSING
+-- CLOSED AND BEGUN
 
 pub none-closed : Closes (replicate mostMacros 0) []
 unfolding isIn
-none-closed i h = sym (set-false (getD (replicate mostMacros 0) i 0) (getD-replicate mostMacros i 0 0 h))
+none-closed i h = sym (ap (λ (b : ℕ). eqb b 1) (getD-replicate mostMacros i 0 0 h))
+
+pub none-begun : Begun (replicate mostMacros 0) []
+unfolding isIn
+none-begun i h = sym (ap isSet (getD-replicate mostMacros i 0 0 h))
 
 module _ (i k : ℕ) (ks : List ℕ) where
   in-split : (b : Bool) → eqb i k ≡ b → isIn i (k ∷ ks) ≡ elim b [ true ↦ true | false ↦ isIn i ks ]
@@ -107,9 +108,44 @@ unfolding closedFlags symbolCode closing pick
 closes-more flags closed k g l equal i h = g i h
 closes-more flags closed k g l less i h = by (eqb i k) refl
   where
-    by : (b : Bool) → eqb i k ≡ b → isIn i (k ∷ closed) ≡ isSet (getD (set flags k 1) i 0)
-    by true e = in-split i k closed true e ∙ sym (ap (λ (j : ℕ). isSet (getD (set flags k 1) j 0)) (eqb-true i k e) ∙ ap isSet (getD-set-same flags k 1 0 l))
-    by false e = in-split i k closed false e ∙ (g i h ∙ sym (ap isSet (getD-set-other flags k i 1 0 (eqb-false i k e))))
+    by : (b : Bool) → eqb i k ≡ b → isIn i (k ∷ closed) ≡ eqb (getD (set flags k 1) i 0) 1
+    by true e = in-split i k closed true e ∙ sym (ap (λ (j : ℕ). eqb (getD (set flags k 1) j 0) 1) (eqb-true i k e) ∙ ap (λ (b : ℕ). eqb b 1) (getD-set-same flags k 1 0 l))
+    by false e = in-split i k closed false e ∙ (g i h ∙ sym (ap (λ (b : ℕ). eqb b 1) (getD-set-other flags k i 1 0 (eqb-false i k e))))
+
+module _ (flags : List ℕ) (k : ℕ) (l : k < length flags) where
+  -- an open macro that begins stays open
+  pub closes-begun : (closed : List ℕ) → (getD flags k 0 ≡ 1 → ⊥) → Closes flags closed → Closes (begunFlags flags k) closed
+  unfolding begunFlags
+  closes-begun closed o g i h = by (eqb i k) refl
+    where
+      by : (b : Bool) → eqb i k ≡ b → isIn i closed ≡ eqb (getD (set flags k 2) i 0) 1
+      by true e =
+          let z : i ≡ k = eqb-true i k e in
+          g i h ∙ ap (λ (j : ℕ). eqb (getD flags j 0) 1) z ∙ ne-eqb (getD flags k 0) 1 o
+          ∙ sym (ap (λ (j : ℕ). eqb (getD (set flags k 2) j 0) 1) z ∙ ap (λ (b : ℕ). eqb b 1) (getD-set-same flags k 2 0 l))
+      by false e = g i h ∙ sym (ap (λ (b : ℕ). eqb b 1) (getD-set-other flags k i 2 0 (eqb-false i k e)))
+
+  -- and has passed
+  pub begun-more : (begun : List ℕ) → Begun flags begun → Begun (begunFlags flags k) (k ∷ begun)
+  unfolding begunFlags
+  begun-more begun g i h = by (eqb i k) refl
+    where
+      by : (b : Bool) → eqb i k ≡ b → isIn i (k ∷ begun) ≡ isSet (getD (set flags k 2) i 0)
+      by true e = in-split i k begun true e ∙ sym (ap (λ (j : ℕ). isSet (getD (set flags k 2) j 0)) (eqb-true i k e) ∙ ap isSet (getD-set-same flags k 2 0 l))
+      by false e = in-split i k begun false e ∙ (g i h ∙ sym (ap isSet (getD-set-other flags k i 2 0 (eqb-false i k e))))
+
+  -- closing one that has passed leaves it so
+  pub begun-closed : (begun : List ℕ) (s : ℕ) → Begun flags (k ∷ begun) → Begun (closedFlags flags s k) (k ∷ begun)
+  unfolding closedFlags pick
+  begun-closed begun s g i h = from (eqb s 1)
+    where
+      by : (b : Bool) → eqb i k ≡ b → isIn i (k ∷ begun) ≡ isSet (getD (set flags k 1) i 0)
+      by true e = in-split i k begun true e ∙ sym (ap (λ (j : ℕ). isSet (getD (set flags k 1) j 0)) (eqb-true i k e) ∙ ap isSet (getD-set-same flags k 1 0 l))
+      by false e = g i h ∙ sym (ap isSet (getD-set-other flags k i 1 0 (eqb-false i k e)))
+
+      from : (t : Bool) → isIn i (k ∷ begun) ≡ isSet (getD (pick t (set flags k 1) flags) i 0)
+      from true = by (eqb i k) refl
+      from false = g i h
 
 -- what closing stores
 pub closes-one : (flags : List ℕ) (s k : ℕ) → s ≡ 1 → set flags k 1 ≡ closedFlags flags s k
@@ -121,15 +157,15 @@ unfolding closedFlags pick
 leaves flags s k f = rw (ne-eqb s 1 f) refl
 
 -- looking for the newest open macro
-pub open-here : (flags : List ℕ) (i j : ℕ) → getD flags (i - 1) 0 ≡ 0 → suc j ≡ i → getD flags j 0 ≡ 0
-open-here flags i j e h = let z : i - 1 ≡ j = omega arith in rw z at e
+pub open-here : (flags : List ℕ) (i j : ℕ) → (getD flags (i - 1) 0 ≡ 1 → ⊥) → suc j ≡ i → getD flags j 0 ≡ 1 → ⊥
+open-here flags i j e h q = let z : i - 1 ≡ j = omega arith in e (rw z q)
 
-pub closed-here : (flags : List ℕ) (i due : ℕ) → ((j : ℕ) → i ≤ j → j < due → getD flags j 0 ≡ 0 → ⊥) → (getD flags (i - 1) 0 ≡ 0 → ⊥) → (j : ℕ) → i - 1 ≤ j → j < due → getD flags j 0 ≡ 0 → ⊥
-closed-here flags i due h f j a b e = by (decLe i j)
+pub closed-here : (flags : List ℕ) (i due : ℕ) → ((j : ℕ) → i ≤ j → j < due → getD flags j 0 ≡ 1) → getD flags (i - 1) 0 ≡ 1 → (j : ℕ) → i - 1 ≤ j → j < due → getD flags j 0 ≡ 1
+closed-here flags i due h f j a b = by (decLe i j)
   where
-    by : Dec (i ≤ j) → ⊥
-    by (yes l) = h j l b e
-    by (no n) = let z : j ≡ i - 1 = omega arith in f (rw z at e)
+    by : Dec (i ≤ j) → getD flags j 0 ≡ 1
+    by (yes l) = h j l b
+    by (no n) = let z : j ≡ i - 1 = omega arith in rw z f
 
 -- "a line beginning with `$`"
 pub control-none : (t : List ℕ) → length t < 1 → false ≡ isControl t

@@ -1,4 +1,5 @@
 pub mod Closing
+pub mod Preparing
 pub mod Running
 pub mod Stepping
 pub mod Starting

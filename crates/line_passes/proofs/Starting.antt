@@ -19,16 +19,16 @@ use Rattle.form_state.proofs.Parts.{state-size}
 use Rattle.line_memory.specs.Memory.{IsTable, padded}
 use Rattle.line_memory.proofs.Copying.{padded-whole, padded-front, padded-size}
 use Rattle.line_passes.specs.Contract.{Run, Left, Started, Comes, RunsTo, Runs}
-use Rattle.line_passes.specs.Passing.{Given, Memories, Stands, Open, Ready, leftOf, Ends, Begun, runOf, isRefused, clearedIf}
+use Rattle.line_passes.specs.Passing.{Given, Memories, Stands, Open, Ready, leftOf, Ends, FromStart, runOf, isRefused, clearedIf}
 use Rattle.line_passes.specs.declared.Ended.{Ended}
 use Rattle.line_passes.specs.declared.Ended.the-variants.{Done, Control, Refused}
-use Rattle.line_passes.proofs.Closing.{due-all, none-closed}
+use Rattle.line_passes.proofs.Closing.{due-all, none-closed, none-begun}
 
 -- an empty trace
 open-start : {trace : List ℕ} → trace ≡ replicate mostTraceBytes 0 → Open trace 0
 open-start e = record { size = ap length e ∙ length-replicate {A = ℕ} mostTraceBytes 0; inside = omega arith; zeros = e }
 
-pub ready-start : {tb kn : List ℕ} {count n : ℕ} {old : Left} {traced : Bool} → Begun tb count old n traced → kn ≡ kindTable → (budget : ℕ)
+pub ready-start : {tb kn : List ℕ} {count n : ℕ} {old : Left} {traced : Bool} → FromStart tb count old n traced → kn ≡ kindTable → (budget : ℕ)
     → Ready (record { table = tb; count = count; kinds = kn; budget = budget; traced = traced })
     (record { state = old .state; text = old .text; new = replicate 1054 0; marks = replicate 67056 0; flags = replicate 96 0; trace = old .trace })
     (record { size = n; occurred = false; due = count; begun = 0; written = 0 })
@@ -43,6 +43,7 @@ ready-start y e budget =
       new = length-replicate {A = ℕ} 1054 0;
       marks = refl;
       flags = length-replicate {A = ℕ} 96 0;
+      begins = ([], none-begun);
       size = y .size;
       due = omega arith;
       begun = omega arith;
@@ -55,7 +56,7 @@ stands-start : (ms : Table) (st : State) (g : Given) (m : Memories) (n : ℕ) �
 unfolding historyOf lineOf passesThen hadOccurrence traceOf
 stands-start ms st g m n h l f t =
     let e : g .budget - 0 ≡ g .budget = omega arith in
-    record { soFar = []; state = st; closed = []; rest = rw (e, due-all [] ms (g .count) l, t) refl; count = refl; occurs = refl; lines = λ asked. refl; holds = h; closes = rw f none-closed }
+    record { soFar = []; state = st; closed = []; begun = []; rest = rw (e, due-all [] ms (g .count) l, t) refl; count = refl; occurs = refl; lines = λ asked. refl; holds = h; closes = rw f none-closed; begins = rw f none-begun }
 
 pub runs-start : {g : Given} {m : Memories} {left : Left} {n : ℕ} {r : Ended} → m .flags ≡ replicate 96 0 → OfState (m .state) (λ st. g .traced ≡ isOn (st .trace))
     → Ends g m left (record { size = n; occurred = false; due = g .count; begun = 0; written = 0 }) r → RunsTo (runOf (g .table) (g .count) (leftOf m) n (g .budget) (g .traced)) (leftOf m) left r
@@ -106,7 +107,7 @@ module _ {run : Run} {old : Left} (y : Started run old) where
     front : take (length t) tx₁ ≡ t
     front = padded-front t mostLineBytes (length t) refl (whole-line f)
 
-    pub begun : Begun (run .table) (run .count) (record { state = z₁; text = tx₁; trace = old .trace }) (length t) (run .traced)
+    pub begun : FromStart (run .table) (run .count) (record { state = z₁; text = tx₁; trace = old .trace }) (length t) (run .traced)
     begun =
         record {
           table = y .table;

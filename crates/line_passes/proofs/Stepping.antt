@@ -4,22 +4,21 @@ use Prim.Native.Nat.{ℕ, suc, _+_, _-_, _*_, _≤_, _<_}
 use mathlib.Core.Path.{_≡_, refl, ap, sym, _∙_, subst}
 use mathlib.Core.Bool.{Bool, true, false, false≢true}
 use mathlib.Core.Logic.{_⊎_, inl, inr}
-use mathlib.Core.List.{List, _++_}
+use mathlib.Core.List.{List, _∷_, _++_}
 use native.Mathlib.Omega.{arith}
 use mir.Syntax.{w64}
 use mir.Val.{Fits as FitsIn}
-use lib.ListN.{length, getD, take, drop, length-append}
+use lib.ListN.{length, getD, take, drop, length-append, length-set}
 use lib.Seq.{length-take-le}
 use Rattle.macros.specs.Bounds.{mostMacros, mostLineBytes, mostTraceBytes}
 use Rattle.macros.specs.Macro.{Table}
 use Rattle.macros.specs.Formed.{Bytes}
 use Rattle.form_table.specs.Form.{slotBytes}
 use Rattle.lines.specs.Pass.{occurred}
-use Rattle.lines.specs.Line.{isControl}
+use Rattle.lines.specs.Line.{passOf, isControl}
 use Rattle.form_state.specs.Access.{IsState}
 use Rattle.pass_replace.specs.Contract.{IsSlot}
-use Rattle.pass_one.specs.Contract.{Lent, Passes, sizeOf}
-use Rattle.pass_one.specs.Contract.{Comes as PassComes}
+use Rattle.pass_one.specs.Contract.{sizeOf}
 use Rattle.refusals.specs.declared.WorkFault.{WorkFault}
 use Rattle.pass_moment.specs.declared.Passed.{Passed}
 use Rattle.pass_moment.specs.declared.Passed.the-variants.{Over as Passing, Refused as Refuses}
@@ -32,7 +31,9 @@ use Rattle.line_trace.proofs.Laws.{puts-behind}
 use Rattle.line_trace.specs.declared.Traced.{Traced}
 use Rattle.line_trace.specs.declared.Traced.the-variants.{Fits, TooLong}
 use Rattle.line_passes.specs.Contract.{LineLeft}
-use Rattle.line_passes.specs.Passing.{closedFlags, OpenBelow, OverBy, DueBy, Dues, Given, Memories, Onward, Open, Ready, leftOf, Texts, linesHere, Again, Cut, Followed, Follows, GoesOn, Steps, Ends}
+use Rattle.line_passes.specs.Flags.{Begun, begunFlags, closedFlags, OpenBelow}
+use Rattle.line_passes.specs.Beginning.{Tried, PassLent, PassComes, PassRuns}
+use Rattle.line_passes.specs.Passing.{OverBy, DueBy, Dues, Given, Memories, Onward, Open, Ready, leftOf, Texts, linesHere, Again, Cut, Followed, Follows, GoesOn, Steps, Ends}
 use Rattle.line_passes.specs.declared.Why.the-variants.{BudgetUsedUp, AtWork, TraceTooLong}
 use Rattle.line_passes.specs.declared.Stand.{Stand}
 use Rattle.line_passes.specs.declared.Ended.{Ended}
@@ -41,6 +42,7 @@ use Rattle.line_passes.specs.declared.Due.{Due}
 use Rattle.line_passes.specs.declared.Due.the-variants.{Over as Ending, Pass as PassOf}
 use Rattle.line_passes.specs.declared.Next.{Next}
 use Rattle.line_passes.specs.declared.Next.the-variants.{On, Over}
+use Rattle.line_passes.proofs.Closing.{begun-more, begun-closed}
 use Rattle.line_passes.proofs.Running.{new-bytes, at-control, at-done, at-used, pass-refused, pass-cut, pass-none, pass-some}
 
 -- the bytes lent for the slot of the macro k
@@ -54,8 +56,12 @@ pub part-order : (k : ℕ) → 1024 * k ≤ 1024 * k + 1024
 part-order k = omega arith
 
 -- a pass's answer, known
-done-as : {b b′ t out out′ s mk mk′ : List ℕ} {r : Passed} → Passes s t b b′ out out′ mk mk′ r → (r₂ : Passed) → r ≡ r₂ → Passes s t b b′ out out′ mk mk′ r₂
+done-as : {s t : List ℕ} {m m′ : Tried} {k : ℕ} {r : Passed} → PassRuns s t m m′ k r → (r₂ : Passed) → r ≡ r₂ → PassRuns s t m m′ k r₂
 done-as p r₂ e = rw e at p
+
+begun-size : (flags : List ℕ) (k : ℕ) → length (begunFlags flags k) ≡ length flags
+unfolding begunFlags
+begun-size flags k = length-set flags k 2
 
 module _ {g : Given} {m : Memories} {a : Stand} (y : Ready g m a) where
   pub size-fits : a .size ≤ length (m .text)
@@ -134,9 +140,9 @@ module _ {g : Given} {m : Memories} {a : Stand} (y : Ready g m a) where
       abbrev further : Stand
       further = record { size = a .size; occurred = a .occurred; due = k; begun = a .begun + 1; written = a .written }
 
-      -- what is lent behind the pass
-      abbrev lentTexts : Texts
-      lentTexts = record { text = m .text; flags = m .flags; trace = m .trace }
+      -- what the pass changes
+      abbrev came : Tried
+      came = record { state = m .state; new = m .new; marks = m .marks; flags = m .flags }
 
       slot-of : (ms : Table) → IsTable (g .table) ms → length ms ≡ g .count → SlotAt (g .table) ms k
       slot-of ms h l = slot-at (g .table) ms h k (omega (arith, in-use, l))
@@ -144,26 +150,41 @@ module _ {g : Given} {m : Memories} {a : Stand} (y : Ready g m a) where
       is-slot : (ms : Table) (h : IsTable (g .table) ms) (l : length ms ≡ g .count) → IsSlot (slotPart (g .table) k) (slot-of ms h l .macro)
       is-slot ms h l = record { spellable = slot-of ms h l .spellable; form = slot-of ms h l .bytes ∙ sym (part-slot (g .table) k) }
 
-      pub pass-lent : Lent (slotPart (g .table) k) (g .kinds) (take (a .size) (m .text)) (m .state) (m .new) (m .marks)
-      pass-lent =
-          record {
-            macro = (slot-of (y .table .macros) (y .table .isTable) (y .table .counted) .macro, is-slot (y .table .macros) (y .table .isTable) (y .table .counted));
-            table = y .kinds;
-            bytes = y .bytes;
-            short = omega (arith, length-take-le (a .size) (m .text) (omega (arith, y .size, y .text)), y .size);
-            state = y .state;
-            room = y .new;
-            clear = y .marks;
-          }
+      pub pass-lent : PassLent (slotPart (g .table) k) (g .kinds) (take (a .size) (m .text)) (m .state) (m .new) (m .marks) (m .flags) k
+      pass-lent = record {
+        few = omega (arith, in-use, few);
+        flags = y .flags;
+        begins = y .begins;
+        pass =
+            record {
+              macro = (slot-of (y .table .macros) (y .table .isTable) (y .table .counted) .macro, is-slot (y .table .macros) (y .table .isTable) (y .table .counted));
+              table = y .kinds;
+              bytes = y .bytes;
+              short = omega (arith, length-take-le (a .size) (m .text) (omega (arith, y .size, y .text)), y .size);
+              state = y .state;
+              room = y .new;
+              clear = y .marks;
+            };
+      }
 
-      module _ {b′ nw′ mk′ : List ℕ} {r : Passed} (p : Passes (slotPart (g .table) k) (take (a .size) (m .text)) (m .state) b′ (m .new) nw′ (m .marks) mk′ r) where
-        step-refused : {f : WorkFault} {n : ℕ} → r ≡ Refuses f n → Steps g m (record { state = b′; text = m .text; new = nw′; marks = mk′; flags = m .flags; trace = m .trace }) a (Over (Refused (AtWork f) (a .begun + 1)))
+      module _ {b′ nw′ mk′ fl′ : List ℕ} {r : Passed} (p : PassRuns (slotPart (g .table) k) (take (a .size) (m .text)) came (record { state = b′; new = nw′; marks = mk′; flags = fl′ }) k r) where
+        -- what is lent behind the pass
+        abbrev lentTexts : Texts
+        lentTexts = record { text = m .text; flags = fl′; trace = m .trace }
+
+        flags-kept : length fl′ ≡ length (m .flags)
+        flags-kept = ap length (p .flags) ∙ begun-size (m .flags) k
+
+        begun-then : (begun : List ℕ) × Begun fl′ begun
+        begun-then = (k ∷ y .begins .0, subst (λ (l : List ℕ). Begun l (k ∷ y .begins .0)) (sym (p .flags)) (begun-more (m .flags) k flag-there (y .begins .0) (y .begins .1)))
+
+        step-refused : {f : WorkFault} {n : ℕ} → r ≡ Refuses f n → Steps g m (record { state = b′; text = m .text; new = nw′; marks = mk′; flags = fl′; trace = m .trace }) a (Over (Refused (AtWork f) (a .begun + 1)))
         step-refused {f} {n} j =
             let p₂ = done-as p (Refuses f n) j in
             record {
               goes = record {
                 comes = λ whole ms h l s.
-                    let u = p₂ .comes (slot-of ms h l .macro) (is-slot ms h l) (s .state) (s .holds) .moment in
+                    let u = p₂ .comes (slot-of ms h l .macro) (is-slot ms h l) (s .begun) (s .begins) (s .state) (s .holds) .moment in
                     pass-refused ms whole g m h a s plain (omega (arith, y .due, l)) k opened (slot-of ms h l) room (u .0) _ (u .1);
                 lies = tt;
                 untraced = λ f. refl;
@@ -171,20 +192,23 @@ module _ {g : Given} {m : Memories} {a : Stand} (y : Ready g m a) where
             }
 
         module _ {o₂ : Bool} {n : ℕ} (i : r ≡ Passing o₂ n) where
-          passed : Passes (slotPart (g .table) k) (take (a .size) (m .text)) (m .state) b′ (m .new) nw′ (m .marks) mk′ (Passing o₂ n)
+          passed : PassRuns (slotPart (g .table) k) (take (a .size) (m .text)) came (record { state = b′; new = nw′; marks = mk′; flags = fl′ }) k (Passing o₂ n)
           passed = done-as p (Passing o₂ n) i
 
           size-within : n ≤ mostLineBytes
           size-within = passed .within
 
           module _ (w : length nw′ ≡ length (m .new)) where
-            here : PassComes (take (a .size) (m .text)) b′ nw′ (Passing o₂ n) (slot-of (y .table .macros) (y .table .isTable) (y .table .counted) .macro) (y .state .0)
-            here = passed .comes (slot-of (y .table .macros) (y .table .isTable) (y .table .counted) .macro) (is-slot (y .table .macros) (y .table .isTable) (y .table .counted)) (y .state .0) (y .state .1)
+            here : PassComes (record { state = b′; new = nw′; marks = mk′; flags = fl′ }) (Passing o₂ n)
+                (passOf (y .begins .0) (record { number = k; macro = slot-of (y .table .macros) (y .table .isTable) (y .table .counted) .macro }) (take (a .size) (m .text)) (y .state .0))
+            here =
+                passed .comes (slot-of (y .table .macros) (y .table .isTable) (y .table .counted) .macro) (is-slot (y .table .macros) (y .table .isTable) (y .table .counted))
+                (y .begins .0) (y .begins .1) (y .state .0) (y .state .1)
 
             after : IsState b′
             after = (here .moment .0 .state, here .moment .2 .state)
 
-            step-none : o₂ ≡ false → Steps g m (record { state = b′; text = m .text; new = nw′; marks = mk′; flags = m .flags; trace = m .trace }) a (On (record { size = a .size; occurred = a .occurred; due = k; begun = a .begun + 1; written = a .written }))
+            step-none : o₂ ≡ false → Steps g m (record { state = b′; text = m .text; new = nw′; marks = mk′; flags = fl′; trace = m .trace }) a (On (record { size = a .size; occurred = a .occurred; due = k; begun = a .begun + 1; written = a .written }))
             step-none j =
                 record {
                   goes = (
@@ -197,7 +221,8 @@ module _ {g : Given} {m : Memories} {a : Stand} (y : Ready g m a) where
                       laid = y .laid;
                       new = w ∙ y .new;
                       marks = passed .cleared ∙ y .marks;
-                      flags = y .flags;
+                      flags = flags-kept ∙ y .flags;
+                      begins = begun-then;
                       size = y .size;
                       due = omega (arith, in-use);
                       begun = omega (arith, room);
@@ -205,8 +230,8 @@ module _ {g : Given} {m : Memories} {a : Stand} (y : Ready g m a) where
                     },
                     refl,
                     λ whole ms h l s.
-                        let u = passed .comes (slot-of ms h l .macro) (is-slot ms h l) (s .state) (s .holds) in
-                        pass-none ms whole g m h a s plain (omega (arith, y .due, l)) k opened (slot-of ms h l) room (u .moment .0) (u .moment .1) _ (u .moment .2 .state) (sym (u .says) ∙ j) refl refl refl,
+                        let u = passed .comes (slot-of ms h l .macro) (is-slot ms h l) (s .begun) (s .begins) (s .state) (s .holds) in
+                        pass-none ms whole g m h a s plain (omega (arith, y .due, l)) k opened (slot-of ms h l) room (u .moment .0) (u .moment .1) _ (u .moment .2 .state) (sym (u .says) ∙ j) refl flag-there (p .flags) refl,
                     λ f. refl,
                   );
                 }
@@ -220,7 +245,7 @@ module _ {g : Given} {m : Memories} {a : Stand} (y : Ready g m a) where
                   (record {
                     goes = record {
                       comes = λ whole ms h l s.
-                          let u = passed .comes (slot-of ms h l .macro) (is-slot ms h l) (s .state) (s .holds) in
+                          let u = passed .comes (slot-of ms h l .macro) (is-slot ms h l) (s .begun) (s .begins) (s .state) (s .holds) in
                           pass-cut ms whole g m h a s plain (omega (arith, y .due, l)) k opened (slot-of ms h l) room (u .moment .0) (u .moment .1) (sym (u .says) ∙ j) (take n nw′) (u .moment .2 .line)
                           (over .asked) (over .full) (y .trace (over .asked) .inside);
                       lies = tt;
@@ -228,9 +253,14 @@ module _ {g : Given} {m : Memories} {a : Stand} (y : Ready g m a) where
                     };
                   })
 
-              module _ (goes-on-so : Again (g .table) (g .count) lentTexts after-it nw′ (g .traced) n further next) (same : length (after-it .text) ≡ length (m .text)) (v : length (after-it .flags) ≡ length (m .flags)) where
+              module _ (goes-on-so : Again (g .table) (g .count) lentTexts after-it nw′ (g .traced) n further next) (same : length (after-it .text) ≡ length (m .text)) (v : length (after-it .flags) ≡ length fl′) where
                 front : take n (after-it .text) ≡ take n nw′
                 front = padded-front (take n nw′) (length (m .text)) n (length-take-le n nw′ (omega (arith, size-within, w, y .new))) (goes-on-so .line)
+
+                begun-closing : (begun : List ℕ) × Begun (after-it .flags) begun
+                unfolding begun-then
+                begun-closing =
+                    (begun-then .0, subst (λ (l : List ℕ). Begun l (begun-then .0)) (sym (goes-on-so .closed)) (begun-closed fl′ k (omega (arith, flags-kept, flag-there)) (y .begins .0) _ (begun-then .1)))
 
                 -- the trace's memory then
                 opens : g .traced ≡ true → Open (after-it .trace) (goes-on-so .written)
@@ -255,13 +285,14 @@ module _ {g : Given} {m : Memories} {a : Stand} (y : Ready g m a) where
                           kinds = y .kinds;
                           state = after;
                           bytes = subst Bytes (here .moment .2 .line ∙ sym front)
-                              (new-bytes (slot-of (y .table .macros) (y .table .isTable) (y .table .counted) .macro) (take (a .size) (m .text)) (y .state .0) (here .moment .0) (here .moment .1)
+                              (new-bytes (y .begins .0) _ (take (a .size) (m .text)) (y .state .0) (here .moment .0) (here .moment .1)
                               (slot-of (y .table .macros) (y .table .isTable) (y .table .counted) .spellable .0) (y .bytes) (y .state .1 .inRange));
                           text = same ∙ y .text;
                           laid = goes-on-so .line ∙ (ap (padded (take n nw′)) (y .text) ∙ ap (λ (i : List ℕ). padded i mostLineBytes) (sym front));
                           new = w ∙ y .new;
                           marks = passed .cleared ∙ y .marks;
-                          flags = v ∙ y .flags;
+                          flags = v ∙ flags-kept ∙ y .flags;
+                          begins = begun-closing;
                           size = size-within;
                           due = omega arith;
                           begun = omega (arith, room);
@@ -269,16 +300,17 @@ module _ {g : Given} {m : Memories} {a : Stand} (y : Ready g m a) where
                         },
                         refl,
                         λ whole ms h l s.
-                            let u = passed .comes (slot-of ms h l .macro) (is-slot ms h l) (s .state) (s .holds) in
+                            let u = passed .comes (slot-of ms h l .macro) (is-slot ms h l) (s .begun) (s .begins) (s .state) (s .holds) in
                             pass-some ms whole g m h a s plain (omega (arith, y .due, l)) k opened (slot-of ms h l) room (u .moment .0) (u .moment .1) _ (u .moment .2 .state) (sym (u .says) ∙ j) n (g .count) (goes-on-so .written)
-                            (take n nw′) (u .moment .2 .line) (sym front) (omega (arith, in-use, few, y .flags)) (goes-on-so .closed) l (y .trace) (goes-on-so .traces),
+                            (take n nw′) (u .moment .2 .line) (sym front) flag-there (goes-on-so .closed ∙ ap (λ (l : List ℕ). closedFlags l (getD (g .table) (slotBytes * k) 0) k) (p .flags))
+                            (omega (arith, begun-size (m .flags) k, flag-there)) l (y .trace) (goes-on-so .traces),
                         λ f. goes-on-so .untraced f .0,
                       );
                     })
 
-      module _ {b′ nw′ mk′ : List ℕ} where
-        pub to-follow : {r : Passed} → Passes (slotPart (g .table) k) (take (a .size) (m .text)) (m .state) b′ (m .new) nw′ (m .marks) mk′ r → length nw′ ≡ length (m .new)
-            → Followed (g .table) lentTexts nw′ (g .traced) (sizeOf r) further
+      module _ {b′ nw′ mk′ fl′ : List ℕ} where
+        pub to-follow : {r : Passed} → PassRuns (slotPart (g .table) k) (take (a .size) (m .text)) came (record { state = b′; new = nw′; marks = mk′; flags = fl′ }) k r → length nw′ ≡ length (m .new)
+            → Followed (g .table) (record { text = m .text; flags = fl′; trace = m .trace }) nw′ (g .traced) (sizeOf r) further
         to-follow p w =
             record {
               text = y .text;
@@ -286,19 +318,19 @@ module _ {g : Given} {m : Memories} {a : Stand} (y : Ready g m a) where
               within = p .within;
               size = y .size;
               slot = omega (arith, in-table);
-              flag = flag-there;
+              flag = omega (arith, flags-kept p, flag-there);
               few = omega (arith, in-use, few);
               trace = y .trace;
             }
 
-        pub step-passed : (r : Passed) → Passes (slotPart (g .table) k) (take (a .size) (m .text)) (m .state) b′ (m .new) nw′ (m .marks) mk′ r → length nw′ ≡ length (m .new) → {after-it : Texts} {e : Next}
-            → Follows (g .table) (g .count) lentTexts after-it nw′ (g .traced) r further e → length (after-it .text) ≡ length (m .text) → length (after-it .flags) ≡ length (m .flags)
+        pub step-passed : (r : Passed) → PassRuns (slotPart (g .table) k) (take (a .size) (m .text)) came (record { state = b′; new = nw′; marks = mk′; flags = fl′ }) k r → length nw′ ≡ length (m .new) → {after-it : Texts} {e : Next}
+            → Follows (g .table) (g .count) (record { text = m .text; flags = fl′; trace = m .trace }) after-it nw′ (g .traced) r further e → length (after-it .text) ≡ length (m .text) → length (after-it .flags) ≡ length fl′
             → Steps g m (record { state = b′; text = after-it .text; new = nw′; marks = mk′; flags = after-it .flags; trace = after-it .trace }) a e
         step-passed (Refuses i n) p w f u v = rw (f .by .next, f .by .same) (step-refused p refl)
         step-passed (Passing false n) p w f u v = rw (f .by .next, f .by .same) (step-none p refl w refl)
         step-passed (Passing true n) p w {after-it} {e} f u v = by (f .by)
           where
-            by : Again (g .table) (g .count) lentTexts after-it nw′ (g .traced) n further e ⊎ Cut lentTexts after-it nw′ (g .traced) n further e
+            by : Again (g .table) (g .count) (record { text = m .text; flags = fl′; trace = m .trace }) after-it nw′ (g .traced) n further e ⊎ Cut (record { text = m .text; flags = fl′; trace = m .trace }) after-it nw′ (g .traced) n further e
                 → Steps g m (record { state = b′; text = after-it .text; new = nw′; marks = mk′; flags = after-it .flags; trace = after-it .trace }) a e
             by (inl q) = step-some p refl w refl q u v
             by (inr q) = step-cut p refl w refl q _

@@ -1,2 +1,4 @@
 pub mod Contract
+pub mod Flags
+pub mod Beginning
 pub mod Passing

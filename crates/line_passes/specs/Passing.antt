@@ -1,17 +1,16 @@
 -- What the passes of a line promise, from one to the next (01, part 6).
-use Prim.Native.Nat.{ℕ, zero, suc, _+_, _-_, _*_, _≤_, _<_}
+use Prim.Native.Nat.{ℕ, suc, _+_, _-_, _*_, _≤_, _<_}
 use mathlib.Core.Path.{_≡_}
 use mathlib.Core.Bool.{Bool, true, false}
-use mathlib.Core.List.{List, _++_, reverse}
+use mathlib.Core.List.{List, _++_}
 use mathlib.Core.Logic.{_⊎_}
-use lib.Dec.{eqb}
-use lib.ListN.{length, getD, take, set, replicate}
+use lib.ListN.{length, getD, take, replicate}
 use Rattle.kinds.specs.Kind.{kindTable}
 use Rattle.macros.specs.Bounds.{mostMacros, mostLineBytes, mostTraceBytes}
-use Rattle.macros.specs.Macro.{Table, pick}
+use Rattle.macros.specs.Macro.{Table}
 use Rattle.macros.specs.Formed.{Bytes}
 use Rattle.lines.specs.State.{State}
-use Rattle.lines.specs.Line.{Numbered, Pass, Line, isIn, isControl, openFrom, passes, hadOccurrence, passesThen}
+use Rattle.lines.specs.Line.{Pass, Line, isControl, passes, hadOccurrence, passesThen}
 use Rattle.lines.specs.Trace.{threeLines, traceOf, isOn, cutIf}
 use Rattle.form_state.specs.Access.{Holds, IsState, OfState}
 use Rattle.pass_one.specs.Contract.{marksBytes, sizeOf}
@@ -19,6 +18,7 @@ use Rattle.pass_moment.specs.declared.Passed.{Passed}
 use Rattle.pass_moment.specs.declared.Passed.the-variants.{Over as Passes, Refused as Refuses}
 use Rattle.line_memory.specs.Memory.{IsTable, Counted, padded}
 use Rattle.line_passes.specs.Contract.{Run, Left, Comes, Lies}
+use Rattle.line_passes.specs.Flags.{dueBelow, Begun, Closes, closedFlags, OpenBelow}
 use Rattle.line_passes.specs.declared.Why.the-variants.{BudgetUsedUp, AtWork, TraceTooLong}
 use Rattle.line_passes.specs.declared.Stand.{Stand}
 use Rattle.line_passes.specs.declared.Ended.{Ended}
@@ -27,29 +27,6 @@ use Rattle.line_passes.specs.declared.Due.{Due}
 use Rattle.line_passes.specs.declared.Due.the-variants.{Over as Ending, Pass as PassOf}
 use Rattle.line_passes.specs.declared.Next.{Next}
 use Rattle.line_passes.specs.declared.Next.the-variants.{On, Over}
-
--- the open macros among the oldest k, newest first
-unfoldable pub dueBelow : ℕ → List ℕ → Table → List Numbered
-dueBelow k closed ms = reverse (openFrom 0 closed (take k ms))
-
--- a byte for each macro: 0 where it is open
-abbrev pub isSet : ℕ → Bool
-isSet zero = false
-isSet (suc n) = true
-
--- the bytes say which macros are closed to the line
-abbrev pub Closes : List ℕ → List ℕ → Type 0
-Closes flags closed = (i : ℕ) → i < mostMacros → isIn i closed ≡ isSet (getD flags i 0)
-
--- "A `<` macro that occurred is closed to this line": 1 is the code of `<`
-unfoldable pub closedFlags : List ℕ → ℕ → ℕ → List ℕ
-closedFlags flags symbol k = pick (eqb symbol 1) (set flags k 1) flags
-
--- the newest open macro below k has the number r - 1, or there is none and r is 0
-pub record OpenBelow (flags : List ℕ) (k r : ℕ) : Type 0 where
-  pub below : r ≤ k
-  pub closed : (i : ℕ) → r ≤ i → i < k → getD flags i 0 ≡ 0 → ⊥
-  pub opened : (i : ℕ) → suc i ≡ r → getD flags i 0 ≡ 0
 
 -- what ends the line where it stands, t being its text: a control line, no macro due, or the budget
 abbrev pub OverBy : (t flags : List ℕ) → ℕ → Stand → Ended → Type 0
@@ -84,18 +61,22 @@ pub record Memories : Type 0 where
   pub flags : List ℕ
   pub trace : List ℕ
 
--- the line whole, of the table ms, stands here: its passes so far, of which the numbers in a are functions; the state and the closed macros; and behind those passes the line that is left
+-- the line whole, of the table ms, stands here: its passes so far, of which the numbers in a are functions; the state, the closed macros and
+-- those that have passed; and behind those passes the line that is left
 pub record Stands (whole : Line) (ms : Table) (g : Given) (m : Memories) (a : Stand) : Type 0 where
   pub soFar : List Pass
   pub state : State
   pub closed : List ℕ
+  pub begun : List ℕ
   pub rest : whole ≡ passesThen soFar
-      (cutIf (g .traced) (mostTraceBytes - a .written) (passes ms (g .budget - a .begun) closed (dueBelow (a .due) closed ms) state (take (a .size) (m .text))))
+      (cutIf (g .traced) (mostTraceBytes - a .written)
+      (passes ms (g .budget - a .begun) closed begun (dueBelow (a .due) closed ms) state (take (a .size) (m .text))))
   pub count : length soFar ≡ a .begun
   pub occurs : hadOccurrence soFar ≡ a .occurred
   pub lines : g .traced ≡ true → take (a .written) (m .trace) ≡ traceOf soFar
   pub holds : Holds (m .state) state
   pub closes : Closes (m .flags) closed
+  pub begins : Begun (m .flags) begun
 
 -- every line that stands at a with the memories m stands at z with the memories m′
 abbrev pub Onward : Given → Memories → Memories → Stand → Stand → Type 0
@@ -118,6 +99,7 @@ pub record Ready (g : Given) (m : Memories) (a : Stand) : Type 0 where
   pub new : length (m .new) ≡ mostLineBytes
   pub marks : m .marks ≡ replicate marksBytes 0
   pub flags : length (m .flags) ≡ mostMacros
+  pub begins : (begun : List ℕ) × Begun (m .flags) begun
   pub size : a .size ≤ mostLineBytes
   pub due : a .due ≤ g .count
   pub begun : a .begun ≤ g .budget
@@ -196,7 +178,7 @@ pub record Steps (g : Given) (m m′ : Memories) (a : Stand) (r : Next) : Type 0
 -- FROM THE START
 
 -- a line before its passes: the first n bytes of the text
-pub record Begun (tb : List ℕ) (count : ℕ) (old : Left) (n : ℕ) (traced : Bool) : Type 0 where
+pub record FromStart (tb : List ℕ) (count : ℕ) (old : Left) (n : ℕ) (traced : Bool) : Type 0 where
   pub table : Counted tb count
   pub state : IsState (old .state)
   pub text : length (old .text) ≡ mostLineBytes

@@ -1,4 +1,5 @@
 // The passes of a line, from its start to its end (01, part 6).
+mod beginning;
 mod passes;
 mod slots;
 
@@ -8,7 +9,7 @@ use passes::all_passes;
 use refusals::WorkFault;
 ghost use mathlib.Core.Path.{_≡_};
 ghost use Rattle.line_passes.specs.Contract.{Started, Runs, RunsTo};
-ghost use Rattle.line_passes.specs.Passing.{Begun, runOf, isRefused, clearedIf};
+ghost use Rattle.line_passes.specs.Passing.{FromStart, runOf, isRefused, clearedIf};
 
 // Why the table at work refuses a line: 31, a pass's fault, or 36.
 pub enum Why {
@@ -66,13 +67,13 @@ fn from_start(
     size: usize,
     budget: usize,
 ) -> Ended
-    requires { ⌜ Begun (now table) count (record { state = now state; text = now text; trace = now trace }) size traced ⌝ }
+    requires { ⌜ FromStart (now table) count (record { state = now state; text = now text; trace = now trace }) size traced ⌝ }
     ensures { λ r. ⌜ RunsTo (runOf (now (table .entry)) count (record { state = now (state .entry); text = now (text .entry); trace = now (trace .entry) }) size budget traced) (record { state = now (state .entry); text = now (text .entry); trace = now (trace .entry) }) (record { state = now (state .exit); text = now (text .exit); trace = now (trace .exit) }) r ⌝ }
 {
     let kinds = kind_table();
     let mut new = [0u8; 1054];
     let mut marks = [0u8; 67056];
-    let mut closed = [0u8; 96];
+    let mut flags = [0u8; 96];
     let start = Stand {
         size: size,
         occurred: false,
@@ -88,7 +89,7 @@ fn from_start(
         text,
         &mut new,
         &mut marks,
-        &mut closed,
+        &mut flags,
         trace,
         traced,
         budget,

@@ -4,13 +4,13 @@ use crate::Ended;
 use crate::Next;
 use crate::Stand;
 use crate::Why;
+use crate::beginning::run_pass;
 use crate::slots::close;
 use crate::slots::open_below;
 use line_memory::lay_out;
 use line_trace::Traced;
 use line_trace::trace_pass;
 use pass_moment::Passed;
-use pass_one::pass;
 ghost use mathlib.Core.Path.{_≡_};
 ghost use Prim.Native.Nat.{_≤_};
 ghost use lib.ListN.{length};
@@ -36,14 +36,14 @@ fn again(
     count: usize,
     text: &mut [u8],
     new: &[u8],
-    closed: &mut [u8],
+    flags: &mut [u8],
     trace: &mut [u8],
     traced: bool,
     size: usize,
     on: Stand,
 ) -> Next
-    requires { ⌜ Followed (now table) (record { text = now text; flags = now closed; trace = now trace }) (now new) traced size on ⌝ }
-    ensures { λ r. ⌜ Follows (now (table .entry)) count (record { text = now (text .entry); flags = now (closed .entry); trace = now (trace .entry) }) (record { text = now (text .exit); flags = now (closed .exit); trace = now (trace .exit) }) (now (new .entry)) traced (Passes true size) on r ⌝ }
+    requires { ⌜ Followed (now table) (record { text = now text; flags = now flags; trace = now trace }) (now new) traced size on ⌝ }
+    ensures { λ r. ⌜ Follows (now (table .entry)) count (record { text = now (text .entry); flags = now (flags .entry); trace = now (trace .entry) }) (record { text = now (text .exit); flags = now (flags .exit); trace = now (trace .exit) }) (now (new .entry)) traced (Passes true size) on r ⌝ }
 {
     let k = on.due;
     let n = on.size;
@@ -53,7 +53,7 @@ fn again(
         return Next::Over(Ended::Refused(Why::TraceTooLong, on.begun));
     };
     lay_out(text, &new[..size]);
-    close(closed, table[1024 * k], k);
+    close(flags, table[1024 * k], k);
     Next::On(Stand {
         size: size,
         occurred: true,
@@ -69,14 +69,14 @@ fn after_pass(
     count: usize,
     text: &mut [u8],
     new: &[u8],
-    closed: &mut [u8],
+    flags: &mut [u8],
     trace: &mut [u8],
     traced: bool,
     passed: Passed,
     on: Stand,
 ) -> Next
-    requires { ⌜ Followed (now table) (record { text = now text; flags = now closed; trace = now trace }) (now new) traced (sizeOf passed) on ⌝ }
-    ensures { λ r. ⌜ Follows (now (table .entry)) count (record { text = now (text .entry); flags = now (closed .entry); trace = now (trace .entry) }) (record { text = now (text .exit); flags = now (closed .exit); trace = now (trace .exit) }) (now (new .entry)) traced passed on r ⌝ }
+    requires { ⌜ Followed (now table) (record { text = now text; flags = now flags; trace = now trace }) (now new) traced (sizeOf passed) on ⌝ }
+    ensures { λ r. ⌜ Follows (now (table .entry)) count (record { text = now (text .entry); flags = now (flags .entry); trace = now (trace .entry) }) (record { text = now (text .exit); flags = now (flags .exit); trace = now (trace .exit) }) (now (new .entry)) traced passed on r ⌝ }
 {
     match passed {
         Passed::Refused(f, _) => {
@@ -84,7 +84,7 @@ fn after_pass(
         }
         Passed::Over(o, size) => {
             if o {
-                return again(table, count, text, new, closed, trace, traced, size, on);
+                return again(table, count, text, new, flags, trace, traced, size, on);
             }
             return Next::On(on);
         }
@@ -92,23 +92,24 @@ fn after_pass(
 }
 
 // What is due: before each pass and at the end whether it is a control line; a pass, if a macro is due and the budget is not used up.
-fn next_due(line: &[u8], closed: &[u8], budget: usize, stand: Stand) -> Due
-    requires { ⌜ (stand .due ≤ length (now closed)) × (stand .begun ≤ budget) ⌝ }
-    ensures { λ r. ⌜ Dues (now (line .entry)) (now (closed .entry)) budget stand r ⌝ }
+fn next_due(line: &[u8], flags: &[u8], budget: usize, stand: Stand) -> Due
+    requires { ⌜ (stand .due ≤ length (now flags)) × (stand .begun ≤ budget) ⌝ }
+    ensures { λ r. ⌜ Dues (now (line .entry)) (now (flags .entry)) budget stand r ⌝ }
 {
     let n = stand.size;
     let begun = stand.begun;
     if is_control(line) {
         return Due::Over(Ended::Control(n, begun));
     }
-    let top = open_below(closed, stand.due);
+    let top = open_below(flags, stand.due);
     if top < 1 {
         return Due::Over(Ended::Done(n, stand.occurred, begun));
     }
+    let newest = top - 1;
     if budget - begun < 1 {
         return Due::Over(Ended::Refused(Why::BudgetUsedUp, begun));
     }
-    Due::Pass(top - 1)
+    Due::Pass(newest)
 }
 
 // One pass further, or the end.
@@ -120,24 +121,33 @@ fn step(
     text: &mut [u8],
     new: &mut [u8],
     marks: &mut [u8],
-    closed: &mut [u8],
+    flags: &mut [u8],
     trace: &mut [u8],
     traced: bool,
     budget: usize,
     stand: Stand,
 ) -> Next
-    requires { ⌜ Ready (record { table = now table; count = count; kinds = now kinds; budget = budget; traced = traced }) (record { state = now state; text = now text; new = now new; marks = now marks; flags = now closed; trace = now trace }) stand ⌝ }
-    ensures { λ r. ⌜ Steps (record { table = now (table .entry); count = count; kinds = now (kinds .entry); budget = budget; traced = traced }) (record { state = now (state .entry); text = now (text .entry); new = now (new .entry); marks = now (marks .entry); flags = now (closed .entry); trace = now (trace .entry) }) (record { state = now (state .exit); text = now (text .exit); new = now (new .exit); marks = now (marks .exit); flags = now (closed .exit); trace = now (trace .exit) }) stand r ⌝ }
+    requires { ⌜ Ready (record { table = now table; count = count; kinds = now kinds; budget = budget; traced = traced }) (record { state = now state; text = now text; new = now new; marks = now marks; flags = now flags; trace = now trace }) stand ⌝ }
+    ensures { λ r. ⌜ Steps (record { table = now (table .entry); count = count; kinds = now (kinds .entry); budget = budget; traced = traced }) (record { state = now (state .entry); text = now (text .entry); new = now (new .entry); marks = now (marks .entry); flags = now (flags .entry); trace = now (trace .entry) }) (record { state = now (state .exit); text = now (text .exit); new = now (new .exit); marks = now (marks .exit); flags = now (flags .exit); trace = now (trace .exit) }) stand r ⌝ }
 {
     let n = stand.size;
-    let due = next_due(&text[..n], closed, budget, stand);
+    let due = next_due(&text[..n], flags, budget, stand);
     match due {
         Due::Over(end) => {
             return Next::Over(end);
         }
         Due::Pass(k) => {
             let a = 1024 * k;
-            let passed = pass(&table[a..a + 1024], kinds, &text[..n], state, new, marks);
+            let passed = run_pass(
+                &table[a..a + 1024],
+                kinds,
+                &text[..n],
+                state,
+                new,
+                marks,
+                flags,
+                k,
+            );
             let on = Stand {
                 size: n,
                 occurred: stand.occurred,
@@ -145,7 +155,7 @@ fn step(
                 begun: stand.begun + 1,
                 written: stand.written,
             };
-            return after_pass(table, count, text, new, closed, trace, traced, passed, on);
+            return after_pass(table, count, text, new, flags, trace, traced, passed, on);
         }
     }
 }
@@ -159,14 +169,14 @@ pub(crate) fn all_passes(
     text: &mut [u8],
     new: &mut [u8],
     marks: &mut [u8],
-    closed: &mut [u8],
+    flags: &mut [u8],
     trace: &mut [u8],
     traced: bool,
     budget: usize,
     start: Stand,
 ) -> Ended
-    requires { ⌜ Ready (record { table = now table; count = count; kinds = now kinds; budget = budget; traced = traced }) (record { state = now state; text = now text; new = now new; marks = now marks; flags = now closed; trace = now trace }) start ⌝ }
-    ensures { λ r. ⌜ Ends (record { table = now (table .entry); count = count; kinds = now (kinds .entry); budget = budget; traced = traced }) (record { state = now (state .entry); text = now (text .entry); new = now (new .entry); marks = now (marks .entry); flags = now (closed .entry); trace = now (trace .entry) }) (record { state = now (state .exit); text = now (text .exit); trace = now (trace .exit) }) start r ⌝ }
+    requires { ⌜ Ready (record { table = now table; count = count; kinds = now kinds; budget = budget; traced = traced }) (record { state = now state; text = now text; new = now new; marks = now marks; flags = now flags; trace = now trace }) start ⌝ }
+    ensures { λ r. ⌜ Ends (record { table = now (table .entry); count = count; kinds = now (kinds .entry); budget = budget; traced = traced }) (record { state = now (state .entry); text = now (text .entry); new = now (new .entry); marks = now (marks .entry); flags = now (flags .entry); trace = now (trace .entry) }) (record { state = now (state .exit); text = now (text .exit); trace = now (trace .exit) }) start r ⌝ }
 {
     let mut stand = start;
     loop {
@@ -178,7 +188,7 @@ pub(crate) fn all_passes(
             text,
             new,
             marks,
-            closed,
+            flags,
             trace,
             traced,
             budget,

@@ -1,17 +1,26 @@
-// Which macros are closed to a line.
+// A byte for each macro: whether it has passed on the line, and whether it is closed to it.
 ghost use mathlib.Core.Path.{_≡_};
 ghost use Prim.Native.Nat.{_≤_, _<_};
 ghost use lib.ListN.{length};
-ghost use Rattle.line_passes.specs.Passing.{closedFlags, OpenBelow};
+ghost use Rattle.line_passes.specs.Flags.{closedFlags, OpenBelow};
+
+// 0 until the macro's first pass on the line begins, and then this.
+pub(crate) const BEGUN: u8 = 2;
+
+// Closed to the line.
+const CLOSED: u8 = 1;
+
+// The code of `<` in a slot.
+const LESS: u8 = 1;
 
 // One more than the number of the newest open macro below `due`, or 0 if there is none.
-pub(crate) fn open_below(closed: &[u8], due: usize) -> usize
-    requires { ⌜ due ≤ length (now closed) ⌝ }
-    ensures { λ r. ⌜ OpenBelow (now (closed .entry)) due r ⌝ }
+pub(crate) fn open_below(flags: &[u8], due: usize) -> usize
+    requires { ⌜ due ≤ length (now flags) ⌝ }
+    ensures { λ r. ⌜ OpenBelow (now (flags .entry)) due r ⌝ }
 {
     let mut i = due;
     while 0 < i {
-        if closed[i - 1] == 0 {
+        if flags[i - 1] != CLOSED {
             return i;
         }
         i -= 1;
@@ -19,13 +28,13 @@ pub(crate) fn open_below(closed: &[u8], due: usize) -> usize
     i
 }
 
-// "A `<` macro that occurred is closed to this line": 1 is the code of `<`.
-pub(crate) fn close(closed: &mut [u8], symbol: u8, k: usize)
-    requires { ⌜ k < length (now closed) ⌝ }
-    ensures { λ _. ⌜ now (closed .exit) ≡ closedFlags (now (closed .entry)) symbol k ⌝ }
+// "A `<` macro that occurred is closed to this line".
+pub(crate) fn close(flags: &mut [u8], symbol: u8, k: usize)
+    requires { ⌜ k < length (now flags) ⌝ }
+    ensures { λ _. ⌜ now (flags .exit) ≡ closedFlags (now (flags .entry)) symbol k ⌝ }
 {
-    if symbol == 1 {
-        closed[k] = 1;
+    if symbol == LESS {
+        flags[k] = CLOSED;
         return;
     }
 }

@@ -11,13 +11,14 @@ use Rattle.macros.specs.Macro.{Table}
 use Rattle.lines.specs.State.{State}
 use Rattle.lines.specs.Replacing.{Work, Done}
 use Rattle.lines.specs.Replacing.Done.{bad, good}
-use Rattle.lines.specs.Pass.{pass, occurred, outcome}
+use Rattle.lines.specs.Pass.{occurred, outcome}
 use Rattle.lines.specs.Line.{Sent, Numbered, Pass, Ending, Line, passed, refused, done, control, newestFirst, closedBy}
-use Rattle.lines.specs.Line.{isControl, due, follow, afterPass, textOf, passes, lineOf}
+use Rattle.lines.specs.Line.{isControl, due, passOf, follow, afterPass, textOf, passes, lineOf}
 use Rattle.lines.specs.Line.{Line.ended as lineEnded}
 use Rattle.lines.specs.Demand.{passCount, endOfLine}
 use Rattle.lines.specs.Budget.{oneMore}
-use Rattle.lines.proofs.OccurLaws.{NoBudget, pass-no}
+use Rattle.lines.proofs.OccurLaws.{NoBudget}
+use Rattle.lines.proofs.LineLaws.{made-no}
 
 -- THE PASSES ARE WITHIN THE BUDGET
 
@@ -51,17 +52,17 @@ after-budgeted : (n : ℕ) (x : Pass) (on again : Work → Line) → Budgeted n 
 unfolding afterPass
 after-budgeted n x on again h = record { within = omega (arith, h .within); usedUp = λ e. ap suc (h .usedUp e); uncut = h .uncut }
 
-passes-budgeted : (ms : Table) (n : ℕ) (closed : List ℕ) (todo : List Numbered) (st : State) (t : List ℕ) → Budgeted n (passes ms n closed todo st t)
+passes-budgeted : (ms : Table) (n : ℕ) (closed begun : List ℕ) (todo : List Numbered) (st : State) (t : List ℕ) → Budgeted n (passes ms n closed begun todo st t)
 unfolding passes
-passes-budgeted ms zero closed todo st t = due-budgeted zero (isControl t) t st todo _ (λ e es. record { within = omega arith; usedUp = λ e. refl; uncut = λ e. let z : _≡_ {A = ℕ} 0 1 = cc in omega arith })
-passes-budgeted ms (suc n) closed todo st t =
+passes-budgeted ms zero closed begun todo st t = due-budgeted zero (isControl t) t st todo _ (λ e es. record { within = omega arith; usedUp = λ e. refl; uncut = λ e. let z : _≡_ {A = ℕ} 0 1 = cc in omega arith })
+passes-budgeted ms (suc n) closed begun todo st t =
     due-budgeted (suc n) (isControl t) t st todo _
     (λ e es. after-budgeted n _ _ _
-    (follow-budgeted n (outcome (pass (e .macro) t st)) (occurred (pass (e .macro) t st)) _ _ (pass-no (e .macro) t st)
-    (λ w. passes-budgeted ms n closed es st t)
-    (λ w. passes-budgeted ms n (closedBy e closed) (newestFirst (closedBy e closed) ms) (w .state) (textOf w))))
+    (follow-budgeted n (outcome (passOf begun e t st .events)) (occurred (passOf begun e t st .events)) _ _ (made-no begun e t st)
+    (λ w. passes-budgeted ms n closed (e .number ∷ begun) es (w .state) t)
+    (λ w. passes-budgeted ms n (closedBy e closed) (e .number ∷ begun) (newestFirst (closedBy e closed) ms) (w .state) (textOf w))))
 
 -- THE LAW
 pub line-budgeted : (ms : Table) (st : State) (sent : Sent) → Budgeted (sent .budget) (lineOf ms st sent)
 unfolding lineOf
-line-budgeted ms st sent = passes-budgeted ms (sent .budget) [] (newestFirst [] ms) st (sent .line)
+line-budgeted ms st sent = passes-budgeted ms (sent .budget) [] [] (newestFirst [] ms) st (sent .line)

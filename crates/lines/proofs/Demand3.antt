@@ -13,7 +13,7 @@ use Rattle.macros.specs.Refusals.Refusal.{ofHost, ofLine, ofFile, ofWork}
 use Rattle.macros.specs.Refusals.LineRefusal.{lineTooLong, badByte, badControl}
 use Rattle.macros.specs.Macro.{Table}
 use Rattle.lines.specs.State.{State, fresh}
-use Rattle.lines.specs.Line.{Sent, Ending, Line, refused, done, control, isIn, passesOf, hadOccurrence, ending}
+use Rattle.lines.specs.Line.{Sent, Ending, Line, refused, done, control, passesOf, hadOccurrence, ending}
 use Rattle.lines.specs.Trace.{historyOf}
 use Rattle.lines.specs.Feeding.{Order, wrong, orders, orderOf, Answer, kindOfDone, refusal, tracing, ofOrder, answered, answer, hasBadByte, feed, feeds}
 use Rattle.lines.specs.Controls.{Says}
@@ -64,13 +64,12 @@ module _ (ms : Table) (st : State) (sent : Sent) (fits : Fits sent) where
 
   finished : (s : List ℕ) (z : State) → ending history ≡ done s z
       → Finished ms history (record { kind = kindOfDone (z .nflag) (hadOccurrence (passesOf history)) s; passes = count; table = ms; state = z; traceText = tracing st (passesOf history) }) s
-  unfolding isIn
   finished s z e =
       record {
         final = sym (end-of-line history) ∙ e;
         kind = kind-of-done history s z (z .nflag) (hadOccurrence (passesOf history)) refl refl;
         table = refl;
-        nothingLeft = λ i m at f. left-nothing ms s z i m at [] [] (sent .line) st history (history-holds ms st sent) (λ j k b c d. absurd (false≢true d)) e f;
+        nothingLeft = λ i m at f. left-nothing ms s z i m at [] [] (sent .line) st history (history-holds ms st sent) e f;
       }
 
   done-holds : (s : List ℕ) (z : State) → ending history ≡ done s z → (f : ℕ) (o : Bool)

@@ -1,5 +1,6 @@
 -- A pass of a well formed macro over a line without byte 0 ends in a sound moment, or refused.
 use Prim.Native.Nat.{ℕ, zero, suc, _-_}
+use mathlib.Core.Bool.{Bool, true, false}
 use mathlib.Core.List.{List, [], _∷_}
 use mathlib.Core.Option.{Option, none, some}
 use mathlib.Core.Path.{refl}
@@ -8,11 +9,12 @@ use Rattle.macros.specs.Macro.{Macro}
 use Rattle.macros.specs.Formed.{Byte, Bytes, Formed}
 use Rattle.lines.specs.State.{State, InRange}
 use Rattle.lines.specs.Matching.{Division, endOf}
-use Rattle.lines.specs.Replacing.{Work, Done, put, occur}
+use Rattle.lines.specs.Replacing.{Work, Done, startIn, put, occur}
 use Rattle.lines.specs.Replacing.Done.{bad, good}
 use Rattle.lines.specs.Pass.{Walk, goOn, matched, atEnd, onward, atByte, walk, pass, match, outcome}
 use Rattle.lines.specs.Pass.Walk.{ended}
-use Rattle.lines.proofs.KeepWork.{Sound, SoundDone, put-sound, occur-sound}
+use Rattle.lines.specs.Line.{Numbered, isIn, prepares, passBehind, passOf}
+use Rattle.lines.proofs.KeepWork.{Sound, SoundDone, put-sound, occur-sound, calls-sound}
 
 abbrev pub SoundWalk : Walk → Type 0
 SoundWalk k = SoundDone (outcome k)
@@ -54,6 +56,22 @@ module _ (m : Macro) (t : List ℕ) (f : Formed m) (c : Bytes t) where
   walk-sound (b ∷ s) zero last p w e h =
       byte-sound p b last w _ (match (w .state) (m .pattern) last p (b ∷ s)) (e .0) (λ skip l v. walk-sound s skip l (suc p) v (e .1)) h
 
+start-sound : (st : State) → InRange st → Sound (startIn st)
+start-sound st h = record { exact = refl; fits = omega arith; bytes = tt; state = h }
+
 pub pass-sound : (m : Macro) (t : List ℕ) (st : State) → Formed m → Bytes t → InRange st → SoundWalk (pass m t st)
 unfolding pass
-pass-sound m t st f c h = walk-sound m t f c t 0 none 0 _ c (record { exact = refl; fits = omega arith; bytes = tt; state = h })
+pass-sound m t st f c h = walk-sound m t f c t 0 none 0 _ c (start-sound st h)
+
+-- with the calls before its pattern
+pub made-sound : (begun : List ℕ) (e : Numbered) (t : List ℕ) (st : State) → Formed (e .macro) → Bytes t → InRange st → SoundWalk (passOf begun e t st .events)
+unfolding passOf passBehind prepares outcome
+made-sound begun e t st f c h = behind (prepares (isIn (e .number) begun) (e .macro) st) (by (isIn (e .number) begun))
+  where
+    by : (again : Bool) → SoundDone (prepares again (e .macro) st)
+    by true = start-sound st h
+    by false = calls-sound (e .macro) (startIn st) f (start-sound st h)
+
+    behind : (d : Done) → SoundDone d → SoundWalk (passBehind e t st d .events)
+    behind (bad r w) g = tt
+    behind (good w) g = pass-sound (e .macro) t (w .state) f c (g .state)

@@ -18,7 +18,7 @@ use Rattle.macros.specs.Macro.Action.{text, tag, call}
 use Rattle.macros.specs.Formed.{Between, Byte, Bytes, limit, numberFits, FormedCall, FormedAction, FormedReplacement, FormedCommands, Formed}
 use Rattle.lines.specs.State.{Stack, Counter, stackOf, counterOf, contents, EntryInRange, StackInRange, CounterInRange, InRange}
 use Rattle.lines.specs.Matching.{Division, stops, tagText}
-use Rattle.lines.specs.Replacing.{Work, Done, _>>=_, unless, puts, put, withStack, withCounter, withPointer, withValue, withIncrement, withEntry, moves, early, late, stores, callActs, acts, replaces, commandsAct, occur}
+use Rattle.lines.specs.Replacing.{Work, Done, _>>=_, unless, puts, put, withStack, withCounter, withPointer, withValue, withIncrement, withEntry, moves, early, late, stores, callActs, acts, replaces, commandsAct, beforeActs, occur}
 use Rattle.lines.specs.Replacing.Done.{bad, good}
 use Rattle.lines.proofs.KeepTests.{within-between}
 use Rattle.lines.proofs.KeepBytes.{all-set, bytes-onto, length-onto, bytes-divided, bytes-tag}
@@ -164,3 +164,8 @@ occur-sound m t d w f b h =
     then-sound (replaces t (m .pattern) (stops d) (m .replacement) w) _
     (replaces-sound t (m .pattern) (stops d) _ b (m .replacement) w (f .replacement) h)
     (λ x g. commands-sound t (m .pattern) (stops d) _ b (m .commands) x (f .commands) g)
+
+-- the calls before a pattern: no line and no tags
+pub calls-sound : (m : Macro) (w : Work) → Formed m → Sound w → SoundDone (beforeActs m w)
+unfolding beforeActs
+calls-sound m w f h = commands-sound [] [] [] 0 tt (m .before) w (f .before) h

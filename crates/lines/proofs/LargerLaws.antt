@@ -74,33 +74,33 @@ one-pass given rest n x none step h =
 module _ (ms : Table) (b : Bool) where
   abbrev Law : ℕ → Type 0
   Law n =
-      (room : ℕ) (closed : List ℕ) (todo : List Numbered) (st : State) (t : List ℕ) → (Used (ending (from ms b room closed todo st t n)) → ⊥)
-      → Least (from ms b room closed todo st t) n
+      (room : ℕ) (closed begun : List ℕ) (todo : List Numbered) (st : State) (t : List ℕ) → (Used (ending (from ms b room closed begun todo st t n)) → ⊥)
+      → Least (from ms b room closed begun todo st t) n
 
   law : (n : ℕ) → Law n
   unfolding ending
-  law zero room closed todo st t free = go (next ms b room closed todo st t)
+  law zero room closed begun todo st t free = go (next ms b room closed begun todo st t)
     where
-      go : Next ms b (from ms b room closed todo st t) → Least (from ms b room closed todo st t) 0
-      go (stops e f h) = ends-at-once (from ms b room closed todo st t) 0 e h
+      go : Next ms b (from ms b room closed begun todo st t) → Least (from ms b room closed begun todo st t) 0
+      go (stops e f h) = ends-at-once (from ms b room closed begun todo st t) 0 e h
       go (fails x r f z h) = absurd (free (ap ending z))
-      go (goes x k cs es s u z h) = absurd (free (ap ending z))
-  law (suc n) room closed todo st t free = go (law n) (next ms b room closed todo st t)
+      go (goes x k cs bs es s u z h) = absurd (free (ap ending z))
+  law (suc n) room closed begun todo st t free = go (law n) (next ms b room closed begun todo st t)
     where
-      go : Law n → Next ms b (from ms b room closed todo st t) → Least (from ms b room closed todo st t) (suc n)
-      go ih (stops e f h) = ends-at-once (from ms b room closed todo st t) (suc n) e h
+      go : Law n → Next ms b (from ms b room closed begun todo st t) → Least (from ms b room closed begun todo st t) (suc n)
+      go ih (stops e f h) = ends-at-once (from ms b room closed begun todo st t) (suc n) e h
       go ih (fails x r f z h) =
-          one-pass (from ms b room closed todo st t) (λ (k : ℕ). lineEnded (refused r)) n x z h
+          one-pass (from ms b room closed begun todo st t) (λ (k : ℕ). lineEnded (refused r)) n x z h
           (ends-at-once (λ (k : ℕ). lineEnded (refused r)) n (refused r) (λ k. refl))
-      go ih (goes x k cs es s u z h) =
-          one-pass (from ms b room closed todo st t) (from ms b k cs es s u) n x z h (ih k cs es s u (λ v. free (ap ending (h n) ∙ v)))
+      go ih (goes x k cs bs es s u z h) =
+          one-pass (from ms b room closed begun todo st t) (from ms b k cs bs es s u) n x z h (ih k cs bs es s u (λ v. free (ap ending (h n) ∙ v)))
 
 -- OF THE LINE THAT IS FED
 
 module _ (ms : Table) (st : State) (sent : Sent) where
   line-law : (Used (ending (historyOf ms st sent)) → ⊥) → Least (λ (n : ℕ). historyOf ms st (withBudget n sent)) (sent .budget)
   unfolding historyOf lineOf
-  line-law h = law ms (isOn (st .trace)) (sent .budget) mostTraceBytes [] (newestFirst [] ms) st (sent .line) h
+  line-law h = law ms (isOn (st .trace)) (sent .budget) mostTraceBytes [] [] (newestFirst [] ms) st (sent .line) h
 
 -- what is looked at before the passes
 data Looked (sent : Sent) : Type 0 where

@@ -7,24 +7,25 @@ use Rattle.macros.specs.Refusals.{WorkRefusal}
 use Rattle.macros.specs.Refusals.WorkRefusal.{budgetUsedUp}
 use Rattle.macros.specs.Macro.{Table}
 use Rattle.lines.specs.State.{State}
-use Rattle.lines.specs.Replacing.{Work}
+use Rattle.lines.specs.Replacing.{Work, startIn, beforeActs}
 use Rattle.lines.specs.Replacing.Done.{bad, good}
 use Rattle.lines.specs.Pass.{pass, occurred, outcome}
-use Rattle.lines.specs.Line.{Numbered, Pass, Line, isControl, newestFirst, closedBy, due, follow, afterPass, textOf, passes, passesOf, hadOccurrence, ending, passesThen}
+use Rattle.lines.specs.Pass.{Walk.ended as walkEnded}
+use Rattle.lines.specs.Line.{Numbered, Pass, Line, isIn, prepares, passBehind, passOf, isControl, newestFirst, closedBy, due, follow, afterPass, textOf, passes, passesOf, hadOccurrence, ending, passesThen}
 use Rattle.lines.specs.Line.Line.{ended, passed}
 use Rattle.lines.specs.Line.Ending.{refused, done, control}
 
 -- THE NEXT STEP, from the text t and the state st on, with n left of the budget
 
-module _ (ms : Table) (closed : List ℕ) (st : State) (t : List ℕ) where
+module _ (ms : Table) (closed begun : List ℕ) (st : State) (t : List ℕ) where
   -- a control line
-  pub to-control : (n : ℕ) (todo : List Numbered) → isControl t ≡ true → passes ms n closed todo st t ≡ ended (control t st)
+  pub to-control : (n : ℕ) (todo : List Numbered) → isControl t ≡ true → passes ms n closed begun todo st t ≡ ended (control t st)
   unfolding passes due
   to-control zero todo c = rw c refl
   to-control (suc n) todo c = rw c refl
 
   -- no macro is due
-  pub to-done : (n : ℕ) → isControl t ≡ false → passes ms n closed [] st t ≡ ended (done t st)
+  pub to-done : (n : ℕ) → isControl t ≡ false → passes ms n closed begun [] st t ≡ ended (done t st)
   unfolding passes due
   to-done zero c = rw c refl
   to-done (suc n) c = rw c refl
@@ -32,29 +33,50 @@ module _ (ms : Table) (closed : List ℕ) (st : State) (t : List ℕ) where
   -- the macro e is due
   module _ (e : Numbered) (es : List Numbered) (c : isControl t ≡ false) where
     -- and the budget is used up
-    pub to-used : passes ms zero closed (e ∷ es) st t ≡ ended (refused budgetUsedUp)
+    pub to-used : passes ms zero closed begun (e ∷ es) st t ≡ ended (refused budgetUsedUp)
     unfolding passes due
     to-used = rw c refl
 
     -- its pass
     abbrev pub made : Pass
-    made = record { which = e; text = t; state = st; events = pass (e .macro) t st }
+    made = passOf begun e t st
 
     -- is refused
-    pub to-refused : (n : ℕ) (r : WorkRefusal) (v : Work) → outcome (pass (e .macro) t st) ≡ bad r v → passes ms (suc n) closed (e ∷ es) st t ≡ passed made (ended (refused r))
+    pub to-refused : (n : ℕ) (r : WorkRefusal) (v : Work) → outcome (made .events) ≡ bad r v → passes ms (suc n) closed begun (e ∷ es) st t ≡ passed made (ended (refused r))
     unfolding passes due afterPass follow
     to-refused n r v x = rw (c, x) refl
 
     -- has no occurrence
-    pub to-next : (n : ℕ) (v : Work) → outcome (pass (e .macro) t st) ≡ good v → occurred (pass (e .macro) t st) ≡ false → passes ms (suc n) closed (e ∷ es) st t ≡ passed made (passes ms n closed es st t)
+    pub to-next : (n : ℕ) (v : Work) → outcome (made .events) ≡ good v → occurred (made .events) ≡ false → passes ms (suc n) closed begun (e ∷ es) st t ≡ passed made (passes ms n closed (e .number ∷ begun) es (v .state) t)
     unfolding passes due afterPass follow
     to-next n v x o = rw (c, x, o) refl
 
     -- has one
-    pub to-again : (n : ℕ) (v : Work) → outcome (pass (e .macro) t st) ≡ good v → occurred (pass (e .macro) t st) ≡ true
-        → passes ms (suc n) closed (e ∷ es) st t ≡ passed made (passes ms n (closedBy e closed) (newestFirst (closedBy e closed) ms) (v .state) (textOf v))
+    pub to-again : (n : ℕ) (v : Work) → outcome (made .events) ≡ good v → occurred (made .events) ≡ true
+        → passes ms (suc n) closed begun (e ∷ es) st t ≡ passed made (passes ms n (closedBy e closed) (e .number ∷ begun) (newestFirst (closedBy e closed) ms) (v .state) (textOf v))
     unfolding passes due afterPass follow
     to-again n v x o = rw (c, x, o) refl
+
+-- A PASS, with the calls before its pattern
+
+module _ (begun : List ℕ) (e : Numbered) (t : List ℕ) (st : State) where
+  -- its macro passed before: none of them runs
+  pub pass-again : isIn (e .number) begun ≡ true
+      → passOf begun e t st ≡ record { which = e; text = t; state = st; tried = st; events = pass (e .macro) t st }
+  unfolding passOf prepares passBehind
+  pass-again h = rw h refl
+
+  -- its macro's first pass: they run
+  pub pass-first : (w : Work) → isIn (e .number) begun ≡ false → beforeActs (e .macro) (startIn st) ≡ good w
+      → passOf begun e t st ≡ record { which = e; text = t; state = st; tried = w .state; events = pass (e .macro) t (w .state) }
+  unfolding passOf prepares passBehind
+  pass-first w h g = rw (h, g) refl
+
+  -- and one of them is refused
+  pub pass-stopped : (r : WorkRefusal) (w : Work) → isIn (e .number) begun ≡ false → beforeActs (e .macro) (startIn st) ≡ bad r w
+      → passOf begun e t st ≡ record { which = e; text = t; state = st; tried = w .state; events = walkEnded (bad r w) }
+  unfolding passOf prepares passBehind
+  pass-stopped r w h g = rw (h, g) refl
 
 -- BEHIND THE PASSES SO FAR
 

@@ -1,10 +1,9 @@
--- The law of specs/Steps: an occurrence comes to what its steps come to; and no step is refused with 31.
+-- The laws of specs/Steps: an occurrence, and the calls before a pattern, come to what their steps come to; and no step is refused with 31.
 use mathlib.Core.Path.{_≡_, refl, sym, ap, _∙_, subst}
 use mathlib.Core.Bool.{Bool, true, false}
 use mathlib.Core.Logic.{_⊎_, inl, inr}
 use mathlib.Core.List.{List, [], _∷_, _++_, reverse, reverse-reverse, append-nil}
-use mathlib.Core.Option.{Option, none, some}
-use Prim.Native.Nat.{ℕ, zero, suc, _+_, _-_, _≤_, _<_}
+use Prim.Native.Nat.{ℕ, _+_, _-_, _≤_, _<_}
 use native.Mathlib.Omega.{arith}
 use borrow.Author.Tests.{leb-true, leb-false, ltb-true, ltb-false}
 use lib.Dec.{leb, ltb}
@@ -18,14 +17,13 @@ use Rattle.macros.specs.Macro.Sign.{plus, minus}
 use Rattle.macros.specs.Macro.Move.{still, before, after}
 use Rattle.macros.specs.Macro.Call.{insert, storeTag, setTo, storeText, setIncrement, divide}
 use Rattle.macros.specs.Macro.Action.{text, tag, call}
-use Rattle.lines.specs.State.{State, stackOf, counterOf, contents}
-use Rattle.lines.specs.Matching.{Division, endOf, stops, tagText}
+use Rattle.lines.specs.State.{stackOf, counterOf, contents}
+use Rattle.lines.specs.Matching.{Division, stops, tagText}
 use Rattle.lines.specs.Dividing.{dividedText, Divided}
 use Rattle.lines.specs.Replacing.{Work, Done, bad, good, _>>=_, unless, onto, puts, put, withPointer, withValue, withEntry}
-use Rattle.lines.specs.Replacing.{fallen, moves, early, late, stores, callActs, acts, replaces, commandsAct, occur}
-use Rattle.lines.specs.Pass.{Walk, ended, occurs, match, goOn, matched, atEnd, onward, atByte, walk, pass, outcome}
-use Rattle.lines.specs.Steps.{Copied, Step, withMove, callSteps, actionSteps, replacementSteps, commandSteps, tagTexts, stepsOf}
-use Rattle.lines.specs.Steps.{FallsTo, Does, Why, Acts, Breaks, ComesTo, OccurSteps}
+use Rattle.lines.specs.Replacing.{fallen, moves, early, late, stores, callActs, acts, replaces, commandsAct, beforeActs, occur}
+use Rattle.lines.specs.Steps.{Copied, Step, withMove, callSteps, actionSteps, replacementSteps, commandSteps, tagTexts, stepsOf, stepsBefore}
+use Rattle.lines.specs.Steps.{FallsTo, Does, Why, Acts, Breaks, ComesTo, OccurSteps, CallsSteps}
 use Rattle.lines.specs.Steps.{Step.inserts as insertsText, Step.insertsCurrent as insertsCurrent, Step.insertsDivided as insertsDivided, Step.stores as storesText, Step.moves as movesIt}
 use Rattle.lines.specs.Steps.{Step.sets as setsIt, Step.setsIncrement as setsIncrement}
 use Rattle.lines.proofs.DividingLaws.{divided-text, divided-is}
@@ -175,6 +173,11 @@ occur-steps m t d w =
     bind (replacementSteps (tagTexts t es qs) (m .replacement)) (commandSteps (tagTexts t es qs) (m .commands)) w
     (replaces t es qs (m .replacement) w) (commandsAct t es qs (m .commands)) (replacement-steps t es qs (m .replacement) w) (command-steps t es qs (m .commands))
 
+-- THE LAW: with no tags, since there is no division
+pub calls-steps : CallsSteps
+unfolding beforeActs tagText
+calls-steps m w = command-steps [] [] [] (m .before) w
+
 -- STEPS COME TO ONE THING
 
 pub copied-same : (s : List ℕ) (w v x : Work) → Copied s w v → Copied s w x → v ≡ x
@@ -274,6 +277,10 @@ comes-same xs w (bad r v) (bad s u) h g = breaks-same xs w r v s u h g
 pub occur-is : (m : Macro) (t : List ℕ) (d : Division) (w : Work) (a : Done) → ComesTo (stepsOf m t d) w a → occur m t d w ≡ a
 occur-is m t d w a h = comes-same (stepsOf m t d) w (occur m t d w) a (occur-steps m t d w) h
 
+-- and of the calls before a pattern
+pub calls-are : (m : Macro) (w : Work) (a : Done) → ComesTo (stepsBefore m) w a → beforeActs m w ≡ a
+calls-are m w a h = comes-same (stepsBefore m) w (beforeActs m w) a (calls-steps m w) h
+
 -- NO STEP IS REFUSED WITH 31 OR 36
 
 -- 32 to 35 alone
@@ -285,7 +292,7 @@ abbrev pub NoBudget : Done → Type 0
 NoBudget (bad r w) = OfStep r
 NoBudget (good w) = Unit {0}
 
-of-room : OfStep newLineTooLong
+pub of-room : OfStep newLineTooLong
 of-room = (λ e. let z : _≡_ {A = ℕ} 0 1 = cc in omega arith, λ e. let z : _≡_ {A = ℕ} 0 1 = cc in omega arith)
 
 of-tag : OfStep tagTooLong
@@ -309,64 +316,7 @@ why-step (movesIt counter minus i) w r h = absurd h
 why-step (setsIt m i n) w r h = absurd h
 why-step (setsIncrement i n) w r h = absurd h
 
-breaks-step : (xs : List Step) (w : Work) (r : WorkRefusal) (v : Work) → Breaks xs w r v → OfStep r
+pub breaks-step : (xs : List Step) (w : Work) (r : WorkRefusal) (v : Work) → Breaks xs w r v → OfStep r
 breaks-step [] w r v h = absurd h
 breaks-step (x ∷ xs) w r v (inl h) = why-step x w r (h .1)
 breaks-step (x ∷ xs) w r v (inr h) = breaks-step xs (h .0) r v (h .2)
-
-comes-no : (xs : List Step) (w : Work) (a : Done) → ComesTo xs w a → NoBudget a
-comes-no xs w (good v) h = tt
-comes-no xs w (bad r v) h = breaks-step xs w r v h
-
-occur-no : (m : Macro) (t : List ℕ) (d : Division) (w : Work) → NoBudget (occur m t d w)
-occur-no m t d w = comes-no (stepsOf m t d) w (occur m t d w) (occur-steps m t d w)
-
-put-no : (b : ℕ) (w : Work) → NoBudget (put b w)
-put-no b w = comes-no (insertsText (b ∷ []) ∷ []) w (put b w) (put-step b w)
-
--- A PASS
-
-abbrev pub WalkNoBudget : Walk → Type 0
-WalkNoBudget (ended d) = NoBudget d
-WalkNoBudget (occurs o k) = WalkNoBudget k
-
-go-no : (a : Done) (k : Work → Walk) → NoBudget a → ((w : Work) → WalkNoBudget (k w)) → WalkNoBudget (goOn a k)
-unfolding goOn
-go-no (bad r w) k h g = h
-go-no (good w) k h g = g w
-
-matched-no : (m : Macro) (t : List ℕ) (p : ℕ) (d : Division) (w : Work) (k : Work → Walk) → ((v : Work) → WalkNoBudget (k v)) → WalkNoBudget (matched m t p d w k)
-unfolding matched
-matched-no m t p d w k g = go-no (occur m t d w) _ (occur-no m t d w) g
-
-end-no : (m : Macro) (t : List ℕ) (p : ℕ) (w : Work) (a : Option Division) → WalkNoBudget (atEnd m t p w a)
-unfolding atEnd
-end-no m t p w none = tt
-end-no m t p w (some d) = matched-no m t p d w (λ v. ended (good v)) (λ v. tt)
-
-onward-no : (q b k : ℕ) (go : ℕ → Option ℕ → Work → Walk) → ((s : ℕ) (l : Option ℕ) (v : Work) → WalkNoBudget (go s l v)) → (w : Work) → WalkNoBudget (onward q b k go w)
-unfolding onward
-onward-no q b zero go g w = go-no (put b w) _ (put-no b w) (λ v. g zero (some q) v)
-onward-no q b (suc k) go g w = g k (some q) w
-
-byte-no : (m : Macro) (t : List ℕ) (p b : ℕ) (last : Option ℕ) (w : Work) (go : ℕ → Option ℕ → Work → Walk) → ((s : ℕ) (l : Option ℕ) (v : Work) → WalkNoBudget (go s l v))
-    → (a : Option Division) → WalkNoBudget (atByte m t p b last w go a)
-unfolding atByte
-byte-no m t p b last w go g none = go-no (put b w) _ (put-no b w) (λ v. g zero last v)
-byte-no m t p b last w go g (some d) = matched-no m t p d w (onward (endOf p d) b (endOf p d - p) go) (onward-no (endOf p d) b (endOf p d - p) go g)
-
-walk-no : (m : Macro) (t s : List ℕ) (skip : ℕ) (last : Option ℕ) (p : ℕ) (w : Work) → WalkNoBudget (walk m t skip last p w s)
-unfolding walk
-walk-no m t [] skip last p w = end-no m t p w (match (w .state) (m .pattern) last p [])
-walk-no m t (b ∷ bs) (suc skip) last p w = walk-no m t bs skip last (suc p) w
-walk-no m t (b ∷ bs) zero last p w = byte-no m t p b last w (λ k l v. walk m t k l (suc p) v bs) (λ k l v. walk-no m t bs k l (suc p) v) (match (w .state) (m .pattern) last p (b ∷ bs))
-
-outcome-no : (k : Walk) → WalkNoBudget k → NoBudget (outcome k)
-unfolding outcome
-outcome-no (ended d) h = h
-outcome-no (occurs o k) h = outcome-no k h
-
--- THE LAW
-pub pass-no : (m : Macro) (t : List ℕ) (st : State) → NoBudget (outcome (pass m t st))
-unfolding pass
-pass-no m t st = outcome-no (walk m t 0 none 0 (record { out = []; size = 0; state = st }) t) (walk-no m t t 0 none 0 (record { out = []; size = 0; state = st }))

@@ -15,19 +15,20 @@ use Rattle.macros.specs.Refusals.WorkRefusal.{budgetUsedUp, traceTooLong}
 use Rattle.macros.specs.Macro.{Macro, Table, pick}
 use Rattle.lines.specs.State.{State}
 use Rattle.lines.specs.Matching.{span, Division, Fewer, Divides}
-use Rattle.lines.specs.Replacing.{Work, Done, occur}
+use Rattle.lines.specs.Replacing.{Work, Done, startIn, beforeActs, occur}
 use Rattle.lines.specs.Replacing.Done.{bad, good}
 use Rattle.lines.specs.Pass.{Occurrence, Walk, ended, occurs}
 use Rattle.lines.specs.Line.{Numbered, Pass, Line, passed, refused, done, control}
 use Rattle.lines.specs.Line.{Line.ended as lineEnded}
-use Rattle.lines.specs.Steps.{newLine, Copied}
+use Rattle.lines.specs.Steps.{newLine, Copied, stepsBefore, ComesTo}
 use Rattle.lines.specs.Demand.{onwardFrom, NoneAhead, Stands, Replaces, stopOf, nextPlace, behind, Fails, Full, Walks, EndsIn, FailsIn}
+use Rattle.lines.specs.Demand.{NotIn, Tries, PassBegins, first, stopped, again}
 use Rattle.lines.specs.Demand.{PassHolds, closedAfter, sinceAfter, Passes, passCount, endOfLine, TraceFits, FitsIf}
 use Rattle.lines.specs.Trace.{linesOf}
 use Rattle.lines.specs.OneLine.{OneLine}
 use Rattle.lines.proofs.LineLaws.{either}
 use Rattle.lines.proofs.TellLaws.{fits-lines}
-use Rattle.lines.proofs.OccurLaws.{copied-same, occur-is}
+use Rattle.lines.proofs.OccurLaws.{copied-same, occur-is, calls-are}
 
 -- MOMENTS AND DIVISIONS
 
@@ -224,9 +225,59 @@ fails-same : (k : Walk) (r : WorkRefusal) (v : Work) (s : WorkRefusal) (x : Work
 fails-same (ended d) r v s x e f = cc
 fails-same (occurs o k) r v s x e f = fails-same k r v s x e f
 
-module _ (ms : Table) (closed since : List ℕ) (t : List ℕ) (st : State) where
-  pass-same : (x y : Pass) → PassHolds ms closed since t st x → PassHolds ms closed since t st y → x ≡ y
-  pass-same x y h g = λ i. record { which = record { number = number i; macro = macro i }; text = text i; state = state i; events = events i }
+-- two passes of one macro that begin in the same state, over the same text
+module _ (begun t : List ℕ) (st : State) (x y : Pass) (number : x .which .number ≡ y .which .number) (macro : x .which .macro ≡ y .which .macro) where
+  -- they try place 0 in the same state, and the same happens in them
+  record Equal : Type 0 where
+    tried : x .tried ≡ y .tried
+    events : x .events ≡ y .events
+
+  by-tries : x .tried ≡ y .tried → Tries t x → Tries t y → Equal
+  by-tries e h g = record { tried = e; events = walk-same (x .which .macro) t 0 none (startIn (x .tried)) (omega arith) (x .events) (y .events) h here }
+    where
+      here : Walks (x .which .macro) t (onwardFrom 0 none) (startIn (x .tried)) (y .events)
+      here =
+          subst (λ (m : Macro). Walks m t (onwardFrom 0 none) (startIn (x .tried)) (y .events)) (sym macro)
+          (subst (λ (z : State). Walks (y .which .macro) t (onwardFrom 0 none) (startIn z) (y .events)) (sym e) g)
+
+  -- what the calls before the pattern come to, in both
+  of-first : (a : Done) → ComesTo (stepsBefore (x .which .macro)) (startIn st) a → beforeActs (x .which .macro) (startIn st) ≡ a
+  of-first a h = calls-are (x .which .macro) (startIn st) a h
+
+  of-second : (a : Done) → ComesTo (stepsBefore (y .which .macro)) (startIn st) a → beforeActs (x .which .macro) (startIn st) ≡ a
+  of-second a h = ap (λ (m : Macro). beforeActs m (startIn st)) macro ∙ calls-are (y .which .macro) (startIn st) a h
+
+  one-moment : (v u : Work) → beforeActs (x .which .macro) (startIn st) ≡ good v → beforeActs (x .which .macro) (startIn st) ≡ good u → v .state ≡ u .state
+  one-moment v u e f = let z : v ≡ u = cc in ap (λ (w : Work). w .state) z
+
+  one-refusal : (r : WorkRefusal) (v : Work) (q : WorkRefusal) (u : Work) → beforeActs (x .which .macro) (startIn st) ≡ bad r v → beforeActs (x .which .macro) (startIn st) ≡ bad q u
+      → x .tried ≡ v .state → y .tried ≡ u .state → x .events ≡ ended (bad r v) → y .events ≡ ended (bad q u) → Equal
+  one-refusal r v q u e f a b c d =
+      let z : v ≡ u = cc in
+      let k : bad r v ≡ bad q u = sym e ∙ f in
+      record { tried = a ∙ ap (λ (w : Work). w .state) z ∙ sym b; events = c ∙ ap ended k ∙ sym d }
+
+  old-new : (NotIn (x .which .number) begun → ⊥) → NotIn (y .which .number) begun → ⊥
+  old-new f n = f (subst (λ (j : ℕ). NotIn j begun) (sym number) n)
+
+  new-old : NotIn (x .which .number) begun → (NotIn (y .which .number) begun → ⊥) → ⊥
+  new-old n f = f (subst (λ (j : ℕ). NotIn j begun) number n)
+
+  begins-same : PassBegins begun t st x → PassBegins begun t st y → Equal
+  begins-same (first n v a e h) (first k u b f g) = by-tries (e ∙ one-moment v u (of-first (good v) a) (of-second (good u) b) ∙ sym f) h g
+  begins-same (first n v a e h) (stopped k q u b f g) = absurd (good-not-bad (beforeActs (x .which .macro) (startIn st)) v q u (of-first (good v) a) (of-second (bad q u) b))
+  begins-same (first n v a e h) (again k f g) = absurd (new-old n k)
+  begins-same (stopped n r v a e h) (first k u b f g) = absurd (good-not-bad (beforeActs (x .which .macro) (startIn st)) u r v (of-second (good u) b) (of-first (bad r v) a))
+  begins-same (stopped n r v a e h) (stopped k q u b f g) = one-refusal r v q u (of-first (bad r v) a) (of-second (bad q u) b) e f h g
+  begins-same (stopped n r v a e h) (again k f g) = absurd (new-old n k)
+  begins-same (again n e h) (first k u b f g) = absurd (old-new n k)
+  begins-same (again n e h) (stopped k q u b f g) = absurd (old-new n k)
+  begins-same (again n e h) (again k f g) = by-tries (e ∙ sym f) h g
+
+module _ (ms : Table) (closed since begun : List ℕ) (t : List ℕ) (st : State) where
+  pass-same : (x y : Pass) → PassHolds ms closed since begun t st x → PassHolds ms closed since begun t st y → x ≡ y
+  pass-same x y h g =
+      λ i. record { which = record { number = number i; macro = macro i }; text = text i; state = state i; tried = begun-so .tried i; events = begun-so .events i }
     where
       number : x .which .number ≡ y .which .number
       number =
@@ -246,10 +297,8 @@ module _ (ms : Table) (closed since : List ℕ) (t : List ℕ) (st : State) wher
       state : x .state ≡ y .state
       state = h .state ∙ sym (g .state)
 
-      events : x .events ≡ y .events
-      events =
-          walk-same (x .which .macro) t 0 none (record { out = []; size = 0; state = st }) (omega arith) (x .events) (y .events) (h .walks)
-          (subst (λ (m : Macro). Walks m t (onwardFrom 0 none) (record { out = []; size = 0; state = st }) (y .events)) (sym macro) (g .walks))
+      begun-so : Equal begun t st x y number macro
+      begun-so = begins-same begun t st x y number macro (h .begins) (g .begins)
 
 -- what the budget n says of a history
 record Spent (n : ℕ) (l : Line) : Type 0 where
@@ -264,11 +313,11 @@ spent-all : (n : ℕ) (r : WorkRefusal) (x : Pass) (l : Line) → r ≡ budgetUs
 spent-all n r x l e h g = let a : 0 ≡ n = h .usedUp (ap refused e) in let b = g .within in omega arith
 
 -- 36 comes behind a pass only, and not where the line goes on
-not-36 : (ms : Table) (closed since : List ℕ) (t : List ℕ) (st : State) (l : Line) → Passes ms closed since t st l → l ≡ lineEnded (refused traceTooLong) → ⊥
-not-36 ms closed since t st (lineEnded (refused r)) h e = let a = h .0 in let z : _≡_ {A = ℕ} 0 1 = cc in omega arith
-not-36 ms closed since t st (lineEnded (done s x)) h e = let z : _≡_ {A = ℕ} 0 1 = cc in omega arith
-not-36 ms closed since t st (lineEnded (control s x)) h e = let z : _≡_ {A = ℕ} 0 1 = cc in omega arith
-not-36 ms closed since t st (passed x l) h e = let z : _≡_ {A = ℕ} 0 1 = cc in omega arith
+not-36 : (ms : Table) (closed since begun : List ℕ) (t : List ℕ) (st : State) (l : Line) → Passes ms closed since begun t st l → l ≡ lineEnded (refused traceTooLong) → ⊥
+not-36 ms closed since begun t st (lineEnded (refused r)) h e = let a = h .0 in let z : _≡_ {A = ℕ} 0 1 = cc in omega arith
+not-36 ms closed since begun t st (lineEnded (done s x)) h e = let z : _≡_ {A = ℕ} 0 1 = cc in omega arith
+not-36 ms closed since begun t st (lineEnded (control s x)) h e = let z : _≡_ {A = ℕ} 0 1 = cc in omega arith
+not-36 ms closed since begun t st (passed x l) h e = let z : _≡_ {A = ℕ} 0 1 = cc in omega arith
 
 -- the line behind a pass goes on, so the lines of that pass fit
 traces-rest : (f n : ℕ) (x : Pass) (l : Line) → (l ≡ lineEnded (refused traceTooLong) → ⊥) → FitsIf f n (passed x l) → FitsIf f (n - length (linesOf x)) l
@@ -287,35 +336,35 @@ record Bound (f n room : ℕ) (l : Line) : Type 0 where
   spent : Spent n l
   traces : FitsIf f room l
 
-line-same : (ms : Table) (f n room : ℕ) (closed since : List ℕ) (t : List ℕ) (st : State) (l k : Line) → Passes ms closed since t st l → Passes ms closed since t st k
+line-same : (ms : Table) (f n room : ℕ) (closed since begun : List ℕ) (t : List ℕ) (st : State) (l k : Line) → Passes ms closed since begun t st l → Passes ms closed since begun t st k
     → Bound f n room l → Bound f n room k → l ≡ k
-line-same ms f n room closed since t st (lineEnded (done s x)) (lineEnded (done a y)) h g u v = cc
-line-same ms f n room closed since t st (lineEnded (done s x)) (lineEnded (control a y)) h g u v = absurd (h .2 (g .2))
-line-same ms f n room closed since t st (lineEnded (done s x)) (lineEnded (refused r)) h g u v = absurd (h .3 (g .2 .0) (g .2 .1) (g .2 .2))
-line-same ms f n room closed since t st (lineEnded (done s x)) (passed y k) h g u v = absurd (h .3 (y .which .number) (y .which .macro) (g .0 .due))
-line-same ms f n room closed since t st (lineEnded (control s x)) (lineEnded (done a y)) h g u v = absurd (g .2 (h .2))
-line-same ms f n room closed since t st (lineEnded (control s x)) (lineEnded (control a y)) h g u v = cc
-line-same ms f n room closed since t st (lineEnded (control s x)) (lineEnded (refused r)) h g u v = absurd (g .1 (h .2))
-line-same ms f n room closed since t st (lineEnded (control s x)) (passed y k) h g u v = absurd (g .0 .plain (h .2))
-line-same ms f n room closed since t st (lineEnded (refused r)) (lineEnded (done a y)) h g u v = absurd (g .3 (h .2 .0) (h .2 .1) (h .2 .2))
-line-same ms f n room closed since t st (lineEnded (refused r)) (lineEnded (control a y)) h g u v = absurd (h .1 (g .2))
-line-same ms f n room closed since t st (lineEnded (refused r)) (lineEnded (refused s)) h g u v = cc
-line-same ms f n room closed since t st (lineEnded (refused r)) (passed y k) h g u v = absurd (spent-all n r y k (h .0) (u .spent) (v .spent))
-line-same ms f n room closed since t st (passed x l) (lineEnded (done a y)) h g u v = absurd (g .3 (x .which .number) (x .which .macro) (h .0 .due))
-line-same ms f n room closed since t st (passed x l) (lineEnded (control a y)) h g u v = absurd (h .0 .plain (g .2))
-line-same ms f n room closed since t st (passed x l) (lineEnded (refused r)) h g u v = absurd (spent-all n r x l (g .0) (v .spent) (u .spent))
-line-same ms f n room closed since t st (passed x l) (passed y k) h g u v =
-    let e : x ≡ y = pass-same ms closed since t st x y (h .0) (g .0) in
-    let z = subst (λ (a : Pass). Passes ms closed since t st (passed a k)) (sym e) g in
+line-same ms f n room closed since begun t st (lineEnded (done s x)) (lineEnded (done a y)) h g u v = cc
+line-same ms f n room closed since begun t st (lineEnded (done s x)) (lineEnded (control a y)) h g u v = absurd (h .2 (g .2))
+line-same ms f n room closed since begun t st (lineEnded (done s x)) (lineEnded (refused r)) h g u v = absurd (h .3 (g .2 .0) (g .2 .1) (g .2 .2))
+line-same ms f n room closed since begun t st (lineEnded (done s x)) (passed y k) h g u v = absurd (h .3 (y .which .number) (y .which .macro) (g .0 .due))
+line-same ms f n room closed since begun t st (lineEnded (control s x)) (lineEnded (done a y)) h g u v = absurd (g .2 (h .2))
+line-same ms f n room closed since begun t st (lineEnded (control s x)) (lineEnded (control a y)) h g u v = cc
+line-same ms f n room closed since begun t st (lineEnded (control s x)) (lineEnded (refused r)) h g u v = absurd (g .1 (h .2))
+line-same ms f n room closed since begun t st (lineEnded (control s x)) (passed y k) h g u v = absurd (g .0 .plain (h .2))
+line-same ms f n room closed since begun t st (lineEnded (refused r)) (lineEnded (done a y)) h g u v = absurd (g .3 (h .2 .0) (h .2 .1) (h .2 .2))
+line-same ms f n room closed since begun t st (lineEnded (refused r)) (lineEnded (control a y)) h g u v = absurd (h .1 (g .2))
+line-same ms f n room closed since begun t st (lineEnded (refused r)) (lineEnded (refused s)) h g u v = cc
+line-same ms f n room closed since begun t st (lineEnded (refused r)) (passed y k) h g u v = absurd (spent-all n r y k (h .0) (u .spent) (v .spent))
+line-same ms f n room closed since begun t st (passed x l) (lineEnded (done a y)) h g u v = absurd (g .3 (x .which .number) (x .which .macro) (h .0 .due))
+line-same ms f n room closed since begun t st (passed x l) (lineEnded (control a y)) h g u v = absurd (h .0 .plain (g .2))
+line-same ms f n room closed since begun t st (passed x l) (lineEnded (refused r)) h g u v = absurd (spent-all n r x l (g .0) (v .spent) (u .spent))
+line-same ms f n room closed since begun t st (passed x l) (passed y k) h g u v =
+    let e : x ≡ y = pass-same ms closed since begun t st x y (h .0) (g .0) in
+    let z = subst (λ (a : Pass). Passes ms closed since begun t st (passed a k)) (sym e) g in
     let w : Bound f n room (passed x k) = subst (λ (a : Pass). Bound f n room (passed a k)) (sym e) v in
     let i : l ≡ k = either (h .1)
     (λ a.
-    let no = not-36 ms (closedAfter x closed) (sinceAfter x since) (newLine (a .0)) (a .0 .state) l (a .2) in
+    let no = not-36 ms (closedAfter x closed) (sinceAfter x since) (x .which .number ∷ begun) (newLine (a .0)) (a .0 .state) l (a .2) in
     either (z .1)
     (λ b.
-    let p = subst (λ (c : Work). Passes ms (closedAfter x closed) (sinceAfter x since) (newLine c) (c .state) k) (ends-same (x .events) (b .0) (a .0) (b .1) (a .1)) (b .2) in
-    let nk = not-36 ms (closedAfter x closed) (sinceAfter x since) (newLine (a .0)) (a .0 .state) k p in
-    line-same ms f (n - 1) (room - length (linesOf x)) (closedAfter x closed) (sinceAfter x since) (newLine (a .0)) (a .0 .state) l k (a .2) p
+    let p = subst (λ (c : Work). Passes ms (closedAfter x closed) (sinceAfter x since) (x .which .number ∷ begun) (newLine c) (c .state) k) (ends-same (x .events) (b .0) (a .0) (b .1) (a .1)) (b .2) in
+    let nk = not-36 ms (closedAfter x closed) (sinceAfter x since) (x .which .number ∷ begun) (newLine (a .0)) (a .0 .state) k p in
+    line-same ms f (n - 1) (room - length (linesOf x)) (closedAfter x closed) (sinceAfter x since) (x .which .number ∷ begun) (newLine (a .0)) (a .0 .state) l k (a .2) p
     (record { spent = spent-rest n x l (u .spent); traces = traces-rest f room x l no (u .traces) })
     (record { spent = spent-rest n x k (w .spent); traces = traces-rest f room x k nk (w .traces) }))
     (λ b. either b (λ c. absurd (ends-fails (x .events) (a .0) (c .0) (c .1) (a .1) (c .2)))
@@ -327,7 +376,7 @@ line-same ms f n room closed since t st (passed x l) (passed y k) h g u v =
     (λ b. absurd (ends-fails (x .events) (b .0) (a .0) (a .1) (b .1) (a .2)))))
     (λ a. either (z .1)
     (λ b.
-    let nk = not-36 ms (closedAfter x closed) (sinceAfter x since) (newLine (b .0)) (b .0 .state) k (b .2) in
+    let nk = not-36 ms (closedAfter x closed) (sinceAfter x since) (x .which .number ∷ begun) (newLine (b .0)) (b .0 .state) k (b .2) in
     absurd (traces-both f room x k l nk (a .2) (w .traces) (u .traces)))
     (λ b. either b (λ b. absurd (ends-fails (x .events) (a .0) (b .0) (b .1) (a .1) (b .2))) (λ b. a .2 ∙ sym (b .2))))) in
     ap (λ (a : Pass). passed a l) e ∙ ap (passed y) i
@@ -335,6 +384,6 @@ line-same ms f n room closed since t st (passed x l) (passed y k) h g u v =
 -- THE LAW
 pub one-line : OneLine
 one-line ms st sent l k h g =
-    line-same ms (st .trace) (sent .budget) mostTraceBytes [] [] (sent .line) st l k (h .passes) (g .passes)
+    line-same ms (st .trace) (sent .budget) mostTraceBytes [] [] [] (sent .line) st l k (h .passes) (g .passes)
     (record { spent = record { within = h .within; usedUp = h .usedUp }; traces = h .traces })
     (record { spent = record { within = g .within; usedUp = g .usedUp }; traces = g .traces })

@@ -3,16 +3,18 @@ use mathlib.Core.Path.{_≡_, refl, sym, ap, _∙_, subst}
 use mathlib.Core.Bool.{Bool, true, false, not, _&&_}
 use mathlib.Core.List.{List, [], _∷_, _++_, reverse, reverse-append, reverse-reverse, append-nil}
 use mathlib.Core.Option.{Option, none, some}
-use Prim.Native.Nat.{ℕ, zero, suc, _+_}
+use Prim.Native.Nat.{ℕ, zero, suc, _+_, _-_}
 use native.Mathlib.Omega.{arith}
-use lib.Dec.{eqb, ltb}
+use lib.Dec.{ltb}
 use lib.ListN.{length, length-append}
 use Rattle.macros.specs.Bounds.{mostFileBytes, mostMacros, mostMacroBytes}
 use Rattle.macros.specs.Refusals.FileRefusal.{fileTooLong, zeroByte, incomplete, macroTooLong, tooManyMacros}
-use Rattle.macros.specs.Macro.{Macro, Table, pick}
-use Rattle.macros.specs.ReadSoFar.{Part, Step, on, done, stop}
+use Rattle.macros.specs.Quoted.{_is_}
+use Rattle.macros.specs.Macro.{Mark, Macro, Table, pick}
+use Rattle.macros.specs.ReadSoFar.{Step, on, opens, done, stop, pattern, nothing}
 use Rattle.macros.specs.ReadParts.{skips, partByte}
-use Rattle.macros.specs.ReadFile.{Reader, between, inside, Next, go, refuse, count, taken, step}
+use Rattle.macros.specs.ReadFile.{Pending, clear, atMark, Prior, Reader, between, inside, Next, go, refuse, refuseBefore, count, macroOf, taken}
+use Rattle.macros.specs.ReadFile.{outsideFresh, firstCall, outside, step}
 use Rattle.macros.specs.ReadFile.{Read, refusedAt, table, atEnd, readFrom, firstZero, readOnto}
 
 -- the macros ms, newest first, have those of old behind them
@@ -20,12 +22,13 @@ abbrev Behind : List Macro → List Macro → Type 0
 Behind old ms = (new : List Macro) × (ms ≡ new ++ old)
 
 abbrev soFar : Reader → List Macro
-soFar (between skip ms) = ms
-soFar (inside skip n st ms) = ms
+soFar (between skip a ms) = ms
+soFar (inside skip n st pr) = pr .macros
 
 abbrev Keeps : List Macro → Next → Type 0
 Keeps old (go r) = Behind old (soFar r)
 Keeps old (refuse k) = Unit {0}
+Keeps old (refuseBefore k n) = Unit {0}
 
 which : (old : List Macro) (c : Bool) (x y : Next) → Keeps old x → Keeps old y → Keeps old (pick c x y)
 unfolding pick
@@ -36,19 +39,36 @@ count-keeps : (old : List Macro) (n : ℕ) (r : Reader) → Behind old (soFar r)
 unfolding count
 count-keeps old n r h = which old (ltb n mostMacroBytes) (go r) (refuse macroTooLong) h tt
 
-taken-keeps : (old : List Macro) (n : ℕ) (ms : List Macro) (x : Step) → Behind old ms → Keeps old (taken n ms x)
+taken-keeps : (old : List Macro) (n : ℕ) (pr : Prior) (x : Step) → Behind old (pr .macros) → Keeps old (taken n pr x)
 unfolding taken
-taken-keeps old n ms (on st) h = count-keeps old n (inside false (suc n) st ms) h
-taken-keeps old n ms (done m) h = count-keeps old n (between false (m ∷ ms)) (m ∷ h .0, ap (λ (l : List Macro). m ∷ l) (h .1))
-taken-keeps old n ms (stop r) h = tt
+taken-keeps old n pr (on st) h = count-keeps old n (inside false (suc n) st pr) h
+taken-keeps old n pr (opens cs) h = count-keeps old n (inside false (suc n) (pattern nothing []) (record { calls = cs; macros = pr .macros })) h
+taken-keeps old n pr (done f as₁ ks) h =
+    let m : Macro = macroOf (pr .calls) f as₁ ks in
+    count-keeps old n (between false clear (m ∷ pr .macros)) (m ∷ h .0, ap (λ (l : List Macro). m ∷ l) (h .1))
+taken-keeps old n pr (stop r) h = tt
+
+-- before a pattern
+fresh-keeps : (old ms : List Macro) (b : ℕ) → Behind old ms → Keeps old (outsideFresh ms b)
+unfolding outsideFresh
+fresh-keeps old ms b h =
+    which old (b is "'") _ _ (which old (ltb (length ms) mostMacros) _ _ h tt) (which old (b is "&") _ _ h (which old (b is "#") _ _ h h))
+
+first-keeps : (old : List Macro) (m : Mark) (n : ℕ) (ms : List Macro) → Behind old ms → Keeps old (firstCall m n ms)
+unfolding firstCall
+first-keeps old m n ms h = which old (ltb (length ms) mostMacros) _ _ (which old (ltb n mostMacroBytes) _ _ h tt) tt
+
+outside-keeps : (old : List Macro) (a : Pending) (ms : List Macro) (b : ℕ) → Behind old ms → Keeps old (outside a ms b)
+unfolding outside
+outside-keeps old clear ms b h = fresh-keeps old ms b h
+outside-keeps old (atMark m n) ms b h = which old (b is "(") _ _ (first-keeps old m n ms h) (fresh-keeps old ms b h)
 
 step-keeps : (old : List Macro) (r : Reader) (b : ℕ) → Behind old (soFar r) → Keeps old (step r b)
 unfolding step
-step-keeps old (between skip ms) b h =
-    which old (eqb b 47) _ _ h (which old (eqb b 39 && not skip) _ _ (which old (ltb (length ms) mostMacros) _ _ h tt) h)
-step-keeps old (inside skip n st ms) b h =
-    which old (skips st && eqb b 47) _ _ (count-keeps old n (inside (not skip) (suc n) st ms) h)
-    (which old skip _ _ (count-keeps old n (inside true (suc n) st ms) h) (taken-keeps old n ms (partByte st b) h))
+step-keeps old (between skip a ms) b h = which old (b is "/") _ _ h (which old skip _ _ h (outside-keeps old a ms b h))
+step-keeps old (inside skip n st pr) b h =
+    which old (skips st && b is "/") _ _ (count-keeps old n (inside (not skip) (suc n) st pr) h)
+    (which old skip _ _ (count-keeps old n (inside true (suc n) st pr) h) (taken-keeps old n pr (partByte st b) h))
 
 -- what was read, both tables oldest first
 abbrev pub Onto : Table → Read → Type 0
@@ -57,15 +77,16 @@ Onto older (table ms) = (new : Table) × (ms ≡ older ++ new)
 
 read-onto : (old : List Macro) (s : List ℕ) (p : ℕ) (r : Reader) → Behind old (soFar r) → Onto (reverse old) (readFrom p r s)
 unfolding readFrom atEnd pick
-read-onto old [] p (between true ms) h = tt
-read-onto old [] p (between false ms) h = (reverse (h .0), ap reverse (h .1) ∙ reverse-append (h .0) old)
-read-onto old [] p (inside skip n st ms) h = tt
+read-onto old [] p (between true a ms) h = tt
+read-onto old [] p (between false a ms) h = (reverse (h .0), ap reverse (h .1) ∙ reverse-append (h .0) old)
+read-onto old [] p (inside skip n st pr) h = tt
 read-onto old (b ∷ s) p r h = by (step r b) (step-keeps old r b h) (λ q g. read-onto old s (suc p) q g)
   where
     by : (v : Next) → Keeps old v → ((q : Reader) → Behind old (soFar q) → Onto (reverse old) (readFrom (suc p) q s))
-        → Onto (reverse old) (elim v [ go r′ ↦ readFrom (suc p) r′ s | refuse n ↦ refusedAt n p ])
+        → Onto (reverse old) (elim v [ go r′ ↦ readFrom (suc p) r′ s | refuse k ↦ refusedAt k p | refuseBefore k n ↦ refusedAt k (p - n) ])
     by (go q) k ih = ih q k
     by (refuse n) k ih = tt
+    by (refuseBefore n j) k ih = tt
 
 -- THE LAW
 pub reads-onto : (older : Table) (s : List ℕ) → Onto older (readOnto older s)
@@ -73,10 +94,10 @@ unfolding readOnto pick
 reads-onto older s = by (ltb mostFileBytes (length s)) (firstZero 0 s)
   where
     by : (x : Bool) (o : Option ℕ)
-        → Onto older (pick x (refusedAt fileTooLong mostFileBytes) (elim o [ none ↦ readFrom 0 (between false (reverse older)) s | some p ↦ refusedAt zeroByte p ]))
+        → Onto older (pick x (refusedAt fileTooLong mostFileBytes) (elim o [ none ↦ readFrom 0 (between false clear (reverse older)) s | some p ↦ refusedAt zeroByte p ]))
     by true o = tt
     by false (some p) = tt
-    by false none = rw (reverse-reverse older) at (read-onto (reverse older) s 0 (between false (reverse older)) ([], refl))
+    by false none = rw (reverse-reverse older) at (read-onto (reverse older) s 0 (between false clear (reverse older)) ([], refl))
 
 -- one macro more
 pub one-more : (ms ks new : Table) → ks ≡ ms ++ new → length ks ≡ suc (length ms) → (m : Macro) × (ks ≡ ms ++ (m ∷ []))

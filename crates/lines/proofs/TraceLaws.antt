@@ -3,7 +3,7 @@ use Prim.Native.Nat.{ℕ, zero, suc, _-_, _≤_, _<_}
 use mathlib.Core.Path.{_≡_, refl, sym, ap, _∙_}
 use mathlib.Core.Bool.{Bool, true, false}
 use mathlib.Core.Logic.{_↔_, _⊎_, inl, inr}
-use mathlib.Core.List.{List, []}
+use mathlib.Core.List.{List, [], _∷_}
 use mathlib.Core.Option.{Option, none, some}
 use native.Mathlib.Decide.{decLe}
 use native.Mathlib.Omega.{arith}
@@ -46,11 +46,11 @@ fails-lines x r v f = go (occurred (x .events)) (outcomes (x .events) f)
     go false e = refl
 
 module _ (ms : Table) where
-  cut-holds : (n : ℕ) (closed since t : List ℕ) (st : State) (l : Line) → Passes ms closed since t st l → Passes ms closed since t st (cutAt n l)
+  cut-holds : (n : ℕ) (closed since begun t : List ℕ) (st : State) (l : Line) → Passes ms closed since begun t st l → Passes ms closed since begun t st (cutAt n l)
   unfolding cutAt
-  cut-holds n closed since t st (lineEnded e) h = h
-  cut-holds n closed since t st (passed x l) h =
-      (h .0, go (λ v p. cut-holds (n - length (linesOf x)) (closedAfter x closed) (sinceAfter x since) (newLine v) (v .state) l p) (leb (length (linesOf x)) n) refl)
+  cut-holds n closed since begun t st (lineEnded e) h = h
+  cut-holds n closed since begun t st (passed x l) h =
+      (h .0, go (λ v p. cut-holds (n - length (linesOf x)) (closedAfter x closed) (sinceAfter x since) (x .which .number ∷ begun) (newLine v) (v .state) l p) (leb (length (linesOf x)) n) refl)
     where
       rest : Bool → Line
       rest b = elim b [ true ↦ cutAt (n - length (linesOf x)) l | false ↦ lineEnded (refused traceTooLong) ]
@@ -58,9 +58,9 @@ module _ (ms : Table) where
       cut-end : (r : WorkRefusal) → l ≡ lineEnded (refused r) → cutAt (n - length (linesOf x)) l ≡ lineEnded (refused r)
       cut-end r e = ap (cutAt (n - length (linesOf x))) e
 
-      go : ((v : Work) → Passes ms (closedAfter x closed) (sinceAfter x since) (newLine v) (v .state) l → Passes ms (closedAfter x closed) (sinceAfter x since) (newLine v) (v .state) (cutAt (n - length (linesOf x)) l))
+      go : ((v : Work) → Passes ms (closedAfter x closed) (sinceAfter x since) (x .which .number ∷ begun) (newLine v) (v .state) l → Passes ms (closedAfter x closed) (sinceAfter x since) (x .which .number ∷ begun) (newLine v) (v .state) (cutAt (n - length (linesOf x)) l))
           → (b : Bool) → leb (length (linesOf x)) n ≡ b
-          → ((v : Work) × EndsIn (x .events) v × Passes ms (closedAfter x closed) (sinceAfter x since) (newLine v) (v .state) (rest b))
+          → ((v : Work) × EndsIn (x .events) v × Passes ms (closedAfter x closed) (sinceAfter x since) (x .which .number ∷ begun) (newLine v) (v .state) (rest b))
           ⊎ ((r : WorkRefusal) × (v : Work) × FailsIn (x .events) r v × (rest b ≡ lineEnded (refused r)))
           ⊎ ((v : Work) × EndsIn (x .events) v × (rest b ≡ lineEnded (refused traceTooLong)))
       go ih true q =
@@ -145,11 +145,11 @@ by-cut P true n l f g = g refl
 by-cut P false n l f g = f refl
 
 module _ (ms : Table) (st : State) (sent : Sent) where
-  pub history-holds : Passes ms [] [] (sent .line) st (historyOf ms st sent)
+  pub history-holds : Passes ms [] [] [] (sent .line) st (historyOf ms st sent)
   unfolding historyOf
   history-holds =
-      by-cut (Passes ms [] [] (sent .line) st) (isOn (st .trace)) mostTraceBytes (lineOf ms st sent) (λ e. line-holds ms st sent)
-      (λ e. cut-holds ms mostTraceBytes [] [] (sent .line) st (lineOf ms st sent) (line-holds ms st sent))
+      by-cut (Passes ms [] [] [] (sent .line) st) (isOn (st .trace)) mostTraceBytes (lineOf ms st sent) (λ e. line-holds ms st sent)
+      (λ e. cut-holds ms mostTraceBytes [] [] [] (sent .line) st (lineOf ms st sent) (line-holds ms st sent))
 
   pub history-budgeted : (passCount (historyOf ms st sent) ≤ sent .budget) × (endOfLine (historyOf ms st sent) ≡ refused budgetUsedUp → passCount (historyOf ms st sent) ≡ sent .budget)
   unfolding historyOf

@@ -20,11 +20,11 @@ use Rattle.lines.specs.Matching.{closing, tagText}
 use Rattle.lines.specs.Choosing.{then, more, spare, repeated, isEnd, chosen}
 use Rattle.lines.specs.Dividing.{dividedText}
 use Rattle.lines.specs.Replacing.{unless, onto, puts, put, withStack, withCounter, withPointer, withValue, withIncrement, withEntry}
-use Rattle.lines.specs.Replacing.{fallen, moves, early, late, stores, callActs, acts, replaces, commandsAct, occur}
+use Rattle.lines.specs.Replacing.{fallen, moves, early, late, stores, callActs, acts, replaces, commandsAct, beforeActs, occur}
 use Rattle.lines.specs.Pass.{barred, unlessBarred, counting, match, goOn, matched, atEnd, onward, atByte, walk, pass, occurrences}
 use Rattle.lines.specs.Pass.{occurred, outcome}
 use Rattle.lines.specs.Line.{Sent, isIn, unlessClosed, openFrom, newestFirst, closing as closingMacro, closedBy, isControl, due}
-use Rattle.lines.specs.Line.{follow, afterPass, textOf, passes, lineOf, passesOf, hadOccurrence, ending}
+use Rattle.lines.specs.Line.{prepares, passBehind, passOf, follow, afterPass, textOf, passes, lineOf, passesOf, hadOccurrence, ending}
 use Rattle.lines.specs.Trace.{traceLine, threeLines, linesIf, linesOf, traceOf, cutAt, isOn, cutIf, historyOf, traceIf}
 use Rattle.lines.specs.Feeding.{Kind, Answer, bytes, same, withTrace, withNflag, flagOrder, macroOrder, orderOf, numberOf, placeOf}
 use Rattle.lines.specs.Feeding.{kindNumber, outputOf, kindOfDone, refusal, tracing, ofOrder, answered, answer, hasBadByte, feed, feeds}
@@ -33,11 +33,12 @@ use Rattle.lines.specs.Feeding.{kindNumber, outputOf, kindOfDone, refusa
 unfoldable pub everything : ℕ
 unfolding macrosOpen kindOf freshStack freshCounter fresh stackOf counterOf currentEntry contents byteFits begins isMember inClass fits
     width Copies Allowed Satisfies Divides endOf Fewer then more spare repeated isEnd chosen closing tagText dividedText unless onto puts put
-    withStack withCounter withPointer withValue withIncrement withEntry fallen moves early late stores callActs acts replaces commandsAct occur barred
-    unlessBarred counting match goOn matched atEnd onward atByte walk pass occurrences occurred outcome isIn unlessClosed openFrom
-    newestFirst closingMacro closedBy isControl due follow afterPass textOf passes lineOf passesOf hadOccurrence ending traceLine threeLines
-    linesIf linesOf traceOf cutAt isOn cutIf historyOf traceIf same withTrace withNflag flagOrder macroOrder orderOf numberOf placeOf
-    kindNumber outputOf kindOfDone refusal tracing ofOrder answered answer hasBadByte feed feeds
+    withStack withCounter withPointer withValue withIncrement withEntry fallen moves early late stores callActs acts replaces commandsAct
+    beforeActs occur barred unlessBarred counting match goOn matched atEnd onward atByte walk pass occurrences occurred outcome isIn
+    unlessClosed openFrom newestFirst closingMacro closedBy isControl due prepares passBehind passOf follow afterPass textOf passes lineOf
+    passesOf hadOccurrence ending traceLine threeLines linesIf linesOf traceOf cutAt isOn cutIf historyOf traceIf same withTrace withNflag
+    flagOrder macroOrder orderOf numberOf placeOf kindNumber outputOf kindOfDone refusal tracing ofOrder answered answer hasBadByte feed
+    feeds
 everything = 0
 
 -- WHAT A CASE SHOWS

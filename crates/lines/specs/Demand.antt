@@ -5,6 +5,9 @@
 -- "a refused line leaves table, state and output"        | ByKind, clause refusedWith; why it is refused: Reason
 -- "no macro still open to it has a division at any        | Finished, nothingLeft; its final text: Finished, final
 --    place of its final text"                            |
+-- 02, N2: that it is judged for each macro under "the    | Finished, nothingLeft, by LastTried
+--    state of its last try"                              |
+-- 02, N2: when the calls before a pattern run            | PassHolds, begins (PassBegins)
 -- "passed over exactly when no place has one"            | PassHolds, passedOver
 -- "at the leftmost place still ahead that has one"       | Stands, ahead to leftmost; what is ahead: aheadAfter
 -- "with the tags of that division"                       | Stands, tags (Tags)
@@ -21,9 +24,10 @@
 -- 02, N1: what the trace holds; when 36 comes            | ByKind, WritesTrace; History, traces
 --
 -- Borrowed is what one copy of a unit is (fits, width; contents with digits), what of a state is looked at and how it is changed
--- (stackOf, counterOf; withPointer, withValue, withIncrement, withEntry), where a division ends (endOf, stops), a tag's text (tagText),
--- and reading (readOnto). Cases hold all but the last two; TagsRun holds tagText, and crates/macros reading.
--- OneLine needs size [size_free], newest [any_macro_next], usedUp [any_budget] and traces [trace_free].
+-- (stackOf, counterOf; withPointer, withValue, withIncrement, withEntry), how a new line starts (startIn), where a division ends (endOf,
+-- stops), a tag's text (tagText), and reading (readOnto). Cases hold all but the last two; TagsRun holds tagText, and crates/macros
+-- reading.
+-- OneLine needs size [size_free], newest [any_macro_next], usedUp [any_budget] and traces [trace_free]; and, of N2, PassBegins [begins_free].
 use mathlib.Core.Path.{_≡_}
 use Prim.Native.Nat.{ℕ, zero, suc, _+_, _-_, _≤_, _<_}
 use mathlib.Core.Bool.{Bool, true, false}
@@ -46,7 +50,7 @@ use Rattle.macros.specs.Accepted.{Accepted}
 use Rattle.lines.specs.State.{State, InRange, fresh}
 use Rattle.lines.specs.Matching.{Division, Divides, Fewer, endOf}
 use Rattle.lines.specs.Tags.{TagsOf}
-use Rattle.lines.specs.Replacing.{Work}
+use Rattle.lines.specs.Replacing.{Work, startIn}
 use Rattle.lines.specs.Replacing.Done.{bad, good}
 use Rattle.lines.specs.Pass.{Occurrence, Walk, occurred}
 use Rattle.lines.specs.Pass.Walk.{ended, occurs}
@@ -55,7 +59,7 @@ use Rattle.lines.specs.Line.Ending.{refused, done, control}
 use Rattle.lines.specs.Line.{Line.ended as lineEnded, Line.passed as passed}
 use Rattle.lines.specs.Feeding.{Kind, Answer, bytes, feeds}
 use Rattle.lines.specs.Feeding.Kind.{refusedWith, out, withheld, controlled}
-use Rattle.lines.specs.Steps.{newLine, Copied, stepsOf, Acts, Breaks}
+use Rattle.lines.specs.Steps.{newLine, Copied, stepsOf, stepsBefore, Acts, Breaks}
 use Rattle.lines.specs.Controls.{Ordered, Misordered}
 
 -- A PASS OF THE MACRO m OVER THE TEXT t
@@ -166,7 +170,7 @@ FailsIn (ended d) r v = d ≡ bad r v
 FailsIn (occurs o k) r v = FailsIn k r v
 
 -- THE PASSES OF A LINE, from its text t and its state st on
--- closed: the numbers of the macros closed to it; since: of those that passed since its last occurrence
+-- closed: the numbers of the macros closed to it; since: of those that passed since its last occurrence; begun: of those that passed at all
 
 -- i is none of the numbers: "all others are open" (01, part 6) [closed_from_start]
 abbrev pub NotIn : ℕ → List ℕ → Type 0
@@ -182,7 +186,23 @@ abbrev pub Dollar : List ℕ → Type 0
 Dollar [] = ⊥
 Dollar (b ∷ bs) = b ≡ 36
 
-pub record PassHolds (ms : Table) (closed since : List ℕ) (t : List ℕ) (st : State) (x : Pass) : Type 0 where
+-- the pass x tries places, from place 0 on, with nothing of the new line made
+abbrev pub Tries : List ℕ → Pass → Type 0
+Tries t x = Walks (x .which .macro) t (onwardFrom 0 none) (startIn (x .tried)) (x .events)
+
+-- how the pass x begins in the state st (02, N2): the calls before its pattern run "when the macro's first pass on the line begins",
+-- before it tries place 0
+pub data PassBegins (begun : List ℕ) (t : List ℕ) (st : State) (x : Pass) : Type 0 where
+  -- its macro's first pass on the line: their steps, in turn, make the state in which it tries place 0 [calls_never, calls_tried_before]
+  first : NotIn (x .which .number) begun → (v : Work) → Acts (stepsBefore (x .which .macro)) (startIn st) v → x .tried ≡ v .state
+      → Tries t x → PassBegins begun t st x
+  -- or else a step of them is refused (Steps), and it tries no place
+  stopped : NotIn (x .which .number) begun → (r : WorkRefusal) (v : Work) → Breaks (stepsBefore (x .which .macro)) (startIn st) r v
+      → x .tried ≡ v .state → x .events ≡ ended (bad r v) → PassBegins begun t st x
+  -- any other pass of its macro: none of them runs [calls_every_pass]
+  again : (NotIn (x .which .number) begun → ⊥) → x .tried ≡ st → Tries t x → PassBegins begun t st x
+
+pub record PassHolds (ms : Table) (closed since begun : List ℕ) (t : List ℕ) (st : State) (x : Pass) : Type 0 where
   -- it begins with the text and the state that the last pass made
   pub text : x .text ≡ t
   pub state : x .state ≡ st
@@ -193,9 +213,9 @@ pub record PassHolds (ms : Table) (closed since : List ℕ) (t : List ℕ) (st :
   pub newest : (i : ℕ) (m : Macro) → Due ms closed since i m → i ≤ x .which .number
   -- "In its pass an open macro is passed over exactly when no place has one", under the state "when its pass tries place 0" (01,
   -- contracts); of a pass that is not refused
-  pub passedOver : (v : Work) → EndsIn (x .events) v → (occurred (x .events) ≡ false) ↔ Nowhere st (x .which .macro) t
-  -- it tries place 0 first, with nothing of the new line made
-  pub walks : Walks (x .which .macro) t (onwardFrom 0 none) (record { out = []; size = 0; state = st }) (x .events)
+  pub passedOver : (v : Work) → EndsIn (x .events) v → (occurred (x .events) ≡ false) ↔ Nowhere (x .tried) (x .which .macro) t
+  -- the calls before its pattern run, or do not, and it tries place 0 first
+  pub begins : PassBegins begun t st x
 
 -- "A `<` macro that occurred is closed to this line; all others are open." (01, part 6) [less_left_open, equal_closed]
 abbrev pub closedIf : (occurred : Bool) → Symbol → ℕ → List ℕ → List ℕ
@@ -212,21 +232,22 @@ abbrev pub sinceAfter : Pass → List ℕ → List ℕ
 sinceAfter x since = pick (occurred (x .events)) [] (x .which .number ∷ since)
 
 -- the passes, and then the line's end, from the text t and the state st on
-abbrev pub Passes : Table → (closed since : List ℕ) → List ℕ → State → Line → Type 0
+abbrev pub Passes : Table → (closed since begun : List ℕ) → List ℕ → State → Line → Type 0
 -- a pass, and then the line from the text and the state that it makes; or else the pass is refused, with 32 to 35, and the line with it;
 -- or 36 "shows at that pass's end" (02, N1): whether it does, says traces of History
-Passes ms closed since t st (passed x l) =
-    PassHolds ms closed since t st x
-    × (((v : Work) × EndsIn (x .events) v × Passes ms (closedAfter x closed) (sinceAfter x since) (newLine v) (v .state) l)
+Passes ms closed since begun t st (passed x l) =
+    PassHolds ms closed since begun t st x
+    × (((v : Work) × EndsIn (x .events) v
+    × Passes ms (closedAfter x closed) (sinceAfter x since) (x .which .number ∷ begun) (newLine v) (v .state) l)
     ⊎ ((r : WorkRefusal) × (v : Work) × FailsIn (x .events) r v × (l ≡ lineEnded (refused r)))
     ⊎ ((v : Work) × EndsIn (x .events) v × (l ≡ lineEnded (refused traceTooLong))))
 -- "The line is done when every open macro has passed without one since the line's last occurrence" (01, part 6)
-Passes ms closed since t st (lineEnded (done s x)) =
+Passes ms closed since begun t st (lineEnded (done s x)) =
     (s ≡ t) × (x ≡ st) × (Dollar t → ⊥) × ((i : ℕ) (m : Macro) → Due ms closed since i m → ⊥)
 -- "a line beginning with `$` is a control line: no more passes" (01, part 6)
-Passes ms closed since t st (lineEnded (control s x)) = (s ≡ t) × (x ≡ st) × Dollar t
+Passes ms closed since begun t st (lineEnded (control s x)) = (s ≡ t) × (x ≡ st) × Dollar t
 -- "31 another pass is due" (01, refusals) [done_is_31]: no control line, and some macro is due; that the budget is used up says History
-Passes ms closed since t st (lineEnded (refused r)) =
+Passes ms closed since begun t st (lineEnded (refused r)) =
     (r ≡ budgetUsedUp) × (Dollar t → ⊥) × ((i : ℕ) × (m : Macro) × Due ms closed since i m)
 
 -- ONE LINE that is sent, fed to the table ms and the state st; its history l, and its answer a
@@ -235,6 +256,16 @@ Passes ms closed since t st (lineEnded (refused r)) =
 abbrev pub closedIn : List ℕ → Line → List ℕ
 closedIn closed (lineEnded e) = closed
 closedIn closed (passed x l) = closedIn (closedAfter x closed) l
+
+-- no pass of it is one of the macro i
+abbrev pub NoPass : ℕ → Line → Type 0
+NoPass i (lineEnded e) = Unit {0}
+NoPass i (passed x l) = (x .which .number ≡ i → ⊥) × NoPass i l
+
+-- the last pass of the macro i, its "last try" (02, N2), tried place 0 in the state y
+abbrev pub LastTried : ℕ → State → Line → Type 0
+LastTried i y (lineEnded e) = ⊥
+LastTried i y (passed x l) = ((x .which .number ≡ i) × (x .tried ≡ y) × NoPass i l) ⊎ LastTried i y l
 
 -- the number of its passes, those without an occurrence included: "Each pass costs one of the budget." (01, part 6)
 abbrev pub passCount : Line → ℕ
@@ -305,7 +336,7 @@ WritesTrace (suc n) l text = (t : List ℕ) × TraceIs l t × (text ≡ some t)
 -- the history of a line that nothing refuses before its passes
 pub record History (ms : Table) (st : State) (sent : Sent) (l : Line) : Type 0 where
   pub fits : Fits sent
-  pub passes : Passes ms [] [] (sent .line) st l
+  pub passes : Passes ms [] [] [] (sent .line) st l
   -- "Each pass costs one of the budget" (01, part 6), and 31 says that it is used up [budget_off_by_one, budget_one_short]
   pub within : passCount l ≤ sent .budget
   pub usedUp : endOfLine l ≡ refused budgetUsedUp → passCount l ≡ sent .budget
@@ -325,8 +356,10 @@ pub record Finished (ms : Table) (l : Line) (a : Answer) (s : List ℕ) : Type 0
   pub kind : (Withholds (a .state) l × (a .kind ≡ withheld)) ⊎ ((Withholds (a .state) l → ⊥) × (a .kind ≡ out s))
   -- the table stays
   pub table : a .table ≡ ms
-  -- "no macro still open to it has a division at any place of its final text" [no_restart, early_end]
-  pub nothingLeft : (i : ℕ) (m : Macro) → getElem? ms i ≡ some m → NotIn i (closedIn [] l) → Nowhere (a .state) m s
+  -- "no macro still open to it has a division at any place of its final text" [no_restart, early_end]; 02, N2: "the promise that no open
+  -- macro still fits is judged for each macro under the state of its last try", which it has
+  pub nothingLeft :
+      (i : ℕ) (m : Macro) → getElem? ms i ≡ some m → NotIn i (closedIn [] l) → (y : State) × LastTried i y l × Nowhere y m s
 
 -- a control line: its final text s, given in its last state x, makes the new table and state (Controls)
 pub record Controlled (ms : Table) (l : Line) (a : Answer) (s : List ℕ) (x : State) : Type 0 where
@@ -354,8 +387,8 @@ Reason ms st sent l a (ofLine badByte) =
 -- 23, and 10 to 19 with their place: "Later, of a control line", behind its passes
 Reason ms st sent l a (ofLine badControl) = Run ms st sent l a × ((s : List ℕ) × (x : State) × Miscontrolled ms l (ofLine badControl) s x)
 Reason ms st sent l a (ofFile r p) = Run ms st sent l a × ((s : List ℕ) × (x : State) × Miscontrolled ms l (ofFile r p) s x)
--- 31: by usedUp of History the passes are the budget, by Passes another one is due; 32 to 35: its last pass is refused so, by Walks;
--- 36: by traces of History
+-- 31: by usedUp of History the passes are the budget, by Passes another one is due; 32 to 35: its last pass is refused so, by PassBegins or
+-- Walks; 36: by traces of History
 Reason ms st sent l a (ofWork r) = Run ms st sent l a × (endOfLine l ≡ refused r)
 
 -- what holds of a line and its answer, by the answer's kind

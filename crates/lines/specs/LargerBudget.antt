@@ -44,7 +44,7 @@ SmallestBudget = (ms : Table) (st : State) (sent : Sent) → Settled (feed ms st
 pub record StillDue (ms : Table) (st : State) (sent : Sent) : Type 0 where
   pub fits : Fits sent
   pub history : Line
-  pub passes : Passes ms [] [] (sent .line) st history
+  pub passes : Passes ms [] [] [] (sent .line) st history
   pub begun : passCount history ≡ sent .budget
   pub due : endOfLine history ≡ refused budgetUsedUp
   -- and the lines of its passes fit in the trace (02, N1)

@@ -8,9 +8,10 @@ use Rattle.macros.specs.Refusals.WorkRefusal.{budgetUsedUp}
 use Rattle.macros.specs.Macro.{Symbol, Macro, Table}
 use Rattle.macros.specs.Macro.Symbol.{equal, less}
 use Rattle.lines.specs.State.{State}
-use Rattle.lines.specs.Replacing.{Work, Done, onto}
+use Rattle.lines.specs.Replacing.{Work, Done, startIn, onto, beforeActs}
 use Rattle.lines.specs.Replacing.Done.{bad, good}
 use Rattle.lines.specs.Pass.{Walk, pass, occurred, outcome}
+use Rattle.lines.specs.Pass.{Walk.ended as walkEnded}
 
 -- A LINE THAT IS SENT: its bytes, and the budget of its passes
 pub record Sent : Type 0 where
@@ -24,11 +25,13 @@ pub record Numbered : Type 0 where
   pub number : ℕ
   pub macro : Macro
 
--- a pass: its macro, the text and the state at its start, and what happens in it
+-- a pass: its macro, the text and the state at its start, the state in which it tries place 0, and what happens in it
+-- if a call before its pattern is refused (02, N2), it tries no place, and `tried` is the state then
 pub record Pass : Type 0 where
   pub which : Numbered
   pub text : List ℕ
   pub state : State
+  pub tried : State
   pub events : Walk
 
 -- how a line ends: refused, done, or a control line; with its final text and the state then
@@ -72,6 +75,23 @@ closing less n closed = n ∷ closed
 unfoldable pub closedBy : Numbered → List ℕ → List ℕ
 closedBy e closed = closing (e .macro .symbol) (e .number) closed
 
+-- THE CALLS BEFORE A PATTERN (02, N2)
+
+-- what a pass comes to before it tries place 0: "It runs when the macro's first pass on the line begins", and at no other; later: whether
+-- the macro passed before
+unfoldable pub prepares : (later : Bool) → Macro → State → Done
+prepares true m st = good (startIn st)
+prepares false m st = beforeActs m (startIn st)
+
+-- a pass over the text t that begins in the state st, behind the calls
+unfoldable pub passBehind : Numbered → List ℕ → State → Done → Pass
+passBehind e t st (bad r w) = record { which = e; text = t; state = st; tried = w .state; events = walkEnded (bad r w) }
+passBehind e t st (good w) = record { which = e; text = t; state = st; tried = w .state; events = pass (e .macro) t (w .state) }
+
+-- a pass; begun: the numbers of the macros that passed before on this line
+unfoldable pub passOf : (begun : List ℕ) → Numbered → List ℕ → State → Pass
+passOf begun e t st = passBehind e t st (prepares (isIn (e .number) begun) (e .macro) st)
+
 -- THE PASSES
 
 -- "a line beginning with `$` is a control line"
@@ -99,20 +119,20 @@ afterPass x on again = passed x (follow (outcome (x .events)) (occurred (x .even
 unfoldable pub textOf : Work → List ℕ
 textOf w = onto (w .out) []
 
--- A pass without an occurrence leaves text and state as they are.
+-- A pass without an occurrence leaves the text as it is, and the state too, but for what the calls before its pattern did, if they ran.
 -- the passes from a text and a state on; todo: the open macros whose pass is due. "Each pass costs one of the budget."
--- 31: "another pass is due and the budget is used up"
-unfoldable pub passes : Table → ℕ → List ℕ → List Numbered → State → List ℕ → Line
-passes ms zero closed todo st t = due (isControl t) t st todo (λ e es. ended (refused budgetUsedUp))
-passes ms (suc budget) closed todo st t =
+-- 31: "another pass is due and the budget is used up"; the calls run "after the budget is looked at" (02, N2)
+unfoldable pub passes : Table → ℕ → (closed begun : List ℕ) → List Numbered → State → List ℕ → Line
+passes ms zero closed begun todo st t = due (isControl t) t st todo (λ e es. ended (refused budgetUsedUp))
+passes ms (suc budget) closed begun todo st t =
     due (isControl t) t st todo
-    (λ e es. afterPass (record { which = e; text = t; state = st; events = pass (e .macro) t st })
-    (λ w. passes ms budget closed es st t)
-    (λ w. passes ms budget (closedBy e closed) (newestFirst (closedBy e closed) ms) (w .state) (textOf w)))
+    (λ e es. afterPass (passOf begun e t st)
+    (λ w. passes ms budget closed (e .number ∷ begun) es (w .state) t)
+    (λ w. passes ms budget (closedBy e closed) (e .number ∷ begun) (newestFirst (closedBy e closed) ms) (w .state) (textOf w)))
 
 -- a line from its start
 unfoldable pub lineOf : Table → State → Sent → Line
-lineOf ms st sent = passes ms (sent .budget) [] (newestFirst [] ms) st (sent .line)
+lineOf ms st sent = passes ms (sent .budget) [] [] (newestFirst [] ms) st (sent .line)
 
 -- WHAT A LINE COMES TO
 

@@ -439,6 +439,106 @@ pub listOfLines :
 unfolding everything
 listOfLines = refl
 
+-- 02, N2
+
+-- "It runs when the macro's first pass on the line begins", before place 0 is tried, and at no other pass; on the next line again
+pub callsRun :
+    (Tried "#(v=5)'x'='y#(v+)';" (
+    fed "xx" (says "y5y6" 2) (value "v" 7 ∷ [])
+    ∷ fed "xx" (says "y5y6" 2) (value "v" 7 ∷ [])
+    ∷ []
+    )) ×
+    (Tried "#(n=1)'a'='b#(n+)';'b'='c';" (
+    fed "aa" (says "c1c2" 5) (value "n" 3 ∷ [])
+    ∷ []
+    )) ×
+    (Tried "'x'='y#(v+)';#(v=5)'q'='';" (
+    fed "x" (says "y5" 4) (value "v" 6 ∷ [])
+    ∷ []
+    )) ×
+    (Tried "#(v=4)'^p#(v)'<'w';" (
+    fed "p4" (says "w" 1) (value "v" 4 ∷ [])
+    ∷ []
+    )) ×
+    (Tried "&(a:lo:)'&(a)'<'X';" (
+    fed "hello" (says "helX" 1) (holds "a" 1 "lo" ∷ [])
+    ∷ []
+    )) ×
+    (Tried "#(v=3)'q'='';#(v=2)'r'='';" (
+    fed "z" (says "z" 2) (value "v" 3 ∷ [])
+    ∷ []
+    )) ×
+    (Tried "#(v=1)'@'<'#(v+).';" (
+    fed "@Lord @hear @us" (says "1.Lord 2.hear 3.us" 1) (value "v" 4 ∷ [])
+    ∷ fed "@Amen" (says "1.Amen" 1) (value "v" 2 ∷ [])
+    ∷ []
+    )) ×
+    (Tried "" (
+    fed "$MACRO #(v=1)" (refused 12 7 0) []
+    ∷ fed "$MACRO #(v=3)'a'<'#(v)';" (control 0) []
+    ∷ fed "a" (says "3" 1) (value "v" 3 ∷ [])
+    ∷ []
+    ))
+unfolding everything
+callsRun = (refl, refl, refl, refl, refl, refl, refl, refl)
+
+-- what they do, left to right; a refused one ends the line, with that pass begun
+pub callsDo :
+    (Tried "&(a+:x:)&(a+:y:)&(-a:z:)&(b=7)#(c=8)#(d,9)'q'='';" (
+    fed "-" (says "-" 1) (pointer "a" 2 ∷ holds "a" 1 "x" ∷ holds "a" 2 "z" ∷ pointer "b" 7 ∷ value "c" 8 ∷ increment "d" 9 ∷ [])
+    ∷ []
+    )) ×
+    (Tried "&(s=20)&(+s:x:)'a'='b';" (
+    fed "z" (refused 34 0 1) []
+    ∷ fedWithin 0 "z" (refused 31 0 0) []
+    ∷ []
+    )) ×
+    (Tried "&(s=20)&(s+:x:)'a'='b';'z'='a';" (
+    fed "z" (refused 34 0 3) []
+    ∷ []
+    ))
+unfolding everything
+callsDo = (refl, refl, refl)
+
+-- "after the budget is looked at", and after the control look; a refused line leaves the state
+pub callsAfter :
+    (Tried "#(v=9)'q'='';#(v=8)'r'='';" (
+    fedWithin 1 "z" (refused 31 0 1) []
+    ∷ fedWithin 2 "z" (says "z" 2) (value "v" 9 ∷ [])
+    ∷ []
+    )) ×
+    (Tried "#(v=9)'a'='a';" (
+    fedWithin 3 "a" (refused 31 0 3) []
+    ∷ []
+    )) ×
+    (Tried "#(v=9)'q'='';#(w=8)'@'<'$NFLAG 0';" (
+    fed "$NFLAG 0" (control 0) []
+    ∷ fed "@" (control 1) (value "w" 8 ∷ [])
+    ∷ []
+    ))
+unfolding everything
+callsAfter = (refl, refl, refl)
+
+-- they are no occurrence: what they changed stays, NFLAG withholds, and a macro tried before is not tried again because of them
+pub callsQuiet :
+    (Tried "#(v=2)'q'='';" (
+    fed "$NFLAG 1" (control 0) (nflag 1 ∷ [])
+    ∷ fed "z" (withheld 1) (value "v" 2 ∷ nflag 1 ∷ [])
+    ∷ []
+    )) ×
+    (Tried "&(a:b:)'zz'='';'<&(a)>'='x';" (
+    fed "<b>" (says "<b>" 2) (holds "a" 1 "b" ∷ [])
+    ∷ fed "<b>" (says "x" 3) (holds "a" 1 "b" ∷ [])
+    ∷ []
+    )) ×
+    (Tried "#(v=2)'q'='r';'p#(v)'='w';" (
+    fed "p2" (says "p2" 2) (value "v" 2 ∷ [])
+    ∷ fed "p2" (says "w" 3) (value "v" 2 ∷ [])
+    ∷ []
+    ))
+unfolding everything
+callsQuiet = (refl, refl, refl)
+
 -- 02, N3
 
 -- 02, N3: a line under each kind with letters beyond ASCII, and the signs among them; ranges and calls keep to ASCII

@@ -8,7 +8,7 @@ use Rattle.macros.specs.Macro.{Piece, Macro}
 use Rattle.lines.specs.State.{State}
 use Rattle.lines.specs.Matching.{Division, endOf}
 use Rattle.lines.specs.Choosing.{chosen}
-use Rattle.lines.specs.Replacing.{Work, Done, put, occur}
+use Rattle.lines.specs.Replacing.{Work, Done, startIn, put, occur}
 use Rattle.lines.specs.Replacing.Done.{bad, good}
 
 -- THE MATCH AT A PLACE
@@ -80,9 +80,9 @@ walk m t (suc skip) last p w (b ∷ bs) = walk m t skip last (suc p) w bs
 walk m t zero last p w (b ∷ bs) =
     atByte m t p b last w (λ skip l v. walk m t skip l (suc p) v bs) (match (w .state) (m .pattern) last p (b ∷ bs))
 
--- "A pass of one macro tries places from 0 to the line's length, both included."
+-- "A pass of one macro tries places from 0 to the line's length, both included."; st: the state in which place 0 is tried
 unfoldable pub pass : Macro → List ℕ → State → Walk
-pass m t st = walk m t 0 none 0 (record { out = []; size = 0; state = st }) t
+pass m t st = walk m t 0 none 0 (startIn st) t
 
 -- WHAT A PASS COMES TO
 

@@ -1,4 +1,4 @@
--- 01, part 4: what an occurrence inserts and changes.
+-- 01, part 4: what an occurrence inserts and changes; 02, N2: what the calls before a pattern change.
 use Prim.Native.Nat.{ℕ, suc, _+_, _-_}
 use mathlib.Core.Bool.{Bool, true, false}
 use mathlib.Core.List.{List, [], _∷_}
@@ -23,6 +23,10 @@ pub record Work : Type 0 where
   pub out : List ℕ
   pub size : ℕ
   pub state : State
+
+-- nothing of the new line is made
+abbrev pub startIn : State → Work
+startIn st = record { out = []; size = 0; state = st }
 
 -- a step is refused, in the moment that it finds, or done
 pub data Done : Type 0 where
@@ -146,6 +150,10 @@ replaces t es qs (a ∷ as₁) w = acts t es qs a w >>= replaces t es qs as₁
 unfoldable pub commandsAct : List ℕ → List Piece → List ℕ → List Call → Work → Done
 commandsAct t es qs [] w = good w
 commandsAct t es qs (c ∷ cs) w = callActs t es qs c w >>= commandsAct t es qs cs
+
+-- 02, N2: the calls before a pattern, left to right; there is no division, and they store no tag
+unfoldable pub beforeActs : Macro → Work → Done
+beforeActs m w = commandsAct [] [] [] (m .before) w
 
 -- "For each occurrence replacement and then commands act, left to right, on the state that the next occurrence sees."
 unfoldable pub occur : Macro → List ℕ → Division → Work → Done

@@ -1,5 +1,5 @@
--- 01, part 4 and "The table at work": an occurrence step by step, and why a step is refused, in notions of its own.
--- The law joins it to occur of Replacing. In brackets stand the edits of must-fail/ that a clause rules out.
+-- 01, part 4 and "The table at work": an occurrence, or the calls before a pattern (02, N2), step by step, and why a step is refused, in notions of
+-- its own. Laws join them to occur and beforeActs of Replacing. In brackets stand the edits of must-fail/ that a clause rules out.
 use Prim.Native.Nat.{ℕ, _+_, _-_, _≤_, _<_}
 use mathlib.Core.Path.{_≡_}
 use mathlib.Core.Logic.{_⊎_}
@@ -17,7 +17,7 @@ use Rattle.macros.specs.Macro.Action.{text, tag, call}
 use Rattle.lines.specs.State.{stackOf, counterOf, contents}
 use Rattle.lines.specs.Matching.{Division, stops, tagText}
 use Rattle.lines.specs.Dividing.{Divided}
-use Rattle.lines.specs.Replacing.{Work, Done, withPointer, withValue, withIncrement, withEntry, occur}
+use Rattle.lines.specs.Replacing.{Work, Done, withPointer, withValue, withIncrement, withEntry, beforeActs, occur}
 use Rattle.lines.specs.Replacing.Done.{bad, good}
 
 -- THE NEW LINE
@@ -33,7 +33,7 @@ pub record Copied (s : List ℕ) (w v : Work) : Type 0 where
   pub room : 0 < length s → v .size ≤ mostLineBytes
   pub state : v .state ≡ w .state
 
--- THE STEPS OF AN OCCURRENCE
+-- THE STEPS
 
 pub data Step : Type 0 where
   -- a text is inserted: a byte of the replacement, or a tag's text
@@ -91,6 +91,10 @@ abbrev pub stepsOf : Macro → List ℕ → Division → List Step
 stepsOf m t d =
     let tags : ℕ → List ℕ = tagTexts t (m .pattern) (stops d) in
     replacementSteps tags (m .replacement) ++ commandSteps tags (m .commands)
+
+-- 02, N2: the steps of the calls before a pattern, left to right; no tag is stored there
+abbrev pub stepsBefore : Macro → List Step
+stepsBefore m = commandSteps (λ n. []) (m .before)
 
 -- WHAT A STEP DOES
 
@@ -155,3 +159,7 @@ ComesTo xs w (bad r v) = Breaks xs w r v
 -- THE LAW: of every macro, line, division and moment
 abbrev pub OccurSteps : Type 0
 OccurSteps = (m : Macro) (t : List ℕ) (d : Division) (w : Work) → ComesTo (stepsOf m t d) w (occur m t d w)
+
+-- THE LAW: of every macro and moment, the calls before its pattern
+abbrev pub CallsSteps : Type 0
+CallsSteps = (m : Macro) (w : Work) → ComesTo (stepsBefore m) w (beforeActs m w)

@@ -70,6 +70,13 @@ pub same-text : traces "'a'<'a';'b'<'\\n';" ("a" ∷ "b" ∷ []) ≡ first
 unfolding everything
 same-text = refl
 
+-- 02, N2: the calls before a pattern are no occurrence, and give no lines
+pub calls-untraced : traces "#(v=2)'q'<'#(v)';#(w=3)'x'='';" ("z" ∷ "q" ∷ []) ≡ first
+    ∷ (says "z" 2, some [])
+    ∷ (says "2" 3, some (bytes "oldline:q\nmacro #:1\nnewline:2\n")) ∷ []
+unfolding everything
+calls-untraced = refl
+
 -- only the flag when the line comes counts; control lines, made by passes too, and withheld lines write
 pub the-flag : traces "'o'<'$TRACE 0';" ("o" ∷ "o" ∷ "$NFLAG 1" ∷ "$TRACE 1" ∷ "x" ∷ "$TRACE 0" ∷ "$TRACE 0" ∷ []) ≡ first
     ∷ (control 1, some (bytes "oldline:o\nmacro #:1\nnewline:$TRACE 0\n"))

@@ -1,5 +1,5 @@
 -- The place of a refusal is at most 32,768, and so is the length of a written file.
-use Prim.Native.Nat.{ℕ, suc, _+_, _≤_}
+use Prim.Native.Nat.{ℕ, suc, _+_, _-_, _≤_}
 use mathlib.Core.Path.{_≡_, subst}
 use mathlib.Core.List.{List, [], _∷_, _++_}
 use mathlib.Core.Option.{Option, none, some}
@@ -13,7 +13,7 @@ use Rattle.macros.specs.Refusals.FileRefusal.{zeroByte}
 use Rattle.macros.specs.Macro.{Table}
 use Rattle.macros.specs.Read.{Read, Reader, Next, step, atEnd, readFrom, firstZero, readOnto}
 use Rattle.macros.specs.ReadFile.Reader.{between, inside}
-use Rattle.macros.specs.ReadFile.Next.{go, refuse}
+use Rattle.macros.specs.ReadFile.Next.{go, refuse, refuseBefore}
 use Rattle.macros.specs.ReadFile.Read.{refusedAt, table}
 use Rattle.macros.specs.Write.{Written, written, writeFrom, writeOut}
 use Rattle.macros.specs.Write.Written.{refused, file}
@@ -28,14 +28,15 @@ placeIn (table ms) = 0
 
 end-place : (p : ℕ) (r : Reader) → placeIn (atEnd p r) ≤ p
 unfolding placeIn atEnd
-end-place p (between skip ms) = by-pick (λ (w : Read). placeIn w ≤ p) skip _ _ (λ e. omega arith) (λ e. omega arith)
+end-place p (between skip m ms) = by-pick (λ (w : Read). placeIn w ≤ p) skip _ _ (λ e. omega arith) (λ e. omega arith)
 end-place p (inside skip n st ms) = omega arith
 
 next-place : (bs : List ℕ) (p : ℕ) → ((r : Reader) → placeIn (readFrom (suc p) r bs) ≤ suc p + length bs) → (n : Next)
-    → placeIn (elim n [ go r ↦ readFrom (suc p) r bs | refuse f ↦ refusedAt f p ]) ≤ p + suc (length bs)
+    → placeIn (elim n [ go r ↦ readFrom (suc p) r bs | refuse f ↦ refusedAt f p | refuseBefore f n ↦ refusedAt f (p - n) ]) ≤ p + suc (length bs)
 unfolding placeIn
 next-place bs p h (go r) = omega (arith, h r)
 next-place bs p h (refuse f) = omega arith
+next-place bs p h (refuseBefore f n) = omega arith
 
 from-place : (s : List ℕ) (p : ℕ) (r : Reader) → placeIn (readFrom p r s) ≤ p + length s
 unfolding readFrom

@@ -26,9 +26,9 @@ use Rattle.lines.specs.State.{State, stackOf, counterOf, currentEntry, contents
 use Rattle.lines.specs.Matching.{Division, begins, fits, width, endOf, stops, tagText}
 use Rattle.lines.specs.Choosing.{then, repeated, isEnd, chosen}
 use Rattle.lines.specs.Dividing.{dividedText}
-use Rattle.lines.specs.Replacing.{Work, Done, bad, good, _>>=_, unless, puts, put, withStack, withCounter, withPointer, withValue, withIncrement, withEntry, fallen, moves, early, late, stores, callActs, acts, replaces, commandsAct, occur}
+use Rattle.lines.specs.Replacing.{Work, Done, bad, good, startIn, _>>=_, unless, puts, put, withStack, withCounter, withPointer, withValue, withIncrement, withEntry, fallen, moves, early, late, stores, callActs, acts, replaces, commandsAct, beforeActs, occur}
 use Rattle.lines.specs.Pass.{Occurrence, Walk, ended, occurs, counting, match, goOn, matched, atEnd, onward, atByte, walk, pass, occurred, outcome}
-use Rattle.lines.specs.Line.{Sent, Numbered, Pass, Ending, Line, passed, refused, done, control, newestFirst, closedBy, isControl, due, follow, afterPass, textOf, passes, lineOf, passesOf, hadOccurrence, ending}
+use Rattle.lines.specs.Line.{Sent, Numbered, Pass, Ending, Line, passed, refused, done, control, isIn, newestFirst, closedBy, prepares, passBehind, passOf, isControl, due, follow, afterPass, textOf, passes, lineOf, passesOf, hadOccurrence, ending}
 use Rattle.lines.specs.Line.{Line.ended as lineEnded}
 use Rattle.lines.specs.Trace.{historyOf, cutIf, isOn}
 use Rattle.lines.specs.Feeding.{Order, wrong, orders, Kind, Answer, bytes, same, withTrace, withNflag, flagOrder, macroOrder, orderOf, kindOfDone, refusal, ofOrder, answered, answer, hasBadByte, feed}
@@ -59,7 +59,7 @@ module _ (n : ℕ) where
   walkWith (occurs o k) = occurs (occurrenceWith o) (walkWith k)
 
   abbrev passWith : Pass → Pass
-  passWith x = record { which = x .which; text = x .text; state = flagged (x .state); events = walkWith (x .events) }
+  passWith x = record { which = x .which; text = x .text; state = flagged (x .state); tried = flagged (x .tried); events = walkWith (x .events) }
 
   abbrev endingWith : Ending → Ending
   endingWith (refused r) = refused r
@@ -238,7 +238,25 @@ module _ (n : ℕ) where
 
   pass-with : (m : Macro) (t : List ℕ) (st : State) → pass m t (flagged st) ≡ walkWith (pass m t st)
   unfolding pass
-  pass-with m t st = walk-with m t t 0 none 0 (record { out = []; size = 0; state = st })
+  pass-with m t st = walk-with m t t 0 none 0 (startIn st)
+
+  -- with the calls before its pattern
+  prepares-with : (again : Bool) (m : Macro) (st : State) → prepares again m (flagged st) ≡ doneWith (prepares again m st)
+  unfolding prepares beforeActs
+  prepares-with true m st = refl
+  prepares-with false m st = commands-with [] [] [] (m .before) (startIn st)
+
+  behind-with : (e : Numbered) (t : List ℕ) (st : State) (d : Done) → passBehind e t (flagged st) (doneWith d) ≡ passWith (passBehind e t st d)
+  unfolding passBehind
+  behind-with e t st (bad r w) = refl
+  behind-with e t st (good w) =
+      ap (λ (k : Walk). record { which = e; text = t; state = flagged st; tried = flagged (w .state); events = k }) (pass-with (e .macro) t (w .state))
+
+  made-with : (begun : List ℕ) (e : Numbered) (t : List ℕ) (st : State) → passOf begun e t (flagged st) ≡ passWith (passOf begun e t st)
+  unfolding passOf
+  made-with begun e t st =
+      ap (passBehind e t (flagged st)) (prepares-with (isIn (e .number) begun) (e .macro) st)
+      ∙ behind-with e t st (prepares (isIn (e .number) begun) (e .macro) st)
 
   occurred-with : (k : Walk) → occurred (walkWith k) ≡ occurred k
   unfolding occurred
@@ -266,29 +284,31 @@ module _ (n : ℕ) where
   follow-with (good w) false f g j k x y = x w
   follow-with (good w) true f g j k x y = y w
 
-  after-with : (e : Numbered) (t : List ℕ) (st : State) (f g j k : Work → Line) → ((w : Work) → f (workWith w) ≡ lineWith (j w)) → ((w : Work) → g (workWith w) ≡ lineWith (k w))
-      → afterPass (record { which = e; text = t; state = flagged st; events = pass (e .macro) t (flagged st) }) f g
-      ≡ lineWith (afterPass (record { which = e; text = t; state = st; events = pass (e .macro) t st }) j k)
+  after-with : (x : Pass) (f g j k : Work → Line) → ((w : Work) → f (workWith w) ≡ lineWith (j w)) → ((w : Work) → g (workWith w) ≡ lineWith (k w))
+      → afterPass (passWith x) f g ≡ lineWith (afterPass x j k)
   unfolding afterPass
-  after-with e t st f g j k x y =
-      let q = pass-with (e .macro) t st in
-      ap (λ (z : Walk). passed (record { which = e; text = t; state = flagged st; events = z }) (follow (outcome z) (occurred z) f g)) q
-      ∙ ap (passed (passWith (record { which = e; text = t; state = st; events = pass (e .macro) t st })))
-      (ap (λ (d : Done). follow d (occurred (walkWith (pass (e .macro) t st))) f g) (outcome-with (pass (e .macro) t st))
-      ∙ ap (λ (b : Bool). follow (doneWith (outcome (pass (e .macro) t st))) b f g) (occurred-with (pass (e .macro) t st))
-      ∙ follow-with (outcome (pass (e .macro) t st)) (occurred (pass (e .macro) t st)) f g j k x y)
+  after-with x f g j k a b =
+      ap (passed (passWith x))
+      (ap (λ (d : Done). follow d (occurred (walkWith (x .events))) f g) (outcome-with (x .events))
+      ∙ ap (λ (o : Bool). follow (doneWith (outcome (x .events))) o f g) (occurred-with (x .events))
+      ∙ follow-with (outcome (x .events)) (occurred (x .events)) f g j k a b)
 
-  passes-with : (ms : Table) (b : ℕ) (closed : List ℕ) (todo : List Numbered) (st : State) (t : List ℕ) → passes ms b closed todo (flagged st) t ≡ lineWith (passes ms b closed todo st t)
+  passes-with : (ms : Table) (b : ℕ) (closed begun : List ℕ) (todo : List Numbered) (st : State) (t : List ℕ)
+      → passes ms b closed begun todo (flagged st) t ≡ lineWith (passes ms b closed begun todo st t)
   unfolding passes textOf
-  passes-with ms zero closed todo st t = due-with (isControl t) t st todo _ (λ e es. lineEnded (refused budgetUsedUp)) (λ e es. refl)
-  passes-with ms (suc b) closed todo st t =
+  passes-with ms zero closed begun todo st t = due-with (isControl t) t st todo _ (λ e es. lineEnded (refused budgetUsedUp)) (λ e es. refl)
+  passes-with ms (suc b) closed begun todo st t =
       due-with (isControl t) t st todo _ _
-      (λ e es. after-with e t st _ _ _ _ (λ w. passes-with ms b closed es st t)
-      (λ w. passes-with ms b (closedBy e closed) (newestFirst (closedBy e closed) ms) (w .state) (textOf w)))
+      (λ e es.
+      ap (λ (x : Pass). afterPass x (λ w. passes ms b closed (e .number ∷ begun) es (w .state) t)
+      (λ w. passes ms b (closedBy e closed) (e .number ∷ begun) (newestFirst (closedBy e closed) ms) (w .state) (textOf w)))
+      (made-with begun e t st)
+      ∙ after-with (passOf begun e t st) _ _ _ _ (λ w. passes-with ms b closed (e .number ∷ begun) es (w .state) t)
+      (λ w. passes-with ms b (closedBy e closed) (e .number ∷ begun) (newestFirst (closedBy e closed) ms) (w .state) (textOf w)))
 
   line-with : (ms : Table) (st : State) (sent : Sent) → lineOf ms (flagged st) sent ≡ lineWith (lineOf ms st sent)
   unfolding lineOf
-  line-with ms st sent = passes-with ms (sent .budget) [] (newestFirst [] ms) st (sent .line)
+  line-with ms st sent = passes-with ms (sent .budget) [] [] (newestFirst [] ms) st (sent .line)
 
   -- WHAT IT COMES TO
 

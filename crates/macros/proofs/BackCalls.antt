@@ -16,16 +16,16 @@ use Rattle.macros.specs.Macro.Move.{after, before, still}
 use Rattle.macros.specs.Macro.Call.{divide, insert, setIncrement, setTo, storeTag, storeText}
 use Rattle.macros.specs.Macro.Action.{call, tag, text}
 use Rattle.macros.specs.Formed.{Commands, FormedAction, FormedCall, FormedCommands, FormedReplacement, Letter, numberFits}
-use Rattle.macros.specs.Read.{Front, Part, Phase, CallSite, andDigit, breaks, callByte, commandsByte, commandsFresh, frontOf, isCommand, isSign, isStill, numberEnd, partByte, behindCall, replacementByte, replacementFresh, sign, signOf, skips, tagByte, tagEnd, textByte, turned}
+use Rattle.macros.specs.Read.{Front, Part, Phase, CallSite, andDigit, breaks, callByte, callsByte, callsFresh, commandsByte, commandsFresh, isSign, isStill, mayInsert, mayStoreTag, numberEnd, partByte, piecesOf, behindCall, replacementByte, replacementFresh, sign, signOf, siteOf, skips, tagByte, tagEnd, textByte, turned}
 use Rattle.macros.specs.ReadSoFar.Phase.{begun, comma, divisor, equals, increment, named, signed, tagNamed, tagSigned, tagged, texted}
-use Rattle.macros.specs.ReadSoFar.CallSite.{asCommand, inReplacement}
-use Rattle.macros.specs.ReadSoFar.Part.{callText, callTextEscape, calling, commands, replacement, tagNumber}
+use Rattle.macros.specs.ReadSoFar.CallSite.{callsSoFar, commandsSoFar, replacementSoFar}
+use Rattle.macros.specs.ReadSoFar.Part.{callText, callTextEscape, calling, calls, commands, replacement, tagNumber}
 use Rattle.macros.specs.ReadSoFar.Step.{on}
 use Rattle.macros.specs.ReadCalls.Turn.{closed, into}
 use Rattle.macros.specs.Write.{byte, callBytes, commandsBytes, digits, digitsBy, innerBytes, markOf, nameBytes, signByte}
 use Rattle.macros.specs.Spell.{isMark, markIn, needsText}
 use Rattle.macros.specs.Spell.{textSigns, callTextSigns}
-use Rattle.macros.proofs.Tests.{absent, clash, no-break, or-left, or-right, spares}
+use Rattle.macros.proofs.Tests.{absent, clash, no-break, or-left, or-right, spares, within-left, within-right}
 use Rattle.macros.proofs.Styles.{Fair, Style, actionBytes, actionLeaves, replacementBytes, textBytes}
 use Rattle.macros.proofs.Readings.{Reads, escaped-escape, move, then, withMark}
 use Rattle.macros.proofs.Readings.Reads.{next, stay}
@@ -58,11 +58,11 @@ module _ (S : Option ℕ → Part) (skipping : (o : Option ℕ) → skips (S o) 
 
 -- CALLS
 
-call-into : (pl : CallSite) (ph ph′ : Phase) (b : ℕ) → eqb b 47 ≡ false → callByte (isCommand pl) ph b ≡ into ph′ → Reads (calling pl ph) (b ∷ []) (calling pl ph′)
+call-into : (pl : CallSite) (ph ph′ : Phase) (b : ℕ) → eqb b 47 ≡ false → callByte (siteOf pl) ph b ≡ into ph′ → Reads (calling pl ph) (b ∷ []) (calling pl ph′)
 unfolding skips partByte turned
 call-into pl ph ph′ b s e = move (calling pl ph) b (calling pl ph′) s (rw e) stay
 
-call-closed : (pl : CallSite) (ph : Phase) (c : Call) (b : ℕ) → eqb b 47 ≡ false → callByte (isCommand pl) ph b ≡ closed c → numberFits (tags (frontOf pl .pieces)) c ≡ true
+call-closed : (pl : CallSite) (ph : Phase) (c : Call) (b : ℕ) → eqb b 47 ≡ false → callByte (siteOf pl) ph b ≡ closed c → numberFits (tags (piecesOf pl)) c ≡ true
     → Reads (calling pl ph) (b ∷ []) (behindCall pl c)
 unfolding skips partByte turned pick
 call-closed pl ph c b s e r = move (calling pl ph) b (behindCall pl c) s (rw (e, r)) stay
@@ -103,7 +103,7 @@ module _ (pl : CallSite) (i : ℕ) (g : Letter i) where
   name-stack (after plus) = then (name-still stack) (call-into pl (named stack i still) (named stack i (after plus)) 43 refl refl)
   name-stack (after minus) = then (name-still stack) (call-into pl (named stack i still) (named stack i (after minus)) 45 refl refl)
 
-  name-counter : isCommand pl ≡ false → (h : Move) → Reads (calling pl (begun counter)) (nameBytes i h) (calling pl (named counter i h))
+  name-counter : mayInsert (siteOf pl) ≡ true → (h : Move) → Reads (calling pl (begun counter)) (nameBytes i h) (calling pl (named counter i h))
   unfolding nameBytes signByte callByte pick isSign signOf digit within isStill
   name-counter c still = name-still counter
   name-counter c (before plus) = then (call-into pl (begun counter) (signed counter plus) 43 refl (rw c)) (name-signed counter plus)
@@ -128,7 +128,7 @@ module _ (pl : CallSite) (i : ℕ) (g : Letter i) where
       let l = lowercase i g in
       then (call-into pl (comma n) (tagNamed n i still) i (l .slash) (simp (l .sign, l .low))) (call-into pl (tagNamed n i still) (tagNamed n i (after minus)) 45 refl refl)
 
-  set-to : (m : Mark) (n : ℕ) → numberFits (tags (frontOf pl .pieces)) (setTo m i n) ≡ true → Reads (calling pl (begun m)) (i ∷ 61 ∷ (digits n ++ (41 ∷ []))) (behindCall pl (setTo m i n))
+  set-to : (m : Mark) (n : ℕ) → numberFits (tags (piecesOf pl)) (setTo m i n) ≡ true → Reads (calling pl (begun m)) (i ∷ 61 ∷ (digits n ++ (41 ∷ []))) (behindCall pl (setTo m i n))
   unfolding callByte pick isStill digit within numberEnd isSign signOf turned partByte skips
   set-to m n r =
       then (name-still m)
@@ -140,7 +140,7 @@ module _ (pl : CallSite) (i : ℕ) (g : Letter i) where
       to-equals stack = call-into pl (named stack i still) (equals stack i none) 61 refl refl
       to-equals counter = call-into pl (named counter i still) (equals counter i none) 61 refl refl
 
-  set-increment : (n : ℕ) → numberFits (tags (frontOf pl .pieces)) (setIncrement i n) ≡ true
+  set-increment : (n : ℕ) → numberFits (tags (piecesOf pl)) (setIncrement i n) ≡ true
       → Reads (calling pl (begun counter)) (i ∷ 44 ∷ (digits n ++ (41 ∷ []))) (behindCall pl (setIncrement i n))
   unfolding callByte pick isStill digit within numberEnd isSign signOf turned partByte skips
   set-increment n r =
@@ -149,7 +149,7 @@ module _ (pl : CallSite) (i : ℕ) (g : Letter i) where
       (then (read-digits (λ o. calling pl (increment i o)) (λ o. refl) (λ o b e. rw e) n)
       (call-closed pl (increment i (some n)) (setIncrement i n) 41 refl refl r)))
 
-  divide-by : isCommand pl ≡ false → (n : ℕ) → numberFits (tags (frontOf pl .pieces)) (divide i n) ≡ true
+  divide-by : mayInsert (siteOf pl) ≡ true → (n : ℕ) → numberFits (tags (piecesOf pl)) (divide i n) ≡ true
       → Reads (calling pl (begun counter)) (i ∷ 58 ∷ (digits n ++ (41 ∷ []))) (behindCall pl (divide i n))
   unfolding callByte pick isStill digit within numberEnd isSign signOf turned partByte skips
   divide-by c n r =
@@ -163,21 +163,29 @@ tagPart : CallSite → Option ℕ → Part
 tagPart pl none = calling pl (begun stack)
 tagPart pl (some n) = calling pl (tagged n)
 
-tag-digits : (pl : CallSite) (n : ℕ) → Reads (calling pl (begun stack)) (digits n) (calling pl (tagged n))
+tag-digits : (pl : CallSite) (n : ℕ) → mayStoreTag (siteOf pl) ≡ true → Reads (calling pl (begun stack)) (digits n) (calling pl (tagged n))
 unfolding tagPart callByte turned partByte skips pick andDigit
-tag-digits pl n = read-digits (tagPart pl) skipping takes n
+tag-digits pl n t = read-digits (tagPart pl) skipping takes n
   where
     skipping : (o : Option ℕ) → skips (tagPart pl o) ≡ true
     skipping none = refl
     skipping (some n) = refl
 
     takes : (o : Option ℕ) (b : ℕ) → digit b ≡ true → partByte (tagPart pl o) b ≡ on (tagPart pl (some (andDigit o b)))
-    takes none b e = rw e
+    takes none b e = simp (e, t)
     takes (some n) b e = rw e
 
-no-command : (p : Bool) → (p ≡ true → ⊥) → p ≡ false
-no-command true k = absurd (k refl)
-no-command false k = refl
+-- a call that is no command stands where it may insert
+may-insert : (p : Bool) → (p ≡ false → ⊥) → p ≡ true
+may-insert true k = refl
+may-insert false k = absurd (k refl)
+
+-- before a pattern there is no tag that a call could store
+may-store : (pl : CallSite) (n : ℕ) → within 1 (tags (piecesOf pl)) n ≡ true → mayStoreTag (siteOf pl) ≡ true
+unfolding piecesOf siteOf mayStoreTag tags
+may-store (callsSoFar cs) n e = absurd (omega (arith, within-left 1 0 n e, within-right 1 0 n e))
+may-store (replacementSoFar f ps) n e = refl
+may-store (commandsSoFar f ps cs) n e = refl
 
 module _ (y : Style) (fair : Fair y) (pl : CallSite) where
   read-call-text-byte : (i : ℕ) (h : Move) (acc : List ℕ) (b : ℕ) (p q : Bool) → length acc < mostEntryBytes → y .textToo b ≡ p → among callTextSigns b ≡ q
@@ -202,16 +210,16 @@ module _ (y : Style) (fair : Fair y) (pl : CallSite) where
   read-call-text (b ∷ t) i h acc l =
       then (read-call-text-byte i h acc b (y .textToo b) (among callTextSigns b) (omega arith) refl refl) (read-call-text t i h (b ∷ acc) (omega arith))
 
-  read-inner : (c : Call) → FormedCall (tags (frontOf pl .pieces)) c → (isCommand pl ≡ true → Commands c) → Reads (calling pl (begun (markOf c))) (innerBytes (textBytes y) c) (behindCall pl c)
+  read-inner : (c : Call) → FormedCall (tags (piecesOf pl)) c → (mayInsert (siteOf pl) ≡ false → Commands c) → Reads (calling pl (begun (markOf c))) (innerBytes (textBytes y) c) (behindCall pl c)
   unfolding innerBytes markOf callByte pick turned partByte skips textByte isSign signOf
   read-inner (insert stack i h) g k =
-      let c : isCommand pl ≡ false = no-command (isCommand pl) k in
+      let c : mayInsert (siteOf pl) ≡ true = may-insert (mayInsert (siteOf pl)) k in
       then (name-stack pl i (g .names) h) (call-closed pl (named stack i h) (insert stack i h) 41 refl (rw c) (g .numbers))
   read-inner (insert counter i h) g k =
-      let c : isCommand pl ≡ false = no-command (isCommand pl) k in
+      let c : mayInsert (siteOf pl) ≡ true = may-insert (mayInsert (siteOf pl)) k in
       then (name-counter pl i (g .names) c h) (call-closed pl (named counter i h) (insert counter i h) 41 refl (rw c) (g .numbers))
   read-inner (storeTag n i h) g k =
-      then (tag-digits pl n)
+      then (tag-digits pl n (may-store pl n (unfold numberFits in g .numbers)))
       (then (call-into pl (tagged n) (comma n) 44 refl (unfold digit within in refl))
       (then (name-tag pl i (g .names) n h) (call-closed pl (tagNamed n i h) (storeTag n i h) 41 refl refl (g .numbers))))
   read-inner (setTo m i n) g k = set-to pl i (g .names) m n (g .numbers)
@@ -222,7 +230,7 @@ module _ (y : Style) (fair : Fair y) (pl : CallSite) where
       (next refl refl
       (rw (reverse-reverse t) at (call-closed pl (texted i h (reverse t)) (storeText i h (reverse (reverse t))) 41 refl refl (unfold numberFits in refl))))))
   read-inner (setIncrement i n) g k = set-increment pl i (g .names) n (g .numbers)
-  read-inner (divide i n) g k = divide-by pl i (g .names) (no-command (isCommand pl) k) n (g .numbers)
+  read-inner (divide i n) g k = divide-by pl i (g .names) (may-insert (mayInsert (siteOf pl)) k) n (g .numbers)
 
 -- REPLACEMENT
 
@@ -300,26 +308,26 @@ module _ (y : Style) (fair : Fair y) where
       (escaped-escape b (spares (needsText a) b 110 refl n) (spares (needsText a) b 116 refl n))) stay))
 
   -- `&(` or `#(` in a replacement, and behind one
-  read-open : (m : Mark) (a : Option Mark) (f : Front) (ps : List Action) → Reads (replacement a f ps) (markByte m ∷ 40 ∷ []) (calling (inReplacement f (withMark a ps)) (begun m))
+  read-open : (m : Mark) (a : Option Mark) (f : Front) (ps : List Action) → Reads (replacement a f ps) (markByte m ∷ 40 ∷ []) (calling (replacementSoFar f (withMark a ps)) (begun m))
   unfolding markByte skips partByte replacementFresh replacementByte breaks among pick
   read-open stack a f ps = next refl (settles-text a f ps 38 refl) (next refl refl stay)
   read-open counter a f ps = next refl (settles-text a f ps 35 refl) (next refl refl stay)
 
-  command-open : (m : Mark) (a : Option Mark) (f : Front) (ps : List Action) (cs : List Call) → Reads (commands a f ps cs) (markByte m ∷ 40 ∷ []) (calling (asCommand f ps cs) (begun m))
+  command-open : (m : Mark) (a : Option Mark) (f : Front) (ps : List Action) (cs : List Call) → Reads (commands a f ps cs) (markByte m ∷ 40 ∷ []) (calling (commandsSoFar f ps cs) (begun m))
   unfolding markByte skips partByte commandsFresh commandsByte pick
   command-open stack a f ps cs = next refl (settles-commands a f ps cs 38 refl) (next refl refl stay)
   command-open counter a f ps cs = next refl (settles-commands a f ps cs 35 refl) (next refl refl stay)
 
   read-action : (a : Option Mark) (f : Front) (ps : List Action) (p : Action) → FormedAction (tags (f .pieces)) p
       → Reads (replacement a f ps) (actionBytes y a p) (replacement (actionLeaves y p) f (beforeAction (actionLeaves y p) p (withMark a ps)))
-  unfolding actionBytes callBytes actionLeaves beforeAction skips partByte replacementFresh tagByte breaks among pick digit within tagEnd isCommand frontOf behindCall
+  unfolding actionBytes callBytes actionLeaves beforeAction skips partByte replacementFresh tagByte breaks among pick digit within tagEnd siteOf mayInsert piecesOf behindCall
   read-action a f ps (text b) g = read-text-by a f ps b (y .textToo b) (needsText a b) refl refl
   read-action a f ps (tag n) g =
       next refl (settles-text a f ps 123 refl)
       (then (read-digits (λ o. tagNumber o f (withMark a ps)) (λ o. refl) (λ o b e. rw e) n)
       (move (tagNumber (some n) f (withMark a ps)) 125 (replacement none f (tag n ∷ withMark a ps)) refl (rw (le-leb 1 n (g .0), le-leb n (tags (f .pieces)) (g .1))) stay))
   read-action a f ps (call c) g =
-      then (read-open (markOf c) a f ps) (read-inner y fair (inReplacement f (withMark a ps)) c g (λ e. clash e refl))
+      then (read-open (markOf c) a f ps) (read-inner y fair (replacementSoFar f (withMark a ps)) c g (λ e. clash refl e))
 
   pub read-replacement : (l : List Action) (a : Option Mark) (f : Front) (ps : List Action) → FormedReplacement (tags (f .pieces)) l
       → Reads (replacement a f ps) (replacementBytes y a l ++ (39 ∷ [])) (commands none f (reverseAux l (withMark a ps)) [])
@@ -333,8 +341,26 @@ module _ (y : Style) (fair : Fair y) where
 
   pub read-commands : (l : List Call) (f : Front) (ps : List Action) (cs : List Call) → FormedCommands (tags (f .pieces)) l
       → Reads (commands none f ps cs) (commandsBytes (textBytes y) l) (commands none f ps (reverseAux l cs))
-  unfolding commandsBytes callBytes isCommand frontOf behindCall
+  unfolding commandsBytes callBytes siteOf mayInsert piecesOf behindCall
   read-commands [] f ps cs g = stay
   read-commands (c ∷ l) f ps cs g =
       then (command-open (markOf c) none f ps cs)
-      (then (read-inner y fair (asCommand f ps cs) c (g .0 .1) (λ e. g .0 .0)) (read-commands l f ps (c ∷ cs) (g .1)))
+      (then (read-inner y fair (commandsSoFar f ps cs) c (g .0 .1) (λ e. g .0 .0)) (read-commands l f ps (c ∷ cs) (g .1)))
+
+  -- CALLS BEFORE A PATTERN
+
+  calls-open : (m : Mark) (cs : List Call) → Reads (calls none cs) (markByte m ∷ 40 ∷ []) (calling (callsSoFar cs) (begun m))
+  unfolding markByte skips partByte callsFresh callsByte pick
+  calls-open stack cs = next refl refl (next refl refl stay)
+  calls-open counter cs = next refl refl (next refl refl stay)
+
+  -- behind `&(` or `#(`
+  pub read-call-before : (c : Call) (cs : List Call) → Commands c × FormedCall 0 c
+      → Reads (calling (callsSoFar cs) (begun (markOf c))) (innerBytes (textBytes y) c) (calls none (c ∷ cs))
+  unfolding siteOf mayInsert piecesOf behindCall tags
+  read-call-before c cs g = read-inner y fair (callsSoFar cs) c (g .1) (λ e. g .0)
+
+  pub read-calls-before : (l cs : List Call) → FormedCommands 0 l → Reads (calls none cs) (commandsBytes (textBytes y) l) (calls none (reverseAux l cs))
+  unfolding commandsBytes callBytes
+  read-calls-before [] cs g = stay
+  read-calls-before (c ∷ l) cs g = then (calls-open (markOf c) cs) (then (read-call-before c cs (g .0)) (read-calls-before l (c ∷ cs) (g .1)))

@@ -9,21 +9,21 @@ use lib.ListN.{length, length-append}
 use Rattle.macros.specs.Bounds.{mostEntryBytes}
 use Rattle.macros.specs.Refusals.{FileRefusal}
 use Rattle.macros.specs.Refusals.FileRefusal.{fileTooLong, zeroByte, incomplete, badClass, noUnit, badBrace, badCall, noElement, macroTooLong, tooManyMacros}
-use Rattle.macros.specs.Macro.{Action, Call, Macro, Mark, Member, Move, PatternUnit, Piece, among, pick, tags}
+use Rattle.macros.specs.Macro.{Action, Call, Mark, Member, Move, PatternUnit, Piece, among, pick, tags}
 use Rattle.macros.specs.Macro.Closure.{once, oneOrMore, zeroOrMore}
 use Rattle.macros.specs.Macro.Member.{single}
 use Rattle.macros.specs.Macro.Piece.{element}
 use Rattle.macros.specs.Macro.Move.{after, before, still}
-use Rattle.macros.specs.Formed.{Bytes, Formed, FormedCommands, FormedMembers, FormedPattern, FormedPieces, FormedReplacement, Letter}
-use Rattle.macros.specs.Read.{Front, Joinable, Last, Part, Phase, CallSite, Step, isCommand, membersAtEnd}
+use Rattle.macros.specs.Formed.{Bytes, FormedCommands, FormedMembers, FormedPattern, FormedPieces, FormedReplacement, Letter}
+use Rattle.macros.specs.Read.{Front, Joinable, Last, Part, Phase, Site, CallSite, Step, mayInsert, membersAtEnd, siteOf}
 use Rattle.macros.specs.ReadSoFar.Joinable.{marked, nothing, query, starred, unit}
 use Rattle.macros.specs.ReadSoFar.Last.{dash, free, member}
 use Rattle.macros.specs.ReadSoFar.Phase.{begun, comma, divisor, equals, increment, named, signed, tagNamed, tagSigned, tagged, texted}
-use Rattle.macros.specs.ReadSoFar.CallSite.{asCommand, inReplacement}
-use Rattle.macros.specs.ReadSoFar.Part.{awaitQuote, awaitSymbol, callText, callTextEscape, calling, commands, members, membersEscape, opened, pattern, patternCall, patternCalled, patternEscape, replacement, replacementEscape, tagNumber}
-use Rattle.macros.specs.ReadSoFar.Step.{done, on, stop}
+use Rattle.macros.specs.ReadSoFar.CallSite.{callsSoFar, commandsSoFar, replacementSoFar}
+use Rattle.macros.specs.ReadSoFar.Part.{awaitQuote, awaitSymbol, callText, callTextEscape, calling, calls, commands, members, membersEscape, opened, pattern, patternCall, patternCalled, patternEscape, replacement, replacementEscape, tagNumber}
+use Rattle.macros.specs.ReadSoFar.Step.{done, on, opens, stop}
 use Rattle.macros.specs.Write.{byte, callBytes, closureBytes, digits}
-use Rattle.macros.specs.Spell.{Before, behind, leaves, leavesMark, leavesUnit, shortest, spellAction, spellMember, spellPattern, spellPiece, spellText, spellUnit}
+use Rattle.macros.specs.Spell.{Before, behind, leaves, leavesMark, leavesUnit, spellAction, spellMember, spellPattern, spellPiece, spellText, spellUnit}
 use Rattle.macros.specs.Spell.Before.{aRange, aSingle, bracket, tilde}
 use Rattle.macros.specs.Spell.{callTextSigns}
 use Rattle.macros.proofs.Readings.{settled, withMark}
@@ -164,13 +164,19 @@ loadCall (tagSigned n s) = 4 + figures (some n)
 loadCall (tagNamed n i h) = 4 + figures (some n) + moves h
 loadCall (texted i h t) = 5 + moves h + costText t
 
--- the bytes that stand before a call
-unfoldable pub base : CallSite → ℕ
-base (inReplacement f ps) = cost (f .pieces) + 4 + costActions ps
-base (asCommand f ps cs) = cost (f .pieces) + 5 + costActions ps + costCalls cs
+-- the bytes of what has been read from a pattern on, up to the `;`
+unfoldable pub costBody : Front → List Action → List Call → ℕ
+costBody f ps cs = cost (f .pieces) + 5 + costActions ps + costCalls cs
 
--- the bytes that a part must have cost
+-- the bytes that stand before a call; behind a pattern, those from its quote on
+unfoldable pub base : CallSite → ℕ
+base (callsSoFar cs) = costCalls cs
+base (replacementSoFar f ps) = cost (f .pieces) + 4 + costActions ps
+base (commandsSoFar f ps cs) = costBody f ps cs
+
+-- the bytes that a part must have cost; from the pattern on, those from its quote on
 unfoldable pub load : Part → ℕ
+load (calls a cs) = costCalls cs + gapMark a
 load (pattern h ps) = suc (cost (settled h ps) + slack h ps)
 load (patternEscape ps) = cost ps + 2
 load (opened ps) = cost ps + 2
@@ -186,32 +192,34 @@ load (tagNumber o f ps) = cost (f .pieces) + 5 + costActions ps + figures o
 load (calling pl ph) = base pl + loadCall ph
 load (callText pl i h t) = base pl + 4 + moves h + costText t
 load (callTextEscape pl i h t) = base pl + 5 + moves h + costText t
-load (commands a f ps cs) = cost (f .pieces) + 5 + costActions ps + costCalls cs + gapMark a
+load (commands a f ps cs) = costBody f ps cs + gapMark a
 
 -- a whole pattern, and the actions behind it
 unfoldable pub Done : Front → List Action → Type 0
 Done f ps = FormedPattern (f .pieces) × FormedReplacement (tags (f .pieces)) ps
 
 unfoldable pub FitPlace : CallSite → Type 0
-FitPlace (inReplacement f ps) = Done f ps
-FitPlace (asCommand f ps cs) = Done f ps × FormedCommands (tags (f .pieces)) cs
+FitPlace (callsSoFar cs) = FormedCommands 0 cs
+FitPlace (replacementSoFar f ps) = Done f ps
+FitPlace (commandsSoFar f ps cs) = Done f ps × FormedCommands (tags (f .pieces)) cs
 
--- a phase of a call; cmd: of a command
-unfoldable pub FitPhase : (cmd : Bool) → Phase → Type 0
-FitPhase cmd (begun m) = Unit {0}
-FitPhase cmd (signed m s) = Unit {0}
-FitPhase cmd (named m i h) = Letter i
-FitPhase cmd (equals m i o) = Letter i
-FitPhase cmd (increment i o) = Letter i
-FitPhase cmd (divisor i o) = Letter i × (cmd ≡ true → ⊥)
-FitPhase cmd (tagged n) = Unit {0}
-FitPhase cmd (comma n) = Unit {0}
-FitPhase cmd (tagSigned n s) = Unit {0}
-FitPhase cmd (tagNamed n i h) = Letter i
-FitPhase cmd (texted i h t) = Letter i × Bytes t × (length t ≤ mostEntryBytes)
+-- a phase of a call that stands there
+unfoldable pub FitPhase : Site → Phase → Type 0
+FitPhase si (begun m) = Unit {0}
+FitPhase si (signed m s) = Unit {0}
+FitPhase si (named m i h) = Letter i
+FitPhase si (equals m i o) = Letter i
+FitPhase si (increment i o) = Letter i
+FitPhase si (divisor i o) = Letter i × (mayInsert si ≡ true)
+FitPhase si (tagged n) = Unit {0}
+FitPhase si (comma n) = Unit {0}
+FitPhase si (tagSigned n s) = Unit {0}
+FitPhase si (tagNamed n i h) = Letter i
+FitPhase si (texted i h t) = Letter i × Bytes t × (length t ≤ mostEntryBytes)
 
 -- what is well formed of what a part holds
 unfoldable pub Fit : Part → Type 0
+Fit (calls a cs) = FormedCommands 0 cs
 Fit (pattern h ps) = FormedPieces (settled h ps)
 Fit (patternEscape ps) = FormedPieces ps
 Fit (opened ps) = FormedPieces ps
@@ -224,7 +232,7 @@ Fit (awaitQuote f) = FormedPattern (f .pieces)
 Fit (replacement a f ps) = Done f (withMark a ps)
 Fit (replacementEscape f ps) = Done f ps
 Fit (tagNumber o f ps) = Done f ps
-Fit (calling pl ph) = FitPlace pl × FitPhase (isCommand pl) ph
+Fit (calling pl ph) = FitPlace pl × FitPhase (siteOf pl) ph
 Fit (callText pl i h t) = FitPlace pl × Letter i × Bytes t × (length t ≤ mostEntryBytes)
 Fit (callTextEscape pl i h t) = FitPlace pl × Letter i × Bytes t × (length t < mostEntryBytes)
 Fit (commands a f ps cs) = Done f ps × FormedCommands (tags (f .pieces)) cs
@@ -245,7 +253,9 @@ Shows tooManyMacros = Unit {0}
 -- a step from a part that n bytes have paid for
 pub data Good (n : ℕ) : Step → Type 0 where
   fine : {st : Part} → load st ≤ suc n → Fit st → Good n (on st)
-  whole : {m : Macro} → Formed m → length (shortest m) ≤ suc n → Good n (done m)
+  opening : {cs : List Call} → costCalls cs ≤ n → FormedCommands 0 cs → Good n (opens cs)
+  whole : {f : Front} {ps : List Action} {cs : List Call} → costBody f ps cs ≤ n → Done f ps → FormedCommands (tags (f .pieces)) cs
+      → Good n (done f ps cs)
   fault : {k : FileRefusal} → Shows k → Good n (stop k)
 
 -- a branch, by both its cases

@@ -154,4 +154,4 @@ commands-full (c ∷ cs) = rw (call-full c, commands-full cs)
 
 pub written-full : (m : Macro) → written m ≡ spelled full m
 unfolding written spelled Calm
-written-full m = rw (pattern-full nothing (m .pattern) tt, replacement-full (m .replacement), commands-full (m .commands))
+written-full m = rw (pattern-full nothing (m .pattern) tt, replacement-full (m .replacement), commands-full (m .commands), commands-full (m .before))

@@ -9,6 +9,7 @@ use Rattle.macros.specs.Macro.{Macro, Table, pick}
 use Rattle.macros.specs.Formed.{Bytes, Octets}
 use Rattle.macros.specs.Read.{atEnd, readFile, readFrom, readOnto}
 use Rattle.macros.specs.ReadFile.Read.{table}
+use Rattle.macros.specs.ReadFile.Pending.{clear}
 use Rattle.macros.specs.ReadFile.Reader.{between}
 use Rattle.macros.specs.Write.{writeOut}
 use Rattle.macros.specs.Spell.{shortest}
@@ -30,7 +31,7 @@ shortest-reads m g h =
     let e = shortest-bare m in
     read-whole (shortest m) (rw e (whole-spelled bare m g)) (omega arith)
     ∙ rw e
-    (ap (readFrom 0 (between false [])) (sym (append-nil (spelled bare m)))
+    (ap (readFrom 0 (between false clear [])) (sym (append-nil (spelled bare m)))
     ∙ read-macro bare fair-bare m g (rw e at h) 0 [] [] (omega arith))
 
 -- a macro that bytes were read as, whatever was there before

@@ -10,6 +10,7 @@ pub mod Costs
 pub mod PaidPattern
 pub mod PaidCalls
 pub mod Paid
+pub mod Pending
 pub mod FirstFault
 pub mod ReadOnto
 pub mod Skips

@@ -1,6 +1,6 @@
 -- Every byte: what has been read is paid for, and stays well formed; so are the macros of a file.
 use mathlib.Core.Path.{ap, refl, _∙_, _≡_}
-use mathlib.Core.Bool.{_&&_, Bool, false, true}
+use mathlib.Core.Bool.{_&&_, Bool, false, not, true}
 use mathlib.Core.List.{_++_, List, [], reverse, reverse-append, reverse-reverse, reverseAux, _∷_}
 use mathlib.Core.Option.{Option, none, some}
 use Prim.Native.Nat.{_+_, _<_, suc, ℕ, _≤_}
@@ -15,24 +15,25 @@ use Rattle.macros.specs.Refusals.FileRefusal.{fileTooLong, zeroByte}
 use Rattle.macros.specs.Macro.{Macro, Mark, Table, among, asciiLower, pick}
 use Rattle.macros.specs.Macro.PatternUnit.{callOf, literal}
 use Rattle.macros.specs.Macro.Action.{text}
-use Rattle.macros.specs.Formed.{Byte, Bytes, Formed, Octets}
-use Rattle.macros.specs.Read.{Joinable, Next, Part, Read, Reader, Step, atEnd, callByte, count, escaped, firstZero, isCommand, partByte, quoteByte, readFrom, readOnto, skips, step, symbolByte, tagByte, taken}
-use Rattle.macros.specs.ReadSoFar.Joinable.{unit}
-use Rattle.macros.specs.ReadSoFar.Part.{awaitQuote, awaitSymbol, callText, callTextEscape, calling, commands, members, membersEscape, opened, pattern, patternCall, patternCalled, patternEscape, replacement, replacementEscape, tagNumber}
-use Rattle.macros.specs.ReadSoFar.Step.{done, on, stop}
+use Rattle.macros.specs.Formed.{Byte, Bytes, Formed, FormedCommands, Octets}
+use Rattle.macros.specs.Read.{Joinable, Next, Part, Pending, Prior, Read, Reader, Step, atEnd, callByte, count, escaped, firstCall, firstZero, further, macroOf, outside, outsideFresh, partByte, quoteByte, readFrom, readOnto, siteOf, skips, step, symbolByte, tagByte, taken}
+use Rattle.macros.specs.ReadSoFar.Joinable.{nothing, unit}
+use Rattle.macros.specs.ReadSoFar.Part.{awaitQuote, awaitSymbol, callText, callTextEscape, calling, calls, commands, members, membersEscape, opened, pattern, patternCall, patternCalled, patternEscape, replacement, replacementEscape, tagNumber}
+use Rattle.macros.specs.ReadSoFar.Step.{done, on, opens, stop}
+use Rattle.macros.specs.ReadFile.Pending.{atMark, clear}
 use Rattle.macros.specs.ReadFile.Reader.{between, inside}
-use Rattle.macros.specs.ReadFile.Next.{go, refuse}
+use Rattle.macros.specs.ReadFile.Next.{go, refuse, refuseBefore}
 use Rattle.macros.specs.ReadFile.Read.{refusedAt, table}
 use Rattle.macros.specs.Spell.{behind, leavesUnit, shortest, spellUnit}
 use Rattle.macros.specs.Accepted.{Each}
 use Rattle.macros.specs.Spell.{callTextSigns}
 use Rattle.macros.proofs.Readings.{settled, withMark}
-use Rattle.macros.proofs.Round.{no-zero, read-go, read-refuse}
-use Rattle.macros.proofs.Costs.{Done, Fit, Good, Shows, byte-most, cost, cost-once, costActions, costText, either, figures}
+use Rattle.macros.proofs.Round.{no-zero, read-go, read-refuse, read-refuse-before}
+use Rattle.macros.proofs.Costs.{Done, Fit, FitPhase, FitPlace, Good, Shows, base, byte-most, cost, cost-once, costActions, costCalls, costText, either, figures}
 use Rattle.macros.proofs.Costs.{gap, gapMark, load, loadCall, slack, slackMark, top, topMark}
-use Rattle.macros.proofs.Costs.Good.{fault, fine, whole}
+use Rattle.macros.proofs.Costs.Good.{fault, fine, opening, whole}
 use Rattle.macros.proofs.PaidPattern.{escaped-byte, escaped-load, literal-length, members-good, new-good, new-most, opened-good, pattern-good}
-use Rattle.macros.proofs.PaidCalls.{call-good, call-text-good, commands-good, cost-text, escaped-text-load, figures-more, low-name, otherwise-good, replacement-good, tag-good, turned-good}
+use Rattle.macros.proofs.PaidCalls.{call-good, call-text-good, calls-good, commands-good, cost-text, escaped-text-load, figures-more, low-name, macro-cost, macro-formed, otherwise-good, replacement-good, tag-good, turned-good}
 
 call-of-length : (m : Mark) (i : ℕ) (h : Joinable) → length (spellUnit h (callOf m i)) ≡ 4
 unfolding spellUnit
@@ -45,6 +46,7 @@ gap-none = refl
 -- every byte
 keeps : (st : Part) (n b : ℕ) → Byte b → (skips st && eqb b 47) ≡ false → load st ≤ n → Fit st → Good n (partByte st b)
 unfolding partByte skips symbolByte quoteByte tagByte load Fit asciiLower slack settled leavesUnit gap withMark slackMark Done costActions costText figures
+keeps (calls a cs) n b g s l f = calls-good n b a cs l f
 keeps (pattern h ps) n b g s l f = pattern-good n b g h ps s l f
 keeps (patternEscape ps) n b g s l f =
     let c = escaped b in
@@ -69,7 +71,7 @@ keeps (tagNumber o fr ps) n b g s l f =
     either (λ e. fine (omega (arith, figures-more o b e)) f)
     (λ e. either (λ k. tag-good n o fr ps l f) (λ k. either (λ j. fault tt) (λ j. fault tt)))
 keeps (calling pl ph) n b g s l f =
-    turned-good n pl ph b (callByte (isCommand pl) ph b) (call-good (isCommand pl) ph b (loadCall ph) (omega arith) (f .1)) l (f .0) (f .1)
+    turned-good n pl ph b (callByte (siteOf pl) ph b) (call-good (siteOf pl) ph b (loadCall ph) (omega arith) (f .1)) l (f .0) (f .1)
 keeps (callText pl i j t) n b g s l f = call-text-good n b g pl i j t s l f
 keeps (callTextEscape pl i j t) n b g s l f =
     let c = escaped b in
@@ -111,43 +113,121 @@ module _ (old : List Macro) where
 abbrev pub Few : List Macro → List Macro → Type 0
 Few old ms = length old ≤ mostMacros → length ms ≤ mostMacros
 
+-- a `&` or `#` that `(` may join is the n-th last of the p bytes read
+abbrev Stood : ℕ → Pending → Type 0
+Stood p clear = Unit {0}
+Stood p (atMark m n) = (1 ≤ n) × (n ≤ p)
+
+-- the macro that n of p bytes were read as so far: its open part, and the calls before its pattern if that is open
+record Open (p n : ℕ) (st : Part) (pr : Prior) : Type 0 where
+  paid : load st + costCalls (pr .calls) ≤ n
+  fit : Fit st
+  called : FormedCommands 0 (pr .calls)
+  since : n ≤ p
+
 -- what holds of the reader behind p bytes
 Sound : List Macro → ℕ → Reader → Type 0
-Sound old p (between skip ms) = Onto old p ms × Few old ms
-Sound old p (inside skip n st ms) = (load st ≤ n) × Fit st × (n ≤ mostMacroBytes) × (n ≤ p) × Onto old p ms × (length ms < mostMacros)
+Sound old p (between skip a ms) = Onto old p ms × Few old ms × Stood p a
+Sound old p (inside skip n st pr) = Open p n st pr × Onto old p (pr .macros) × (length (pr .macros) < mostMacros)
 
 data Sure (old : List Macro) (p : ℕ) : Next → Type 0 where
   ahead : {r : Reader} → Sound old p r → Sure old p (go r)
   back : {k : FileRefusal} → Shows k → Sure old p (refuse k)
+  farBack : {k : FileRefusal} {n : ℕ} → Shows k → Sure old p (refuseBefore k n)
 
 which : {old : List Macro} {p : ℕ} {c : Bool} {x y : Next} → (c ≡ true → Sure old p x) → (c ≡ false → Sure old p y) → Sure old p (pick c x y)
 unfolding pick
 which {c = true} f g = f refl
 which {c = false} f g = g refl
 
-taken-sure : (old : List Macro) (p n : ℕ) (ms : List Macro) (x : Step) → Good n x → n ≤ mostMacroBytes → n ≤ p → Onto old p ms → length ms < mostMacros
-    → Sure old (suc p) (taken n ms x)
-unfolding taken count Sound
-taken-sure old p n ms (on st) (fine l f) h k e z =
-    which (λ t. ahead (l, f, ltb-true n 512 t, omega arith, later old p ms e, z)) (λ t. back tt)
-taken-sure old p n ms (done m) (whole f l) h k e z =
-    which
-    (λ t.
-    let w : n < 512 = ltb-true n 512 t in
-    ahead (longer old (suc p) m ms (record { formed = f; short = omega arith; least = omega arith }) (later old p ms e), λ i. omega arith))
-    (λ t. back tt)
-taken-sure old p n ms (stop j) (fault w) h k e z = back w
+module _ (old : List Macro) (p : ℕ) where
+  -- one more byte of a macro, if it is not the 513th
+  counted : (n : ℕ) (r : Reader) → (n < mostMacroBytes → Sound old (suc p) r) → Sure old (suc p) (count n r)
+  unfolding count
+  counted n r h = which (λ t. ahead (h (ltb-true n 512 t))) (λ t. back tt)
+
+  -- a macro's byte in a skip, or at its ends
+  skipped : (skip : Bool) (n : ℕ) (st : Part) (pr : Prior) → Sound old p (inside skip n st pr) → (other : Bool) → Sure old (suc p) (count n (inside other (suc n) st pr))
+  unfolding Sound
+  skipped skip n st pr s other =
+      let o = s .0 in
+      counted n (inside other (suc n) st pr)
+      (λ t. (
+        record { paid = omega (arith, o .paid); fit = o .fit; called = o .called; since = omega (arith, o .since) },
+        later old p (pr .macros) (s .1),
+        s .2,
+      ))
+
+  -- a macro's byte outside skips: k of the n bytes so far are not those of the calls before its pattern
+  taken-sure : (n k : ℕ) (pr : Prior) (x : Step) → Good k x → k + costCalls (pr .calls) ≤ n → FormedCommands 0 (pr .calls) → n ≤ p
+      → Onto old p (pr .macros) → length (pr .macros) < mostMacros → Sure old (suc p) (taken n pr x)
+  unfolding taken Sound load Fit settled slack cost top gap
+  taken-sure n k pr (on st) (fine l f) h c i e z =
+      counted n (inside false (suc n) st pr)
+      (λ t. (record { paid = omega arith; fit = f; called = c; since = omega arith }, later old p (pr .macros) e, z))
+  taken-sure n k pr (opens cs) (opening l f) h c i e z =
+      counted n (inside false (suc n) (pattern nothing []) (record { calls = cs; macros = pr .macros }))
+      (λ t. (record { paid = omega arith; fit = tt; called = f; since = omega arith }, later old p (pr .macros) e, z))
+  taken-sure n k pr (done f ps cs) (whole l d b) h c i e z =
+      let m = macroOf (pr .calls) f ps cs in
+      let j = macro-cost (pr .calls) f ps cs in
+      counted n (between false clear (m ∷ pr .macros))
+      (λ t. (
+        longer old (suc p) m (pr .macros) (record { formed = macro-formed (pr .calls) f ps cs c d b; short = omega arith; least = omega arith })
+            (later old p (pr .macros) e),
+        λ i. omega arith,
+        tt,
+      ))
+  taken-sure n k pr (stop j) (fault w) h c i e z = back w
+
+  -- BEFORE A PATTERN
+
+  module _ (ms : List Macro) (o : Onto old p ms) (h : Few old ms) where
+    fresh-sure : (b : ℕ) → Sure old (suc p) (outsideFresh ms b)
+    unfolding outsideFresh Sound load Fit settled slack cost top gap costCalls
+    fresh-sure b =
+        let e = later old p ms o in
+        which
+        (λ q. which
+        (λ t. ahead (record { paid = omega arith; fit = tt; called = tt; since = omega arith }, e, ltb-true (length ms) 96 t))
+        (λ t. back tt))
+        (λ q. which (λ t. ahead (e, h, (omega arith, omega arith)))
+        (λ q. which (λ t. ahead (e, h, (omega arith, omega arith))) (λ t. ahead (e, h, tt))))
+
+    -- the `(` of a first call: it and its `&` or `#` are two bytes
+    first-sure : (m : Mark) (n : ℕ) → Stood p (atMark m n) → Sure old (suc p) (firstCall m n ms)
+    unfolding firstCall Sound load Fit base loadCall FitPlace FitPhase costCalls
+    first-sure m n s =
+        which
+        (λ t. which
+        (λ q. ahead (
+          record { paid = omega (arith, s .0); fit = (tt, tt); called = tt; since = omega (arith, s .1) },
+          later old p ms o,
+          ltb-true (length ms) 96 t,
+        ))
+        (λ q. farBack tt))
+        (λ t. farBack tt)
+
+    outside-sure : (a : Pending) (b : ℕ) → Stood p a → Sure old (suc p) (outside a ms b)
+    unfolding outside
+    outside-sure clear b s = fresh-sure b
+    outside-sure (atMark m n) b s = which (λ e. first-sure m n s) (λ e. fresh-sure b)
+
+further-stood : (p : ℕ) (a : Pending) → Stood p a → Stood (suc p) (further a)
+unfolding further
+further-stood p clear s = tt
+further-stood p (atMark m n) s = (omega arith, omega (arith, s .1))
 
 step-sure : (old : List Macro) (r : Reader) (p b : ℕ) → Byte b → Sound old p r → Sure old (suc p) (step r b)
-unfolding step Sound count load Fit settled slack cost top gap
-step-sure old (between skip ms) p b g s =
-    which (λ e. ahead (later old p ms (s .0), s .1))
-    (λ e. which (λ q. which (λ t. ahead (omega arith, tt, omega arith, omega arith, later old p ms (s .0), ltb-true (length ms) 96 t)) (λ t. back tt))
-    (λ q. ahead (later old p ms (s .0), s .1)))
-step-sure old (inside skip n st ms) p b g s =
-    which (λ e. which (λ t. ahead (omega (arith, s .0), s .1, ltb-true n 512 t, omega (arith, s .3), later old p ms (s .4), s .5)) (λ t. back tt))
-    (λ e. which (λ k. which (λ t. ahead (omega (arith, s .0), s .1, ltb-true n 512 t, omega (arith, s .3), later old p ms (s .4), s .5)) (λ t. back tt))
-    (λ k. taken-sure old p n ms (partByte st b) (keeps st n b g e (s .0) (s .1)) (s .2) (s .3) (s .4) (s .5)))
+unfolding step Sound
+step-sure old (between skip a ms) p b g s =
+    let stays : Onto old (suc p) ms × Few old ms × Stood (suc p) (further a) = (later old p ms (s .0), s .1, further-stood p a (s .2)) in
+    which (λ e. ahead stays) (λ e. which (λ k. ahead stays) (λ k. outside-sure old p ms (s .0) (s .1) a b (s .2)))
+step-sure old (inside skip n st pr) p b g s =
+    let o = s .0 in
+    which (λ e. skipped old p skip n st pr s (not skip))
+    (λ e. which (λ k. skipped old p skip n st pr s true)
+    (λ k. taken-sure old p n (load st) pr (partByte st b) (keeps st (load st) b g e (omega arith) (o .fit)) (o .paid) (o .called) (o .since) (s .1) (s .2)))
 
 -- what holds of a table that was read onto another from q bytes, both oldest first
 pub record Produced (older : Table) (q : ℕ) (ms : Table) : Type 0 where
@@ -172,9 +252,9 @@ finished old q ms o h =
 
 read-right : (old : List Macro) (s : List ℕ) (p q : ℕ) (r : Reader) → Bytes s → Sound old q r → Right (reverse old) (q + length s) (readFrom p r s)
 unfolding readFrom Sound atEnd
-read-right old [] p q (between true ms) g h = unfold pick in refusal tt
-read-right old [] p q (between false ms) g h = unfold pick in macros {ms = reverse ms} (rw add-zero (finished old q ms (h .0) (h .1)))
-read-right old [] p q (inside skip n st ms) g h = refusal tt
+read-right old [] p q (between true a ms) g h = unfold pick in refusal tt
+read-right old [] p q (between false a ms) g h = unfold pick in macros {ms = reverse ms} (rw add-zero (finished old q ms (h .0) (h .1)))
+read-right old [] p q (inside skip n st pr) g h = refusal tt
 read-right old (b ∷ s) p q r g h = by (step r b) refl (step-sure old r q b (g .0) h) (λ r′ i. read-right old s (suc p) (suc q) r′ (g .1) i)
   where
     by : (v : Next) → step r b ≡ v → Sure old (suc q) v → ((r′ : Reader) → Sound old (suc q) r′ → Right (reverse old) (suc q + length s) (readFrom (suc p) r′ s))
@@ -183,6 +263,7 @@ read-right old (b ∷ s) p q r g h = by (step r b) refl (step-sure old r q b (g 
         let k : q + suc (length s) ≡ suc q + length s = omega arith in
         rw (k, read-go p r r′ b s e) (ih r′ i)
     by (refuse k) e (back w) ih = rw (read-refuse p k r b s e) (refusal w)
+    by (refuseBefore k n) e (farBack w) ih = rw (read-refuse-before p k n r b s e) (refusal w)
 
 no-zeros : (p : ℕ) (s : List ℕ) → Octets s → firstZero p s ≡ none → Bytes s
 unfolding firstZero
@@ -194,11 +275,11 @@ no-zeros p (b ∷ s) g e = by (eqb b 0) refl e (λ f. no-zeros (suc p) s (g .1) 
     by false q f ih = unfold pick in (omega (arith, eqb-false b 0 q, g .0), ih f)
 
 -- bytes read onto a table, whatever its macros
-read-onto : (older : Table) (s : List ℕ) → Bytes s → Right older (length s) (readFrom 0 (between false (reverse older)) s)
+read-onto : (older : Table) (s : List ℕ) → Bytes s → Right older (length s) (readFrom 0 (between false clear (reverse older)) s)
 unfolding Sound
 read-onto older s g =
     let o : Onto (reverse older) 0 (reverse older) = record { new = []; added = refl; each = tt } in
-    rw (reverse-reverse older, zero-add (length s)) at (read-right (reverse older) s 0 0 (between false (reverse older)) g (o, λ l. l))
+    rw (reverse-reverse older, zero-add (length s)) at (read-right (reverse older) s 0 0 (between false clear (reverse older)) g (o, (λ l. l), tt))
 
 right-table : (older : Table) (q : ℕ) (r : Read) (ms : Table) → Right older q r → r ≡ table ms → Produced older q ms
 right-table older q (table l) ms (macros e) t = let z : l ≡ ms = cc in rw (← z) e
@@ -209,7 +290,7 @@ unfolding readOnto
 produced older s ms g e = by (ltb mostFileBytes (length s)) (firstZero 0 s) refl e
   where
     by : (x : Bool) (o : Option ℕ) → firstZero 0 s ≡ o
-        → pick x (refusedAt fileTooLong mostFileBytes) (elim o [ none ↦ readFrom 0 (between false (reverse older)) s | some p ↦ refusedAt zeroByte p ]) ≡ table ms
+        → pick x (refusedAt fileTooLong mostFileBytes) (elim o [ none ↦ readFrom 0 (between false clear (reverse older)) s | some p ↦ refusedAt zeroByte p ]) ≡ table ms
         → Produced older (length s) ms
     by true o f e = unfold pick in let z : _≡_ {A = ℕ} 0 1 = cc in absurd (omega arith)
     by false (some p) f e = unfold pick in let z : _≡_ {A = ℕ} 0 1 = cc in absurd (omega arith)

@@ -1,6 +1,6 @@
--- A byte of a call, a replacement or a command: what has been read is paid for, and stays well formed.
+-- A byte of a call, a replacement or a command, or among the calls before a pattern: what has been read is paid for, and stays well formed.
 use mathlib.Core.Path.{refl, _∙_, _≡_}
-use mathlib.Core.Bool.{_&&_, Bool, and-false, false, not, true}
+use mathlib.Core.Bool.{_&&_, Bool, and-false, false, true}
 use mathlib.Core.List.{_++_, List, [], reverse, reverse-reverse, reverseAux, _∷_}
 use mathlib.Core.Option.{Option, none, some}
 use Prim.Native.Nat.{_%_, _*_, _+_, _-_, _/_, _<_, suc, zero, ℕ, _≤_}
@@ -13,22 +13,21 @@ use Rattle.macros.specs.Macro.Mark.{counter, stack}
 use Rattle.macros.specs.Macro.Move.{after, before, still}
 use Rattle.macros.specs.Macro.Call.{divide, insert, setIncrement, setTo, storeTag, storeText}
 use Rattle.macros.specs.Macro.Action.{call, tag, text}
-use Rattle.macros.specs.Formed.{Byte, Bytes, Commands, FormedCall, FormedCommands, FormedReplacement, Letter, Named}
-use Rattle.macros.specs.Read.{Front, Part, Phase, CallSite, Turn, andDigit, breaks, callByte, commandsByte, commandsFresh, frontOf, isCommand, isStill, numberEnd, otherwise, behindCall, replacementByte, replacementFresh, tagEnd, textByte, turned}
+use Rattle.macros.specs.Formed.{Byte, Bytes, Commands, Formed, FormedCall, FormedCommands, FormedReplacement, Letter, Named}
+use Rattle.macros.specs.Read.{Front, Part, Phase, Site, CallSite, Turn, andDigit, behindCall, breaks, callByte, callsByte, callsFresh, commandsByte, commandsFresh, isStill, macroOf, mayInsert, mayStoreTag, numberEnd, otherwise, piecesOf, replacementByte, replacementFresh, siteOf, tagEnd, textByte, turned}
 use Rattle.macros.specs.ReadSoFar.Phase.{begun, comma, divisor, equals, increment, named, signed, tagNamed, tagSigned, tagged, texted}
-use Rattle.macros.specs.ReadSoFar.CallSite.{asCommand, inReplacement}
-use Rattle.macros.specs.ReadSoFar.Part.{callText, calling, commands, replacement, tagNumber}
-use Rattle.macros.specs.ReadSoFar.Step.{done, on}
+use Rattle.macros.specs.ReadSoFar.CallSite.{callsSoFar, commandsSoFar, replacementSoFar}
+use Rattle.macros.specs.ReadSoFar.Part.{callText, calling, calls, commands, replacement, tagNumber}
+use Rattle.macros.specs.ReadSoFar.Step.{on}
 use Rattle.macros.specs.ReadCalls.Turn.{closed, into, textOf, wrong}
 use Rattle.macros.specs.Write.{byte, callBytes, commandsBytes, digits, digitsBy, innerBytes, nameBytes}
 use Rattle.macros.specs.Spell.{isMark, leavesMark, markIn, needsText, shortest, spellAction, spellReplacement, spellText}
 use Rattle.macros.specs.Spell.{textSigns, callTextSigns}
-use Rattle.macros.proofs.Tests.{clash, unbroken, within-left, within-right}
-use Rattle.macros.proofs.Styles.{spelled}
+use Rattle.macros.proofs.Tests.{and-left, and-right, clash, unbroken, within-left, within-right}
 use Rattle.macros.proofs.Readings.{withMark}
 use Rattle.macros.proofs.Whole.{mark-byte}
-use Rattle.macros.proofs.Costs.{Done, Fit, FitPhase, FitPlace, Good, base, byte-most, cost, costActions, costCalls, costText, either, figures, gapMark, load, loadCall, moves, pieces-cost, slackMark, topMark}
-use Rattle.macros.proofs.Costs.Good.{fault, fine, whole}
+use Rattle.macros.proofs.Costs.{Done, Fit, FitPhase, FitPlace, Good, base, byte-most, cost, costActions, costBody, costCalls, costText, either, figures, gapMark, load, loadCall, moves, pieces-cost, slackMark, topMark}
+use Rattle.macros.proofs.Costs.Good.{fault, fine, opening, whole}
 
 -- NUMBERS AND TEXTS
 
@@ -124,72 +123,62 @@ module _ (i : ℕ) where
       )
 
 -- a turn from a phase that n bytes of the call have paid for
-pub data GoodTurn (cmd : Bool) (n : ℕ) : Turn → Type 0 where
-  onward : {ph : Phase} → loadCall ph ≤ suc n → FitPhase cmd ph → GoodTurn cmd n (into ph)
-  worded : {i : ℕ} {h : Move} → 4 + moves h ≤ suc n → Letter i → GoodTurn cmd n (textOf i h)
-  ended : {c : Call} → length (callBytes spellText c) ≤ suc n → Named c → (cmd ≡ true → Commands c) → GoodTurn cmd n (closed c)
-  astray : GoodTurn cmd n wrong
+pub data GoodTurn (si : Site) (n : ℕ) : Turn → Type 0 where
+  onward : {ph : Phase} → loadCall ph ≤ suc n → FitPhase si ph → GoodTurn si n (into ph)
+  worded : {i : ℕ} {h : Move} → 4 + moves h ≤ suc n → Letter i → GoodTurn si n (textOf i h)
+  ended : {c : Call} → length (callBytes spellText c) ≤ suc n → Named c → (mayInsert si ≡ false → Commands c) → GoodTurn si n (closed c)
+  astray : GoodTurn si n wrong
 
-whether : {cmd : Bool} {n : ℕ} {c : Bool} {x y : Turn} → (c ≡ true → GoodTurn cmd n x) → (c ≡ false → GoodTurn cmd n y) → GoodTurn cmd n (pick c x y)
+whether : {si : Site} {n : ℕ} {c : Bool} {x y : Turn} → (c ≡ true → GoodTurn si n x) → (c ≡ false → GoodTurn si n y) → GoodTurn si n (pick c x y)
 unfolding pick
 whether {c = true} f g = f refl
 whether {c = false} f g = g refl
-
--- what may not be a command is not closed as one
-no-command : (p q : Bool) → (p && not q) ≡ true → q ≡ true → ⊥
-no-command true true e f = clash e refl
-no-command true false e f = clash f refl
-no-command false q e f = clash e refl
-
-no-command-still : (p s q : Bool) → (p && (s && not q)) ≡ true → q ≡ true → ⊥
-no-command-still true s q e f = no-command s q e f
-no-command-still false s q e f = clash e refl
 
 pub low-name : (b : ℕ) → asciiLower b ≡ true → Letter b
 unfolding asciiLower
 low-name b e = (within-left 97 122 b e, within-right 97 122 b e)
 
-number-good : (cmd : Bool) (n : ℕ) (c : ℕ → Call) (o : Option ℕ) → ((k : ℕ) → length (callBytes spellText (c k)) ≡ 5 + figures (some k)) → 4 + figures o ≤ n
-    → ((k : ℕ) → Named (c k)) → ((k : ℕ) → cmd ≡ true → Commands (c k)) → GoodTurn cmd n (numberEnd c o)
+number-good : (si : Site) (n : ℕ) (c : ℕ → Call) (o : Option ℕ) → ((k : ℕ) → length (callBytes spellText (c k)) ≡ 5 + figures (some k)) → 4 + figures o ≤ n
+    → ((k : ℕ) → Named (c k)) → ((k : ℕ) → mayInsert si ≡ false → Commands (c k)) → GoodTurn si n (numberEnd c o)
 unfolding numberEnd
-number-good cmd n c none l h f g = astray
-number-good cmd n c (some k) l h f g = ended {c = c k} (omega (arith, l k)) (f k) (g k)
+number-good si n c none l h f g = astray
+number-good si n c (some k) l h f g = ended {c = c k} (omega (arith, l k)) (f k) (g k)
 
-pub call-good : (cmd : Bool) (ph : Phase) (b n : ℕ) → loadCall ph ≤ n → FitPhase cmd ph → GoodTurn cmd n (callByte cmd ph b)
+pub call-good : (si : Site) (ph : Phase) (b n : ℕ) → loadCall ph ≤ n → FitPhase si ph → GoodTurn si n (callByte si ph b)
 unfolding callByte loadCall FitPhase moves figures andDigit
-call-good cmd (begun stack) b n h f =
-    whether (λ e. onward (omega (arith, figures-more none b e)) tt)
+call-good si (begun stack) b n h f =
+    whether (λ e. onward (omega (arith, figures-more none b (and-left (digit b) (mayStoreTag si) e))) tt)
     (λ d. whether (λ e. onward (omega arith) tt) (λ k. whether (λ e. onward (omega arith) (low-name b e)) (λ e. astray)))
-call-good cmd (begun counter) b n h f =
+call-good si (begun counter) b n h f =
     whether (λ e. onward (omega arith) tt) (λ k. whether (λ e. onward (omega arith) (low-name b e)) (λ e. astray))
-call-good cmd (signed m s) b n h f = whether (λ e. onward (omega arith) (low-name b e)) (λ e. astray)
-call-good cmd (named stack i j) b n h f =
-    whether (λ e. ended (omega (arith, insert-length i stack j)) f (no-command (eqb b 41) cmd e))
+call-good si (signed m s) b n h f = whether (λ e. onward (omega arith) (low-name b e)) (λ e. astray)
+call-good si (named stack i j) b n h f =
+    whether (λ e. ended (omega (arith, insert-length i stack j)) f (clash (and-right (eqb b 41) (mayInsert si) e)))
     (λ e. whether (λ e. worded (omega arith) f)
     (λ e. whether (λ e. onward (omega arith) f) (λ e. whether (λ e. onward (omega arith) f) (λ e. astray))))
-call-good cmd (named counter i j) b n h f =
-    whether (λ e. ended (omega (arith, insert-length i counter j)) f (no-command (eqb b 41) cmd e))
+call-good si (named counter i j) b n h f =
+    whether (λ e. ended (omega (arith, insert-length i counter j)) f (clash (and-right (eqb b 41) (mayInsert si) e)))
     (λ e. whether (λ e. onward (omega arith) f)
     (λ e. whether (λ e. onward (omega arith) f)
-    (λ e. whether (λ e. onward (omega arith) (f, no-command-still (eqb b 58) (isStill j) cmd e))
+    (λ e. whether (λ e. onward (omega arith) (f, and-right (isStill j) (mayInsert si) (and-right (eqb b 58) (isStill j && mayInsert si) e)))
     (λ e. whether (λ e. onward (omega arith) f) (λ e. astray)))))
-call-good cmd (equals m i o) b n h f =
+call-good si (equals m i o) b n h f =
     whether (λ e. onward (omega (arith, figures-more o b e)) f)
-    (λ d. whether (λ e. number-good cmd n (setTo m i) o (set-to-length i m) h (λ k. f) (λ k e. tt)) (λ e. astray))
-call-good cmd (increment i o) b n h f =
+    (λ d. whether (λ e. number-good si n (setTo m i) o (set-to-length i m) h (λ k. f) (λ k e. tt)) (λ e. astray))
+call-good si (increment i o) b n h f =
     whether (λ e. onward (omega (arith, figures-more o b e)) f)
-    (λ d. whether (λ e. number-good cmd n (setIncrement i) o (set-increment-length i) h (λ k. f) (λ k e. tt)) (λ e. astray))
-call-good cmd (divisor i o) b n h f =
+    (λ d. whether (λ e. number-good si n (setIncrement i) o (set-increment-length i) h (λ k. f) (λ k e. tt)) (λ e. astray))
+call-good si (divisor i o) b n h f =
     whether (λ e. onward (omega (arith, figures-more o b e)) f)
-    (λ d. whether (λ e. number-good cmd n (divide i) o (divide-length i) h (λ k. f .0) (λ k. f .1)) (λ e. astray))
-call-good cmd (tagged k) b n h f =
+    (λ d. whether (λ e. number-good si n (divide i) o (divide-length i) h (λ k. f .0) (λ k. clash (f .1))) (λ e. astray))
+call-good si (tagged k) b n h f =
     whether (λ e. onward (omega (arith, figures-more (some k) b e)) tt) (λ d. whether (λ e. onward (omega arith) tt) (λ e. astray))
-call-good cmd (comma k) b n h f =
+call-good si (comma k) b n h f =
     whether (λ e. onward (omega arith) tt) (λ d. whether (λ e. onward (omega arith) (low-name b e)) (λ e. astray))
-call-good cmd (tagSigned k s) b n h f = whether (λ e. onward (omega arith) (low-name b e)) (λ e. astray)
-call-good cmd (tagNamed k i j) b n h f =
+call-good si (tagSigned k s) b n h f = whether (λ e. onward (omega arith) (low-name b e)) (λ e. astray)
+call-good si (tagNamed k i j) b n h f =
     whether (λ e. ended (omega (arith, store-tag-length i k j)) f (λ e. tt)) (λ d. whether (λ e. onward (omega arith) f) (λ e. astray))
-call-good cmd (texted i j t) b n h f =
+call-good si (texted i j t) b n h f =
     whether (λ e. ended (omega (arith, store-text-length i j t)) (f .0, bytes-onto t [] (f .1) tt, rw (length-reverse t) (f .2)) (λ e. tt)) (λ e. astray)
 
 -- a space in a call, or a fault
@@ -198,13 +187,14 @@ unfolding otherwise
 otherwise-good n st b h f = either (λ e. fine (omega arith) f) (λ e. either (λ k. fault tt) (λ k. fault tt))
 
 -- behind a call
-placed-good : (n : ℕ) (pl : CallSite) (c : Call) → base pl + length (callBytes spellText c) ≤ suc n → FitPlace pl → FormedCall (tags (frontOf pl .pieces)) c
-    → (isCommand pl ≡ true → Commands c) → Good n (on (behindCall pl c))
-unfolding base FitPlace behindCall frontOf isCommand load Fit withMark slackMark costActions costCalls spellAction topMark leavesMark gapMark Done
-placed-good n (inReplacement f ps) c h d g k = fine {st = replacement none f (call c ∷ ps)} (omega arith) (d .0, (g, d .1))
-placed-good n (asCommand f ps cs) c h d g k = fine {st = commands none f ps (c ∷ cs)} (omega arith) (d .0, ((k refl, g), d .1))
+placed-good : (n : ℕ) (pl : CallSite) (c : Call) → base pl + length (callBytes spellText c) ≤ suc n → FitPlace pl → FormedCall (tags (piecesOf pl)) c
+    → (mayInsert (siteOf pl) ≡ false → Commands c) → Good n (on (behindCall pl c))
+unfolding base FitPlace behindCall piecesOf tags siteOf mayInsert load Fit withMark slackMark costActions costBody costCalls spellAction topMark leavesMark gapMark Done
+placed-good n (callsSoFar cs) c h d g k = fine {st = calls none (c ∷ cs)} (omega arith) ((k refl, g), d)
+placed-good n (replacementSoFar f ps) c h d g k = fine {st = replacement none f (call c ∷ ps)} (omega arith) (d .0, (g, d .1))
+placed-good n (commandsSoFar f ps cs) c h d g k = fine {st = commands none f ps (c ∷ cs)} (omega arith) (d .0, ((k refl, g), d .1))
 
-pub turned-good : (n : ℕ) (pl : CallSite) (ph : Phase) (b : ℕ) (x : Turn) → GoodTurn (isCommand pl) (loadCall ph) x → base pl + loadCall ph ≤ n → FitPlace pl → FitPhase (isCommand pl) ph
+pub turned-good : (n : ℕ) (pl : CallSite) (ph : Phase) (b : ℕ) (x : Turn) → GoodTurn (siteOf pl) (loadCall ph) x → base pl + loadCall ph ≤ n → FitPlace pl → FitPhase (siteOf pl) ph
     → Good n (turned pl ph b x)
 unfolding turned load Fit costText
 turned-good n pl ph b (into q) (onward l f) h d e = fine {st = calling pl q} (omega arith) (d, f)
@@ -309,7 +299,7 @@ joins-top m ps b e = rw e refl
 module _ (n b : ℕ) (g : Byte b) (f : Front) where
   text-good : (ps : List Action) → eqb b 47 ≡ false → cost (f .pieces) + 4 + costActions ps ≤ n
       → (among textSigns b ≡ false → cost (f .pieces) + 4 + costActions ps + length (byte (needsText (topMark ps) b) b) ≤ suc n) → Done f ps → Good n (replacementFresh f ps b)
-  unfolding replacementFresh load Fit Done figures withMark slackMark costCalls gapMark
+  unfolding replacementFresh load Fit Done figures withMark slackMark costBody costCalls gapMark
   text-good ps s h k d =
       either (λ e. fine (omega arith) (d, tt))
       (λ q. either (λ e. fault tt)
@@ -334,23 +324,11 @@ tag-good n (some k) f ps h d =
 
 -- COMMANDS
 
-last-good : (n : ℕ) (f : Front) (ps : List Action) (cs : List Call) → cost (f .pieces) + 5 + costActions ps + costCalls cs ≤ n → Done f ps → FormedCommands (tags (f .pieces)) cs
-    → Good n (done (record { pattern = reverse (f .pieces); symbol = f .symbol; replacement = reverse ps; commands = reverse cs }))
-unfolding Done shortest spelled
-last-good n f ps cs h d c =
-    whole {m = record { pattern = reverse (f .pieces); symbol = f .symbol; replacement = reverse ps; commands = reverse cs }}
-    (record {
-      pattern = rw (reverse-reverse (f .pieces)) (d .0);
-      replacement = rw (reverse-reverse (f .pieces)) (replacement-onto (tags (f .pieces)) ps [] (d .1) tt);
-      commands = rw (reverse-reverse (f .pieces)) (commands-onto (tags (f .pieces)) cs [] c tt);
-    })
-    (simp length-append (omega (arith, pieces-cost (f .pieces), actions-cost ps, calls-cost cs)))
-
-commands-fresh : (n b : ℕ) (f : Front) (ps : List Action) (cs : List Call) → cost (f .pieces) + 5 + costActions ps + costCalls cs ≤ n → Done f ps → FormedCommands (tags (f .pieces)) cs
+commands-fresh : (n b : ℕ) (f : Front) (ps : List Action) (cs : List Call) → costBody f ps cs ≤ n → Done f ps → FormedCommands (tags (f .pieces)) cs
     → Good n (commandsFresh f ps cs b)
 unfolding commandsFresh load Fit gapMark
 commands-fresh n b f ps cs h d c =
-    either (λ e. last-good n f ps cs h d c)
+    either (λ e. whole h d c)
     (λ e. either (λ k. fault tt)
     (λ k. either (λ e. fine (omega arith) (d, c)) (λ k. either (λ e. fine (omega arith) (d, c)) (λ e. fine (omega arith) (d, c)))))
 
@@ -360,3 +338,34 @@ unfolding commandsByte load Fit gapMark base loadCall FitPlace FitPhase
 commands-good n b none f ps cs h d c = commands-fresh n b f ps cs (omega arith) d c
 commands-good n b (some m) f ps cs h d c =
     either (λ e. fine (omega arith) ((d, c), tt)) (λ e. commands-fresh n b f ps cs (omega arith) d c)
+
+-- CALLS BEFORE A PATTERN
+
+calls-fresh : (n b : ℕ) (cs : List Call) → costCalls cs ≤ n → FormedCommands 0 cs → Good n (callsFresh cs b)
+unfolding callsFresh load Fit gapMark
+calls-fresh n b cs h c =
+    either (λ e. opening h c)
+    (λ e. either (λ k. fault tt)
+    (λ k. either (λ e. fine (omega arith) c) (λ k. either (λ e. fine (omega arith) c) (λ e. fine (omega arith) c))))
+
+pub calls-good : (n b : ℕ) (a : Option Mark) (cs : List Call) → load (calls a cs) ≤ n → FormedCommands 0 cs → Good n (callsByte a cs b)
+unfolding callsByte load Fit gapMark base loadCall FitPlace FitPhase
+calls-good n b none cs h c = calls-fresh n b cs (omega arith) c
+calls-good n b (some m) cs h c = either (λ e. fine (omega arith) (c, tt)) (λ e. calls-fresh n b cs (omega arith) c)
+
+-- A WHOLE MACRO, of parts that stand newest first
+
+module _ (ds : List Call) (f : Front) (ps : List Action) (cs : List Call) where
+  pub macro-formed : FormedCommands 0 ds → Done f ps → FormedCommands (tags (f .pieces)) cs → Formed (macroOf ds f ps cs)
+  unfolding macroOf Done
+  macro-formed b d c =
+      record {
+        before = commands-onto 0 ds [] b tt;
+        pattern = rw (reverse-reverse (f .pieces)) (d .0);
+        replacement = rw (reverse-reverse (f .pieces)) (replacement-onto (tags (f .pieces)) ps [] (d .1) tt);
+        commands = rw (reverse-reverse (f .pieces)) (commands-onto (tags (f .pieces)) cs [] c tt);
+      }
+
+  pub macro-cost : length (shortest (macroOf ds f ps cs)) ≡ costCalls ds + suc (costBody f ps cs)
+  unfolding macroOf shortest costBody
+  macro-cost = simp length-append (omega (arith, calls-cost ds, pieces-cost (f .pieces), actions-cost ps, calls-cost cs))

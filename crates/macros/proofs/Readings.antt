@@ -36,6 +36,21 @@ one-end (next {st′ = x} f e r) (next {st′ = y} g h q) =
     let z : y ≡ x = cc in
     one-end r (rw z at q)
 
+-- bytes that are read up to one that does not go on: they end in one part, and the same stands behind
+pub one-stop : {st t u : Part} {v w : List ℕ} (b c : ℕ) (x z : List ℕ) → Reads st v t → Reads st w u
+    → ((s : Part) → partByte t b ≡ on s → ⊥) → ((s : Part) → partByte u c ≡ on s → ⊥) → v ++ (b ∷ x) ≡ w ++ (c ∷ z) → (t ≡ u) × (x ≡ z)
+one-stop b c x z stay stay j k e = (refl, cc)
+one-stop b c x z stay (next {st′ = s} {b = d} f g q) j k e =
+    let y : b ≡ d = cc in
+    absurd (j s (rw y g))
+one-stop b c x z (next {st′ = s} {b = d} f g r) stay j k e =
+    let y : c ≡ d = cc in
+    absurd (k s (rw y g))
+one-stop b c x z (next {st′ = s} {b = d} {w = v} f g r) (next {st′ = s′} {b = d′} {w = w} h i q) j k e =
+    let y : d ≡ d′ = cc in
+    let a : s′ ≡ s = cc in
+    one-stop b c x z r (rw a at q) j k cc
+
 -- the pieces, when nothing joins the newest any more
 unfoldable pub settled : Joinable → List Piece → List Piece
 settled nothing ps = ps

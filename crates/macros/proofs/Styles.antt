@@ -91,11 +91,12 @@ unfoldable pub replacementBytes : Style → Option Mark → List Action → List
 replacementBytes y a [] = []
 replacementBytes y a (x ∷ xs) = actionBytes y a x ++ replacementBytes y (actionLeaves y x) xs
 
--- a macro from its first quote to its `;`
+-- a macro from its first quote, or the calls before it, to its `;`
 unfoldable pub spelled : Style → Macro → List ℕ
 spelled y m =
-    39 ∷ (patternBytes y nothing (m .pattern)
-    ++ (39 ∷ symbolSign (m .symbol) ∷ 39 ∷ (replacementBytes y none (m .replacement) ++ (39 ∷ (commandsBytes (textBytes y) (m .commands) ++ (59 ∷ []))))))
+    commandsBytes (textBytes y) (m .before)
+    ++ (39 ∷ (patternBytes y nothing (m .pattern)
+    ++ (39 ∷ symbolSign (m .symbol) ∷ 39 ∷ (replacementBytes y none (m .replacement) ++ (39 ∷ (commandsBytes (textBytes y) (m .commands) ++ (59 ∷ [])))))))
 
 -- as few as can be, and as many as writing out puts
 unfoldable pub bare : Style
@@ -205,4 +206,4 @@ commands-bare (c ∷ cs) = rw (call-bare c, commands-bare cs)
 
 pub shortest-bare : (m : Macro) → shortest m ≡ spelled bare m
 unfolding shortest spelled
-shortest-bare m = rw (pattern-bare nothing (m .pattern), replacement-bare none (m .replacement), commands-bare (m .commands))
+shortest-bare m = rw (pattern-bare nothing (m .pattern), replacement-bare none (m .replacement), commands-bare (m .commands), commands-bare (m .before))

@@ -153,7 +153,7 @@ module _ (y : Style) where
 
   pub whole-spelled : (m : Macro) → Formed m → Bytes (spelled y m)
   unfolding spelled symbolSign
-  whole-spelled m g = (
+  whole-spelled m g = whole-append (commandsBytes (textBytes y) (m .before)) _ (whole-commands 0 (m .before) (g .before)) (
     omega arith,
     whole-append (patternBytes y nothing (m .pattern)) _ (whole-pattern (m .pattern) [] nothing (g .pattern .pieces)) (
       omega arith,

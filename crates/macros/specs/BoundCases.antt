@@ -67,3 +67,15 @@ pub bounds :
     (shown (readFile (bytes "'" ++ (replicate 100 123 ++ bytes "a'"))) ≡ (15, 100))
 unfolding everything
 bounds = (refl, refl, refl, refl, refl, refl, refl, refl, refl, refl, refl, refl, refl)
+
+-- 02, N2: 19 at the `&` or `#` of the first call, once its `(` is seen, whatever stands behind
+pub callBounds :
+    (shown (readFile (times 96 little ++ bytes " #(v=1)'a'='b';")) ≡ (19, 769)) ×
+    (shown (readFile (times 96 little ++ bytes "&(")) ≡ (19, 768)) ×
+    (shown (readFile (times 96 little ++ bytes "&#/;;/(1")) ≡ (19, 769)) ×
+    (shown (readFile (times 96 little ++ (bytes "&/" ++ (replicate 600 120 ++ bytes "/(")))) ≡ (19, 768)) ×
+    (shown (readFile (times 96 little ++ bytes "& # &/x/")) ≡ (0, 96)) ×
+    (shown (readFile (times 95 little ++ bytes "#(v=1)'a'='b';")) ≡ (0, 96)) ×
+    (shown (elim (readFile (times 96 little)) [ table ms ↦ readOnto ms (bytes " #(v=1)") | refusedAt r p ↦ refusedAt r p ]) ≡ (19, 1))
+unfolding everything
+callBounds = (refl, refl, refl, refl, refl, refl, refl)

@@ -9,7 +9,7 @@ mostFileBytes = 32768
 abbrev pub mostMacros : ℕ
 mostMacros = 96
 
--- the bytes from a macro's first quote to its `;`, both counted
+-- the bytes from a macro's first quote to its `;`, both counted; by N2 of 02 from the `&` or `#` of the first call before its pattern
 abbrev pub mostMacroBytes : ℕ
 mostMacroBytes = 512
 

@@ -13,9 +13,10 @@ use Rattle.macros.specs.Formed.{limit, numberFits}
 use Rattle.macros.specs.Refusals.{hostNumber, lineNumber, fileNumber, workNumber, number, place}
 use Rattle.macros.specs.Read.{Read, breaks, escaped, signs, kindDigit, hold, patternEnd, sign, fresh, closes, patternByte}
 use Rattle.macros.specs.Read.{newMember, membersAtEnd, classEnd, dashes, dashed, membersByte, openedByte, otherwise, andDigit, isSign}
-use Rattle.macros.specs.Read.{signOf, isStill, numberEnd, callByte, isCommand, frontOf, behindCall, turned, textByte, tagEnd, tagByte}
-use Rattle.macros.specs.Read.{replacementFresh, replacementByte, symbolByte, quoteByte, commandsFresh, commandsByte, partByte}
-use Rattle.macros.specs.Read.{skips, count, taken, step, atEnd, readFrom, firstZero, readOnto, readFile}
+use Rattle.macros.specs.Read.{signOf, isStill, numberEnd, mayInsert, mayStoreTag, callByte, siteOf, piecesOf, behindCall, turned}
+use Rattle.macros.specs.Read.{textByte, tagEnd, tagByte, replacementFresh, replacementByte, callsFresh, callsByte, symbolByte}
+use Rattle.macros.specs.Read.{quoteByte, commandsFresh, commandsByte, partByte, skips, count, macroOf, taken, outsideFresh, firstCall}
+use Rattle.macros.specs.Read.{outside, further, step, atEnd, readFrom, firstZero, readOnto, readFile}
 use Rattle.macros.specs.Write.{Written, patternMarks, classMarks, textMarks, escapeByte, byte, digitsBy, digits, writeMember}
 use Rattle.macros.specs.Write.{writeMembers, writeUnit, closureBytes, writePiece, writePattern, signByte, nameBytes, writeText}
 use Rattle.macros.specs.Write.{markOf, innerBytes, callBytes, writeAction, writeReplacement, commandsBytes, symbolSign, written}
@@ -48,17 +49,18 @@ opensClass = 0
 
 -- opens ReadCalls
 unfoldable pub opensCalls : ℕ
-unfolding otherwise andDigit isSign signOf isStill numberEnd callByte isCommand frontOf behindCall turned textByte
+unfolding otherwise andDigit isSign signOf isStill numberEnd mayInsert mayStoreTag callByte siteOf piecesOf behindCall turned textByte
 opensCalls = 0
 
 -- opens ReadReplacement and ReadParts
 unfoldable pub opensParts : ℕ
-unfolding tagEnd tagByte replacementFresh replacementByte symbolByte quoteByte commandsFresh commandsByte partByte skips
+unfolding tagEnd tagByte replacementFresh replacementByte callsFresh callsByte symbolByte quoteByte commandsFresh commandsByte partByte
+    skips
 opensParts = 0
 
 -- opens ReadFile
 unfoldable pub opensFile : ℕ
-unfolding count taken step atEnd readFrom firstZero readOnto readFile
+unfolding count macroOf taken outsideFresh firstCall outside further step atEnd readFrom firstZero readOnto readFile
 opensFile = 0
 
 -- opens Write: marks and numbers

@@ -90,7 +90,7 @@ Named (storeText i v t) = Letter i × Bytes t × (length t ≤ mostEntryBytes)
 Named (setIncrement i n) = Letter i
 Named (divide i n) = Letter i
 
--- a call is well formed behind a pattern of k tags
+-- a call is well formed where k tags may be named
 pub record FormedCall (k : ℕ) (c : Call) : Type 0 where
   pub names : Named c
   pub numbers : numberFits k c ≡ true
@@ -120,8 +120,9 @@ abbrev pub FormedCommands : ℕ → List Call → Type 0
 FormedCommands k [] = Unit {0}
 FormedCommands k (c ∷ cs) = (Commands c × FormedCall k c) × FormedCommands k cs
 
--- a macro is well formed
+-- a macro is well formed; 02, N2: the calls before its pattern are commands, and there is no tag that they could store
 pub record Formed (m : Macro) : Type 0 where
+  pub before : FormedCommands 0 (m .before)
   pub pattern : FormedPattern (reverse (m .pattern))
   pub replacement : FormedReplacement (tags (reverse (m .pattern))) (m .replacement)
   pub commands : FormedCommands (tags (reverse (m .pattern))) (m .commands)

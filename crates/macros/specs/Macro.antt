@@ -63,7 +63,9 @@ pub data Action : Type 0 where
 pub data Symbol : Type 0 where
   equal less : Symbol
 
+-- before: the calls before its pattern (02, N2)
 pub record Macro : Type 0 where
+  pub before : List Call
   pub pattern : List Piece
   pub symbol : Symbol
   pub replacement : List Action

@@ -1,6 +1,6 @@
--- 01, part 2: reading a call of a replacement or a command, behind `&(` or `#(`.
+-- 01, part 2, and N2 of 02: reading a call before a pattern, in a replacement or as a command, behind `&(` or `#(`.
 use Prim.Native.Nat.{ℕ, _+_, _-_, _*_}
-use mathlib.Core.Bool.{Bool, true, false, not, _&&_, _||_}
+use mathlib.Core.Bool.{Bool, true, false, _&&_, _||_}
 use mathlib.Core.List.{List, [], _∷_, reverse}
 use mathlib.Core.Option.{Option, none, some}
 use lib.Dec.{ltb, eqb}
@@ -9,17 +9,18 @@ use Prim.Native.Char.{code}
 use Rattle.macros.specs.Quoted.{_is_}
 use Rattle.macros.specs.Bounds.{mostEntryBytes}
 use Rattle.macros.specs.Refusals.FileRefusal.{incomplete, badCall}
-use Rattle.macros.specs.Macro.{Mark, Sign, Move, Call, pick, asciiLower, digit, tags}
+use Rattle.macros.specs.Macro.{Mark, Piece, Sign, Move, Call, pick, asciiLower, digit, tags}
 use Rattle.macros.specs.Macro.Mark.{stack, counter}
 use Rattle.macros.specs.Macro.Sign.{plus, minus}
 use Rattle.macros.specs.Macro.Move.{still, before, after}
 use Rattle.macros.specs.Macro.Call.{insert, storeTag, setTo, storeText, setIncrement, divide}
 use Rattle.macros.specs.Macro.Action.{call}
 use Rattle.macros.specs.Formed.{numberFits}
-use Rattle.macros.specs.ReadSoFar.{Front, CallSite, Phase, Part, Step, breaks}
-use Rattle.macros.specs.ReadSoFar.CallSite.{inReplacement, asCommand}
+use Rattle.macros.specs.ReadSoFar.{Front, Site, CallSite, Phase, Part, Step, breaks}
+use Rattle.macros.specs.ReadSoFar.Site.{beforePattern, inReplacement, asCommand}
+use Rattle.macros.specs.ReadSoFar.CallSite.{callsSoFar, replacementSoFar, commandsSoFar}
 use Rattle.macros.specs.ReadSoFar.Phase.{begun, signed, named, equals, increment, divisor, tagged, comma, tagSigned, tagNamed, texted}
-use Rattle.macros.specs.ReadSoFar.Part.{replacement, calling, callText, callTextEscape, commands}
+use Rattle.macros.specs.ReadSoFar.Part.{calls, replacement, calling, callText, callTextEscape, commands}
 use Rattle.macros.specs.ReadSoFar.Step.{on, stop}
 
 -- "Spaces in calls are ignored"; else 12 in an open call, or 16 at the first byte that cannot be
@@ -57,72 +58,88 @@ unfoldable pub numberEnd : (ℕ → Call) → Option ℕ → Turn
 numberEnd c none = wrong
 numberEnd c (some n) = closed (c n)
 
--- a byte of `&(i)`, `&(n,i)`, `&(i=n)`, `&(i:text:)`, `#(i)`, `#(i=n)`, `#(i,n)`, with signs where 01 has them, or of 02's `#(i:n)`;
--- cmd: as a command. A command has no `)` behind the letter, and no sign or `:` in a counter's call
-unfoldable pub callByte : (cmd : Bool) → Phase → ℕ → Turn
--- behind `&(` here may stand a digit, a sign or a letter
-callByte cmd (begun stack) b =
-    pick (digit b) (into (tagged (b - code "0")))
+-- whether a call may insert: "As commands, all but `&(i)` and `#(i)` forms."; 02, N7, of `#(i:n)`: "It may stand in a replacement only";
+-- 02, N2: "`&(` or `#(` before a pattern begins a command"
+unfoldable pub mayInsert : Site → Bool
+mayInsert beforePattern = false
+mayInsert inReplacement = true
+mayInsert asCommand = false
+
+-- whether a call may store a tag; 02, N2: "Storing a tag is refused there with 16, at the number's first digit"
+unfoldable pub mayStoreTag : Site → Bool
+mayStoreTag beforePattern = false
+mayStoreTag inReplacement = true
+mayStoreTag asCommand = true
+
+-- a byte of `&(i)`, `&(n,i)`, `&(i=n)`, `&(i:text:)`, `#(i)`, `#(i=n)`, `#(i,n)`, with signs where 01 has them, or of 02's `#(i:n)`.
+-- A call that may not insert has no `)` behind the letter, and no sign or `:` in a counter's call
+unfoldable pub callByte : Site → Phase → ℕ → Turn
+-- behind `&(` here may stand a digit (not in a call before a pattern), a sign or a letter
+callByte si (begun stack) b =
+    pick (digit b && mayStoreTag si) (into (tagged (b - code "0")))
     (pick (isSign b) (into (signed stack (signOf b))) (pick (asciiLower b) (into (named stack b still)) wrong))
--- behind `#(` here may stand a sign, but not in a command, or a letter
-callByte cmd (begun counter) b =
-    pick (isSign b && not cmd) (into (signed counter (signOf b))) (pick (asciiLower b) (into (named counter b still)) wrong)
+-- behind `#(` here may stand a sign, if it may insert, or a letter
+callByte si (begun counter) b =
+    pick (isSign b && mayInsert si) (into (signed counter (signOf b))) (pick (asciiLower b) (into (named counter b still)) wrong)
 -- behind a sign here may stand a letter
-callByte cmd (signed m s) b = pick (asciiLower b) (into (named m b (before s))) wrong
--- behind `&(i` here may stand `)`, but not in a command, or `:`; without a sign also `=` or a sign
-callByte cmd (named stack i v) b =
-    pick (b is ")" && not cmd) (closed (insert stack i v))
+callByte si (signed m s) b = pick (asciiLower b) (into (named m b (before s))) wrong
+-- behind `&(i` here may stand `)`, if it may insert, or `:`; without a sign also `=` or a sign
+callByte si (named stack i v) b =
+    pick (b is ")" && mayInsert si) (closed (insert stack i v))
     (pick (b is ":") (textOf i v)
     (pick (b is "=" && isStill v) (into (equals stack i none))
     (pick (isSign b && isStill v) (into (named stack i (after (signOf b)))) wrong)))
--- behind `#(i` here may stand `)`, but not in a command; without a sign also `,`, `=` or, but not in a command, `:` or a sign
-callByte cmd (named counter i v) b =
-    pick (b is ")" && not cmd) (closed (insert counter i v))
+-- behind `#(i` here may stand `)`, if it may insert; without a sign also `,`, `=` or, if it may insert, `:` or a sign
+callByte si (named counter i v) b =
+    pick (b is ")" && mayInsert si) (closed (insert counter i v))
     (pick (b is "," && isStill v) (into (increment i none))
     (pick (b is "=" && isStill v) (into (equals counter i none))
-    (pick (b is ":" && (isStill v && not cmd)) (into (divisor i none))
-    (pick (isSign b && (isStill v && not cmd)) (into (named counter i (after (signOf b)))) wrong))))
+    (pick (b is ":" && (isStill v && mayInsert si)) (into (divisor i none))
+    (pick (isSign b && (isStill v && mayInsert si)) (into (named counter i (after (signOf b)))) wrong))))
 -- behind `i=` here may stand a digit or, behind one, `)`
-callByte cmd (equals m i o) b =
+callByte si (equals m i o) b =
     pick (digit b) (into (equals m i (some (andDigit o b)))) (pick (b is ")") (numberEnd (setTo m i) o) wrong)
 -- behind `#(i,` here may stand a digit or, behind one, `)`
-callByte cmd (increment i o) b =
+callByte si (increment i o) b =
     pick (digit b) (into (increment i (some (andDigit o b)))) (pick (b is ")") (numberEnd (setIncrement i) o) wrong)
 -- behind `#(i:` here may stand a digit or, behind one, `)`
-callByte cmd (divisor i o) b =
+callByte si (divisor i o) b =
     pick (digit b) (into (divisor i (some (andDigit o b)))) (pick (b is ")") (numberEnd (divide i) o) wrong)
 -- behind `&(n` here may stand a digit or `,`
-callByte cmd (tagged n) b = pick (digit b) (into (tagged (andDigit (some n) b))) (pick (b is ",") (into (comma n)) wrong)
+callByte si (tagged n) b = pick (digit b) (into (tagged (andDigit (some n) b))) (pick (b is ",") (into (comma n)) wrong)
 -- behind `&(n,` here may stand a sign or a letter
-callByte cmd (comma n) b = pick (isSign b) (into (tagSigned n (signOf b))) (pick (asciiLower b) (into (tagNamed n b still)) wrong)
+callByte si (comma n) b = pick (isSign b) (into (tagSigned n (signOf b))) (pick (asciiLower b) (into (tagNamed n b still)) wrong)
 -- behind `&(n,` and a sign here may stand a letter
-callByte cmd (tagSigned n s) b = pick (asciiLower b) (into (tagNamed n b (before s))) wrong
+callByte si (tagSigned n s) b = pick (asciiLower b) (into (tagNamed n b (before s))) wrong
 -- behind `&(n,i` here may stand `)` or, without a sign, a sign
-callByte cmd (tagNamed n i v) b =
+callByte si (tagNamed n i v) b =
     pick (b is ")") (closed (storeTag n i v)) (pick (isSign b && isStill v) (into (tagNamed n i (after (signOf b)))) wrong)
 -- behind `&(i:text:` here may stand `)`
-callByte cmd (texted i v t) b = pick (b is ")") (closed (storeText i v (reverse t))) wrong
+callByte si (texted i v t) b = pick (b is ")") (closed (storeText i v (reverse t))) wrong
 
--- whether a call is a command
-unfoldable pub isCommand : CallSite → Bool
-isCommand (inReplacement f as₁) = false
-isCommand (asCommand f as₁ cs) = true
+-- where a call stands
+unfoldable pub siteOf : CallSite → Site
+siteOf (callsSoFar cs) = beforePattern
+siteOf (replacementSoFar f as₁) = inReplacement
+siteOf (commandsSoFar f as₁ cs) = asCommand
 
--- the pattern and symbol of a call's macro
-unfoldable pub frontOf : CallSite → Front
-frontOf (inReplacement f as₁) = f
-frontOf (asCommand f as₁ cs) = f
+-- the pieces of the pattern that stands before a call
+unfoldable pub piecesOf : CallSite → List Piece
+piecesOf (callsSoFar cs) = []
+piecesOf (replacementSoFar f as₁) = f .pieces
+piecesOf (commandsSoFar f as₁ cs) = f .pieces
 
 -- behind a call
 unfoldable pub behindCall : CallSite → Call → Part
-behindCall (inReplacement f as₁) c = replacement none f (call c ∷ as₁)
-behindCall (asCommand f as₁ cs) c = commands none f as₁ (c ∷ cs)
+behindCall (callsSoFar cs) c = calls none (c ∷ cs)
+behindCall (replacementSoFar f as₁) c = replacement none f (call c ∷ as₁)
+behindCall (commandsSoFar f as₁ cs) c = commands none f as₁ (c ∷ cs)
 
 -- what a byte of a call comes to: 16 at the `)` if a number is out of range
 unfoldable pub turned : CallSite → Phase → ℕ → Turn → Step
 turned pl ph b (into ph′) = on (calling pl ph′)
 turned pl ph b (textOf i v) = on (callText pl i v [])
-turned pl ph b (closed c) = pick (numberFits (tags (frontOf pl .pieces)) c) (on (behindCall pl c)) (stop badCall)
+turned pl ph b (closed c) = pick (numberFits (tags (piecesOf pl)) c) (on (behindCall pl c)) (stop badCall)
 turned pl ph b wrong = otherwise (calling pl ph) b
 
 -- "`&(i:text:)` stores text, at most 50 bytes, ended by the first `:` without `\`";

@@ -1,7 +1,7 @@
 -- What is promised of reading onto a table (01, 19: "the 97th macro's first quote, those of the table counted
--- with those that `$MACRO` reads").
--- OntoIsAppending rules out the edit older_lost (the older macros are lost), and is false with sum_alone
--- (the file's macros alone are counted) and sum_97 (19 a macro late).
+-- with those that `$MACRO` reads"; 02, N2: the first call's `&` or `#`, where it has one).
+-- OntoIsAppending rules out the edits older_lost (the older macros are lost) and calls_19 (19 at the `(` of a first call), and is false
+-- with sum_alone (the file's macros alone are counted) and sum_97 (19 a macro late).
 use Prim.Native.Nat.{ℕ, _+_, _≤_}
 use mathlib.Core.Path.{_≡_}
 use mathlib.Core.List.{List, [], _∷_, _++_}
@@ -12,14 +12,18 @@ use Rattle.macros.specs.Refusals.FileRefusal.{tooManyMacros}
 use Rattle.macros.specs.Macro.{Table}
 use Rattle.macros.specs.Read.{readFile, readOnto}
 use Rattle.macros.specs.ReadFile.Read.{refusedAt, table}
+use Rattle.macros.specs.Begins.{Opening}
 use Rattle.macros.specs.FirstFault.{Plain}
 
--- the macro number j + 1 of a file, counted from 1, begins at place p: the bytes before are a file of j macros, and a quote follows
+-- the macro number j + 1 of a file, counted from 1, begins at place p: the bytes before are a file of j macros, and a quote follows, or the
+-- `&(` or `#(` of a call before a pattern (02, N2)
 pub record Begins (s : List ℕ) (j p : ℕ) : Type 0 where
   pub before : List ℕ
+  pub opening : List ℕ
   pub rest : List ℕ
   pub macros : Table
-  pub stands : s ≡ before ++ (39 ∷ rest)
+  pub stands : s ≡ before ++ (opening ++ rest)
+  pub opens : Opening opening
   pub place : p ≡ length before
   pub read : readFile before ≡ table macros
   pub count : length macros ≡ j

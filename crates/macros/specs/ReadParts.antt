@@ -2,27 +2,39 @@
 -- "Outside quotes each of these is looked for in turn .. other text is ignored, but a `'` or `;` out of turn is 12."
 use Prim.Native.Nat.{ℕ}
 use mathlib.Core.Bool.{Bool, true, false, _||_}
-use mathlib.Core.List.{List, [], _∷_, reverse}
+use mathlib.Core.List.{List, [], _∷_}
 use mathlib.Core.Option.{Option, none, some}
 use Rattle.macros.specs.Quoted.{_is_}
 use Rattle.macros.specs.Refusals.FileRefusal.{incomplete}
-use Rattle.macros.specs.Macro.{Mark, Piece, Call, Action, Macro, pick, asciiLower}
+use Rattle.macros.specs.Macro.{Mark, Piece, Call, Action, pick, asciiLower}
 use Rattle.macros.specs.Macro.Mark.{stack, counter}
 use Rattle.macros.specs.Macro.PatternUnit.{literal, callOf}
 use Rattle.macros.specs.Macro.Action.{text}
 use Rattle.macros.specs.Macro.Symbol.{equal, less}
 use Rattle.macros.specs.ReadSoFar.{Front, Part, Step, escaped}
 use Rattle.macros.specs.ReadSoFar.Joinable.{unit}
-use Rattle.macros.specs.ReadSoFar.CallSite.{asCommand}
+use Rattle.macros.specs.ReadSoFar.CallSite.{callsSoFar, commandsSoFar}
 use Rattle.macros.specs.ReadSoFar.Phase.{begun}
 use Rattle.macros.specs.ReadSoFar.Part.{pattern, patternEscape, opened, members, membersEscape, patternCall, patternCalled}
-use Rattle.macros.specs.ReadSoFar.Part.{awaitSymbol, awaitQuote}
+use Rattle.macros.specs.ReadSoFar.Part.{calls, awaitSymbol, awaitQuote}
 use Rattle.macros.specs.ReadSoFar.Part.{replacement, replacementEscape, tagNumber, calling, callText, callTextEscape, commands}
-use Rattle.macros.specs.ReadSoFar.Step.{on, done, stop}
-use Rattle.macros.specs.ReadCalls.{otherwise, callByte, isCommand, turned, textByte}
+use Rattle.macros.specs.ReadSoFar.Step.{on, opens, done, stop}
+use Rattle.macros.specs.ReadCalls.{otherwise, callByte, siteOf, turned, textByte}
 use Rattle.macros.specs.ReadReplacement.{tagByte, replacementByte}
 use Rattle.macros.specs.ReadClass.{newMember, membersByte, openedByte}
 use Rattle.macros.specs.ReadPattern.{patternByte}
+
+-- 02, N2: behind a call before a pattern a quote opens that, `&` or `#` may begin another call, "`;` .. is 12", other text is ignored
+unfoldable pub callsFresh : List Call → ℕ → Step
+callsFresh cs b =
+    pick (b is "'") (opens cs)
+    (pick (b is ";") (stop incomplete)
+    (pick (b is "&") (on (calls (some stack) cs)) (pick (b is "#") (on (calls (some counter) cs)) (on (calls none cs)))))
+
+-- "`&(` or `#(` before a pattern begins a command"
+unfoldable pub callsByte : Option Mark → List Call → ℕ → Step
+callsByte none cs b = callsFresh cs b
+callsByte (some m) cs b = pick (b is "(") (on (calling (callsSoFar cs) (begun m))) (callsFresh cs b)
 
 -- before the symbol
 unfoldable pub symbolByte : List Piece → ℕ → Step
@@ -38,7 +50,7 @@ quoteByte f b = pick (b is "'") (on (replacement none f [])) (pick (b is ";") (s
 -- among the commands: `;` ends the macro, `&` or `#` may begin a call
 unfoldable pub commandsFresh : Front → List Action → List Call → ℕ → Step
 commandsFresh f as₁ cs b =
-    pick (b is ";") (done (record { pattern = reverse (f .pieces); symbol = f .symbol; replacement = reverse as₁; commands = reverse cs }))
+    pick (b is ";") (done f as₁ cs)
     (pick (b is "'") (stop incomplete)
     (pick (b is "&") (on (commands (some stack) f as₁ cs))
     (pick (b is "#") (on (commands (some counter) f as₁ cs)) (on (commands none f as₁ cs)))))
@@ -46,10 +58,11 @@ commandsFresh f as₁ cs b =
 -- "a command by its `&(` or `#(`"
 unfoldable pub commandsByte : Option Mark → Front → List Action → List Call → ℕ → Step
 commandsByte none f as₁ cs b = commandsFresh f as₁ cs b
-commandsByte (some m) f as₁ cs b = pick (b is "(") (on (calling (asCommand f as₁ cs) (begun m))) (commandsFresh f as₁ cs b)
+commandsByte (some m) f as₁ cs b = pick (b is "(") (on (calling (commandsSoFar f as₁ cs) (begun m))) (commandsFresh f as₁ cs b)
 
 -- one byte of a macro's open part
 unfoldable pub partByte : Part → ℕ → Step
+partByte (calls a cs) b = callsByte a cs b
 partByte (pattern h ps) b = patternByte h ps b
 partByte (patternEscape ps) b = on (pattern (unit (literal (escaped b))) ps)
 partByte (opened ps) b = openedByte ps b
@@ -62,13 +75,14 @@ partByte (awaitQuote f) b = quoteByte f b
 partByte (replacement a f as₁) b = replacementByte a f as₁ b
 partByte (replacementEscape f as₁) b = on (replacement none f (text (escaped b) ∷ as₁))
 partByte (tagNumber n f as₁) b = tagByte n f as₁ b
-partByte (calling pl ph) b = turned pl ph b (callByte (isCommand pl) ph b)
+partByte (calling pl ph) b = turned pl ph b (callByte (siteOf pl) ph b)
 partByte (callText pl i v t) b = textByte pl i v t b
 partByte (callTextEscape pl i v t) b = on (callText pl i v (escaped b ∷ t))
 partByte (commands a f as₁ cs) b = commandsByte a f as₁ cs b
 
 -- "`/` skips to the next `/`, everywhere but in a class"; behind `\` it is literal
 unfoldable pub skips : Part → Bool
+skips (calls a cs) = true
 skips (pattern h ps) = true
 skips (patternEscape ps) = false
 skips (opened ps) = false

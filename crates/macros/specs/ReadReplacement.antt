@@ -9,7 +9,7 @@ use Rattle.macros.specs.Macro.{Mark, Action, pick, within, digit, markBy
 use Rattle.macros.specs.Macro.Mark.{stack, counter}
 use Rattle.macros.specs.Macro.Action.{text, tag}
 use Rattle.macros.specs.ReadSoFar.{Front, Step, breaks}
-use Rattle.macros.specs.ReadSoFar.CallSite.{inReplacement}
+use Rattle.macros.specs.ReadSoFar.CallSite.{replacementSoFar}
 use Rattle.macros.specs.ReadSoFar.Phase.{begun}
 use Rattle.macros.specs.ReadSoFar.Part.{replacement, replacementEscape, tagNumber, calling, commands}
 use Rattle.macros.specs.ReadSoFar.Step.{on, stop}
@@ -41,4 +41,4 @@ replacementFresh f as₁ b =
 unfoldable pub replacementByte : Option Mark → Front → List Action → ℕ → Step
 replacementByte none f as₁ b = replacementFresh f as₁ b
 replacementByte (some m) f as₁ b =
-    pick (b is "(") (on (calling (inReplacement f as₁) (begun m))) (replacementFresh f (text (markByte m) ∷ as₁) b)
+    pick (b is "(") (on (calling (replacementSoFar f as₁) (begun m))) (replacementFresh f (text (markByte m) ∷ as₁) b)

@@ -6,7 +6,7 @@ use mathlib.Core.Option.{Option}
 use Prim.Native.Char.{code}
 use Rattle.macros.specs.Quoted.{bytes, _is_}
 use Rattle.macros.specs.Refusals.{FileRefusal}
-use Rattle.macros.specs.Macro.{Member, Mark, PatternUnit, Piece, Sign, Move, Call, Action, Symbol, Macro, pick, among}
+use Rattle.macros.specs.Macro.{Member, Mark, PatternUnit, Piece, Sign, Move, Call, Action, Symbol, pick, among}
 
 -- what the next byte may still join: nothing; a unit, by `*`; a `*`, by `-`; a `?`, by a digit; a `&` or `#`, by `(`
 pub data Joinable : Type 0 where
@@ -27,10 +27,15 @@ pub record Front : Type 0 where
   pub pieces : List Piece
   pub symbol : Symbol
 
--- where a call other than a pattern's stands
+-- the three places where a call other than a pattern's may stand
+pub data Site : Type 0 where
+  beforePattern inReplacement asCommand : Site
+
+-- one of them, with what has been read there: the calls, the replacement or the commands so far
 pub data CallSite : Type 0 where
-  inReplacement : Front → List Action → CallSite
-  asCommand : Front → List Action → List Call → CallSite
+  callsSoFar : List Call → CallSite
+  replacementSoFar : Front → List Action → CallSite
+  commandsSoFar : Front → List Action → List Call → CallSite
 
 -- how far a call is, behind `&(` or `#(`
 pub data Phase : Type 0 where
@@ -59,6 +64,8 @@ pub data Phase : Type 0 where
 
 -- the open part of a macro
 pub data Part : Type 0 where
+  -- behind a call before a pattern, with a `&` or `#` that `(` may join
+  calls : Option Mark → List Call → Part
   -- a pattern
   pattern : Joinable → List Piece → Part
   -- behind `\` in a pattern
@@ -83,7 +90,7 @@ pub data Part : Type 0 where
   replacementEscape : Front → List Action → Part
   -- in `{n}`, with the number so far
   tagNumber : Option ℕ → Front → List Action → Part
-  -- in a call of a replacement or a command
+  -- in a call
   calling : CallSite → Phase → Part
   -- in a call's text
   callText : CallSite → ℕ → Move → List ℕ → Part
@@ -92,10 +99,12 @@ pub data Part : Type 0 where
   -- the commands, with a `&` or `#` that `(` may join
   commands : Option Mark → Front → List Action → List Call → Part
 
--- what a byte does in a macro: it goes on, ends the macro, or shows a fault
+-- what a byte does in a macro: it goes on; opens the pattern, behind the calls before it; ends the macro, with all that was read from its
+-- pattern on; or shows a fault
 pub data Step : Type 0 where
   on : Part → Step
-  done : Macro → Step
+  opens : List Call → Step
+  done : Front → List Action → List Call → Step
   stop : FileRefusal → Step
 
 -- "A raw `;` or line feed may not stand there", nor a quote: 12

@@ -28,7 +28,8 @@ songs = refl
 
 -- a file as data: each form of part 2
 pub asData :
-    readFile (bytes "'{^a*}?3*-[~b-dx]*&(s)#(n)$'<'c{1}&(s)&(1,+t)#(n-)#(n:4)'&(s=20)&(t-:uv:)#(n=7)#(n,3);") ≡ table (record {
+    readFile (bytes "&(t+:w:)#(n=2)'{^a*}?3*-[~b-dx]*&(s)#(n)$'<'c{1}&(s)&(1,+t)#(n-)#(n:4)'&(s=20)&(t-:u:)#(n=7)#(n,3);") ≡ table (record {
+      before = storeText 116 (after plus) (119 ∷ []) ∷ setTo counter 110 2 ∷ [];
       pattern =
           left ∷ start ∷ element (literal 97) oneOrMore ∷ right ∷ element (kind 3) zeroOrMore
           ∷ element (class true (range 98 100 ∷ single 120 ∷ [])) oneOrMore
@@ -37,7 +38,7 @@ pub asData :
       replacement =
           text 99 ∷ tag 1 ∷ call (insert stack 115 still) ∷ call (storeTag 1 116 (before plus))
           ∷ call (insert counter 110 (after minus)) ∷ call (divide 110 4) ∷ [];
-      commands = setTo stack 115 20 ∷ storeText 116 (after minus) (117 ∷ 118 ∷ []) ∷ setTo counter 110 7 ∷ setIncrement 110 3 ∷ [];
+      commands = setTo stack 115 20 ∷ storeText 116 (after minus) (117 ∷ []) ∷ setTo counter 110 7 ∷ setIncrement 110 3 ∷ [];
     } ∷ [])
 unfolding everything
 asData = refl
@@ -87,12 +88,12 @@ pub incompleteParts : Hold (
 unfolding everything
 incompleteParts = refl
 
--- before a pattern only `'` and `/` count; an empty file has no macro
+-- before a pattern only `'` and `/` count, and calls (below); an empty file has no macro
 pub beforePattern : Hold (
     ("" is 0 at 0)
     ∷ ("no macro; = < & # \\ {}" is 0 at 0)
     ∷ ("/no macro's/" is 0 at 0)
-    ∷ (";;=<&(a)#[{\\\n'a'='b';" becomes "'a'='b';")
+    ∷ (";;=<& (a)#[{\\\n'a'='b';" becomes "'a'='b';")
     ∷ ("/don't/'a'='b';" becomes "'a'='b';")
     ∷ ("and/or 'a'='b';/'c'='d';" becomes "'c'='d';")
     ∷ ("'a'='b';\n'c'<'d' x;" becomes "'a'='b';\n'c'<'d';") ∷ [])
@@ -138,7 +139,8 @@ pub skipPlaces : Hold (
     ∷ ("'a\\b[~c\\d" skips "///-/-----")
     ∷ ("'{a}'x<x'b\\c{1}&(d:e\\f:)'x&(1,g)h;i" skips "///////////-/////////-//////////////")
     ∷ ("'a'\\=\\'b'\\;" skips "////////////")
-    ∷ ("a/b/'c/d/e" skips "//--///--//") ∷ [])
+    ∷ ("a/b/'c/d/e" skips "//--///--//")
+    ∷ ("&(d:e\\f:)x#'" skips "//////-//////") ∷ [])
 unfolding everything
 skipPlaces = refl
 
@@ -363,6 +365,73 @@ pub divisors : Hold (
 unfolding everything
 divisors = refl
 
+-- 02, N2: "From now on `&(` or `#(` before a pattern begins a command"; before the first call `;` is ignored, and so is other text behind
+-- it, but for `;`, `&(`, `#(` and a quote; `&(` or `#(` between pattern and replacement stays other text
+pub callsBefore : Hold (
+    ("&(a+:x:)&(b=7)#(c=8)#(d,9)'q'='';" becomes "&(a+:x:)&(b=7)#(c=8)#(d,9)'q'='';")
+    ∷ (";x;#(v=1)'a'='b';" becomes "#(v=1)'a'='b';")
+    ∷ ("#(v=1) = < \\ x ) \n : 'a'='b';" becomes "#(v=1)'a'='b';")
+    ∷ ("\\#(v=1)'a'='b';" becomes "#(v=1)'a'='b';")
+    ∷ ("& (s=2)'a'='b';" becomes "'a'='b';")
+    ∷ ("&/x/(s=2)'a'='b';" becomes "&(s=2)'a'='b';")
+    ∷ ("&&#(v=1)##&'a'='b';" becomes "#(v=1)'a'='b';")
+    ∷ ("#(v=1)/;'/'a'='b';" becomes "#(v=1)'a'='b';")
+    ∷ ("#(v=1)& (#/x/ (&(s=2)'a'='b';" becomes "#(v=1)&(s=2)'a'='b';")
+    ∷ ("'q'='';#(v=1)'a'='b';'c'='d';" becomes "'q'='';\n#(v=1)'a'='b';\n'c'='d';")
+    ∷ ("&( s : a\\:b{\t : ) #( v = 0 07 ) 'a'='b';" becomes "&(s: a\\:b\\{\\t :)#(v=7)'a'='b';")
+    ∷ ("&(s:a\\:b{\\t:) #(v=7) 'a'='b';" shortensTo "&(s:a\\:b{\t:)#(v=7)'a'='b';")
+    ∷ ("'a'#(v=1)=&(b)'b';" becomes "'a'='b';")
+    ∷ ("(s=2)'a'='b';" becomes "'a'='b';")
+    ∷ ("/x/(s=2)'a'='b';" becomes "'a'='b';")
+    ∷ ("'a'='b';(s=2)'c'='d';" becomes "'a'='b';\n'c'='d';")
+    ∷ ("#(v=1)(s=2)'a'='b';" becomes "#(v=1)'a'='b';") ∷ [])
+unfolding everything
+callsBefore = refl
+
+-- "`;` or file end between such a call and its pattern is 12"; a call is an open part
+pub incompleteCalls : Hold (
+    ("#(v=1);'a'='b';" is 12 at 6)
+    ∷ ("#(v=1) ;#(w=1)'a'='b';" is 12 at 7)
+    ∷ ("#(v=1)#;'a'='b';" is 12 at 7)
+    ∷ ("'a'='b'; see #(v=1)" is 12 at 19)
+    ∷ (" #(v=1)" is 12 at 7)
+    ∷ ("#(v=1)&" is 12 at 7)
+    ∷ ("#(v=1)/x" is 12 at 8)
+    ∷ ("#(v=1'a'='b';" is 12 at 5)
+    ∷ ("&(s:x;" is 12 at 5)
+    ∷ ("&(s=\n1)'a'='b';" is 12 at 4)
+    ∷ ("&(s" is 12 at 3)
+    ∷ ("&" is 0 at 0)
+    ∷ ("&/x/" is 0 at 0)
+    ∷ ("&/x" is 12 at 3) ∷ [])
+unfolding everything
+incompleteCalls = refl
+
+-- "Storing a tag is refused there with 16, at the number's first digit"; the other calls as those of commands
+pub wrongCallsBefore : Hold (
+    ("&(1,a)'{a}'='b';" is 16 at 2)
+    ∷ ("&( 01,a)'{a}'='b';" is 16 at 3)
+    ∷ ("&(+1,a)'{a}'='b';" is 16 at 3)
+    ∷ ("&(s=2)&(1,a)'{a}'='b';" is 16 at 8)
+    ∷ ("&(b)'a'='b';" is 16 at 3)
+    ∷ ("&(+b)'a'='b';" is 16 at 4)
+    ∷ ("&(b+)'a'='b';" is 16 at 4)
+    ∷ ("#(b)'a'='b';" is 16 at 3)
+    ∷ ("#(b+)'a'='b';" is 16 at 3)
+    ∷ ("#(+b)'a'='b';" is 16 at 2)
+    ∷ ("#(b:4)'a'='b';" is 16 at 3)
+    ∷ ("&(b=0)'a'='b';" is 16 at 5)
+    ∷ ("&(b=21)'a'='b';" is 16 at 6)
+    ∷ ("#(v=1000000000)'a'='b';" is 16 at 14)
+    ∷ ("#(v\\=1)'a'='b';" is 16 at 3)
+    ∷ ("see #(2) 'a'='b';" is 16 at 6)
+    ∷ ("x &(Chorus) 'a'='b';" is 16 at 4)
+    ∷ ("'a'='b';#(b)" is 16 at 11)
+    ∷ (long "&(s:" 50 "x" ":)'a'='b';" 0 1)
+    ∷ (long "&(s:" 51 "x" ":)'a'='b';" 16 54) ∷ [])
+unfolding everything
+wrongCallsBefore = refl
+
 -- spaces in calls are ignored, but not in the text, nor between `&` and `(`; a tab is 16
 pub spaces : Hold (
     ("'&( a )#( a )'='';" becomes "'&(a)#(a)'='';")
@@ -408,3 +477,26 @@ pub byte513 : Hold (
     ∷ (long "'/" 509 "x" "/'" 17 512) ∷ [])
 unfolding everything
 byte513 = refl
+
+-- 02, N2: "The 512 bytes count from the first such call's `&` or `#`", what stands before it not, skips behind it too
+pub byte513Calls : Hold (
+    (long "#(v=1)" 498 "x" "'a'='b';" 0 1)
+    ∷ (long "#(v=1)" 499 "x" "'a'='b';" 18 512)
+    ∷ (long "; x #(v=1)" 499 "x" "'a'='b';" 18 516)
+    ∷ (long "&/" 496 "x" "/(s=2)'a'='b';" 0 1)
+    ∷ (long "&/" 497 "x" "/(s=2)'a'='b';" 18 512)
+    ∷ (long "&/" 508 "x" "/(s=2)'a'='b';" 18 512)
+    ∷ (long "&/" 509 "x" "/(s=2)'a'='b';" 18 512)
+    ∷ (long "&/" 600 "x" "/(s=2)'a'='b';" 18 512)
+    ∷ (long "&/" 600 "x" "/(" 18 512)
+    ∷ (long "&/" 600 "x" "/'a'='b';" 0 1)
+    ∷ (long "&/" 600 "x" "/" 0 0)
+    ∷ (long "#(v=1)" 506 "x" "'a'='b';" 18 512)
+    ∷ (long "#(v=1)" 506 "x" "/y/'a'='b';" 18 512)
+    ∷ (long "#(v=1)" 506 "x" ";" 12 512)
+    ∷ (long "#(v=1)" 507 "x" "" 18 512)
+    ∷ (long "#(v=1)" 506 "x" "" 12 512)
+    ∷ (long "#(v=1)" 501 "x" "&(b=0)'a'='b';" 16 512)
+    ∷ (long "#(v=1)" 502 "x" "&(b=0)'a'='b';" 18 512) ∷ [])
+unfolding everything
+byte513Calls = refl

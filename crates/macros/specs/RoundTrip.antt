@@ -1,6 +1,6 @@
 -- What is promised of writing out (01, part 7).
--- It rules out the edits pattern_mark, class_mark and text_mark (a byte is written without its `\`)
--- and written_513 (a macro of 513 bytes is written).
+-- It rules out the edits pattern_mark, class_mark and text_mark (a byte is written without its `\`), written_513 (a macro of 513 bytes
+-- is written), and of calls before a pattern calls_unwritten (they are not written) and calls_turned (they are read in another order).
 use Prim.Native.Nat.{ℕ, _≤_}
 use mathlib.Core.Path.{_≡_}
 use mathlib.Core.List.{List}

@@ -153,9 +153,10 @@ unfoldable pub spellReplacement : Option Mark → List Action → List ℕ
 spellReplacement a [] = []
 spellReplacement a (x ∷ xs) = spellAction a x ++ spellReplacement (leavesMark x) xs
 
--- the shortest spelling, from the first quote to the `;`
+-- the shortest spelling, from the first byte of the calls before its pattern (02, N2), or else from its quote, to the `;`
 unfoldable pub shortest : Macro → List ℕ
 shortest m =
-    code "'" ∷ (spellPattern nothing (m .pattern)
+    commandsBytes spellText (m .before)
+    ++ (code "'" ∷ (spellPattern nothing (m .pattern)
     ++ (code "'" ∷ symbolSign (m .symbol) ∷ code "'" ∷ (spellReplacement none (m .replacement)
-    ++ (code "'" ∷ (commandsBytes spellText (m .commands) ++ (code ";" ∷ []))))))
+    ++ (code "'" ∷ (commandsBytes spellText (m .commands) ++ (code ";" ∷ [])))))))

@@ -1,7 +1,7 @@
 -- What is promised of the shortest spelling, and so of "each of which some file spells" (01, refusal 1).
 -- Edits of must-fail/ that ShortestReads rules out: star_dash (a `\` too few), dash_lost and class_skips (a class is read otherwise).
 -- NoShorter: needless_mark and needless_brace (a `\` too many).
--- SomeFileSpells and AcceptedMeans: all five, and bound_512 (513 bytes are read).
+-- SomeFileSpells and AcceptedMeans: all five, bound_512 (513 bytes are read) and calls_512 (calls before a pattern do not count).
 use Prim.Native.Nat.{ℕ, _≤_}
 use mathlib.Core.Path.{_≡_}
 use mathlib.Core.List.{List, [], _∷_, _++_}

@@ -146,7 +146,7 @@ unfoldable pub writeReplacement : List Action → List ℕ
 writeReplacement [] = []
 writeReplacement (a ∷ as₁) = writeAction a ++ writeReplacement as₁
 
--- the commands, a text written by w
+-- the commands, or the calls before a pattern, a text written by w
 unfoldable pub commandsBytes : (List ℕ → List ℕ) → List Call → List ℕ
 commandsBytes w [] = []
 commandsBytes w (c ∷ cs) = callBytes w c ++ commandsBytes w cs
@@ -156,12 +156,13 @@ unfoldable pub symbolSign : Symbol → ℕ
 symbolSign equal = code "="
 symbolSign less = code "<"
 
--- a macro from its first quote to its `;`, "without comments or needless spaces"
+-- a macro from its first byte to its `;`, "without comments or needless spaces"; 02, N2: "the written file has the calls there"
 unfoldable pub written : Macro → List ℕ
 written m =
-    code "'" ∷ (writePattern (m .pattern)
+    commandsBytes writeText (m .before)
+    ++ (code "'" ∷ (writePattern (m .pattern)
     ++ (code "'" ∷ symbolSign (m .symbol) ∷ code "'" ∷ (writeReplacement (m .replacement)
-    ++ (code "'" ∷ (commandsBytes writeText (m .commands) ++ (code ";" ∷ []))))))
+    ++ (code "'" ∷ (commandsBytes writeText (m .commands) ++ (code ";" ∷ [])))))))
 
 -- the file, or a refusal with its place
 pub data Written : Type 0 where

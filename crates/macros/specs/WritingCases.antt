@@ -30,7 +30,8 @@ pub forms : Hold (
     ("x'a?/x/3*/y/-{?&*&(b)}[~a-z\\]-]'</and/'{01}&(a=0 9)&( b:x:)\\&(';" becomes "'a?3*-{\\?\\&*&(b)}[~a-z\\]\\-]'<'{1}&(a=9)&(b:x:)\\&(';")
     ∷ ("'{^a#}#(n)*$'='&(+b)&(1,b-)#(n+)'x&(01,b)&#(n,7)&(b-:\\:\\n:)y#(n=3);"
     becomes "'{^a\\#}#(n)*$'='&(+b)&(1,b-)#(n+)'&(1,b)#(n,7)&(b-:\\:\\n:)#(n=3);")
-    ∷ ("'a'='#(n=0100)#(n,123456789)#(n=10)#(n=9)';" becomes "'a'='#(n=100)#(n,123456789)#(n=10)#(n=9)';") ∷ [])
+    ∷ ("'a'='#(n=0100)#(n,123456789)#(n=10)#(n=9)';" becomes "'a'='#(n=100)#(n,123456789)#(n=10)#(n=9)';")
+    ∷ ("x &(b-:\\:\\n:) /y/ #(n=03)z'a'='b'&(b=2);" becomes "&(b-:\\:\\n:)#(n=3)'a'='b'&(b=2);") ∷ [])
 unfolding everything
 forms = refl
 
@@ -65,10 +66,16 @@ line513 = tableOf (readFile (sized 505))
 abbrev pub tooLong : Table
 tooLong = tableOf (readFile (stretched "'a'='" 505 ":" "';"))
 
+-- 02, N2: the same of a macro with a call before its pattern, whose bytes count
+abbrev pub tooLongCalls : Table
+tooLongCalls = tableOf (readFile (stretched "#(v=1)'a'='" 499 ":" "';"))
+
 -- 18 and 10, "whichever comes first (18 if the same)", behind a file that is nearly full
 pub writings :
     (shownWritten (writeOut tooLong) ≡ (18, 512)) ×
     (shownWritten (writeOut (line512 ++ tooLong)) ≡ (18, 1024)) ×
+    (shownWritten (writeOut tooLongCalls) ≡ (18, 512)) ×
+    (shownWritten (writeOut (line512 ++ tooLongCalls)) ≡ (18, 1024)) ×
     (shownWritten (writeOut line513) ≡ (0, 513)) ×
     (shownWritten (writeFrom (replicate 32256 32) line512) ≡ (0, 32768)) ×
     (shownWritten (writeFrom (replicate 32257 32) line512) ≡ (10, 32768)) ×
@@ -76,4 +83,4 @@ pub writings :
     (shownWritten (writeFrom (replicate 32256 32) tooLong) ≡ (18, 32768)) ×
     (shownWritten (writeFrom (replicate 32257 32) tooLong) ≡ (10, 32768))
 unfolding everything
-writings = (refl, refl, refl, refl, refl, refl, refl, refl)
+writings = (refl, refl, refl, refl, refl, refl, refl, refl, refl, refl)

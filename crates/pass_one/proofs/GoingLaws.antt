@@ -1,5 +1,5 @@
 -- The walk over all places: what holds before each, and what it comes to.
-use Prim.Native.Nat.{ℕ, zero, suc, _*_, _≤_, _<_}
+use Prim.Native.Nat.{ℕ, _*_, _≤_, _<_}
 use mathlib.Core.Path.{_≡_, refl, sym, ap, _∙_, subst}
 use mathlib.Core.Bool.{Bool, true, false}
 use mathlib.Core.List.{List, [], _++_}
@@ -14,6 +14,7 @@ use Rattle.lines.specs.Pass.{pass}
 use Rattle.lines.specs.Line.{textOf}
 use Rattle.form_state.specs.Access.{Holds}
 use Rattle.pass_replace.specs.Contract.{IsSlot, IsMoment}
+use Rattle.pass_replace.proofs.Preparing.{zeros}
 use Rattle.pass_moment.specs.declared.Passed.{Passed}
 use Rattle.pass_one.specs.declared.Found.the-variants.{NoMatch}
 use Rattle.pass_moment.specs.declared.Moment.{Moment}
@@ -31,11 +32,6 @@ use Rattle.pass_one.proofs.MarkLaws.{sound-zero}
 use Rattle.pass_one.proofs.PlaceLaws.{drop-on, finds-none, goes-free}
 
 -- THE MARKS, at the start and at the end, AND THE ENDS at the start
-
-zeros : (n i : ℕ) → getD {A = ℕ} (replicate n 0) i 0 ≡ 0
-zeros zero i = refl
-zeros (suc n) zero = refl
-zeros (suc n) (suc i) = zeros n i
 
 pub zero-rows : (marks : List ℕ) (n : ℕ) → marks ≡ replicate n 0 → length marks ≡ n
 zero-rows marks n e = ap length e ∙ length-replicate {A = ℕ} n 0
@@ -78,17 +74,17 @@ size-is NotRefused had n = refl
 size-is (RefusedBy f) had n = refl
 
 module _ (s items kinds t b out marks seen : List ℕ) (y : Lent s kinds t b out marks) (is : ItemsOf s items) where
-  pub start : Seen items seen b → (a : Moment) → a ≡ startAt → Going s items t b b out out marks marks seen seen (replicate 1016 0) a
+  pub start : Seen items seen b → (a : Moment) → a ≡ startAt → Going s items t b b out out marks marks seen seen (replicate 1014 0) a
   start sn a e =
-      subst (Going s items t b b out out marks marks seen seen (replicate 1016 0)) (sym e)
+      subst (Going s items t b b out out marks marks seen seen (replicate 1014 0)) (sym e)
       (record {
         size = omega arith;
         stateSize = refl;
         room = refl;
         rows = refl;
         seenSize = refl;
-        count = length-replicate {A = ℕ} 1016 0;
-        inside = λ i. omega (arith, zeros 1016 i);
+        count = length-replicate {A = ℕ} 1014 0;
+        inside = λ i. omega (arith, zeros 1014 i);
         sound = zero-sound items b t marks marksBytes (y .clear);
         sees = sn;
         well = λ l. refl;

@@ -18,7 +18,7 @@ use Rattle.pass_replace.specs.Contract.{IsSlot, IsMoment}
 use Rattle.pass_moment.specs.declared.Passed.{Passed}
 use Rattle.pass_moment.specs.declared.Passed.the-variants.{Over, Refused}
 
--- a bit for each item of a pattern and each place of a line: 508 items, each with a row of 1,056 bits for at most 1,055 places
+-- a bit for each item of a pattern and each place of a line: 508 rows, for at most 506 items, of 1,056 bits, for at most 1,055 places
 abbrev pub marksBytes : ℕ
 marksBytes = 67056
 

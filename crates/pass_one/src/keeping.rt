@@ -20,7 +20,7 @@ fn is_call(code: u8) -> bool
 
 // Whether a pattern reads a stack or a counter.
 pub(crate) fn has_calls(items: &[u8]) -> bool
-    requires { ⌜ Pairs LetterIn (now items) × (length (now items) ≤ 1016) ⌝ }
+    requires { ⌜ Pairs LetterIn (now items) × (length (now items) ≤ 1014) ⌝ }
     ensures { λ r. ⌜ WhenFalse r (Pairs NoCall (now (items .entry))) ⌝ }
 {
     let mut at = 0;
@@ -69,7 +69,7 @@ fn same_item(code: u8, i: u8, seen: &[u8], state: &[u8]) -> bool
 
 // Whether every call of a pattern stands for the same in two states.
 fn same_calls(items: &[u8], seen: &[u8], state: &[u8]) -> bool
-    requires { ⌜ Pairs LetterIn (now items) × (length (now items) ≤ 1016) × IsState (now seen) × IsState (now state) ⌝ }
+    requires { ⌜ Pairs LetterIn (now items) × (length (now items) ≤ 1014) × IsState (now seen) × IsState (now state) ⌝ }
     ensures { λ r. ⌜ WhenTrue r (Alike (now (items .entry)) (now (seen .entry)) (now (state .entry))) ⌝ }
 {
     let mut at = 0;

@@ -4,15 +4,14 @@ mod matcher;
 mod unit;
 mod walking;
 
+use form_items::layout::BEFORE_AT;
+use form_items::layout::HEADER_BYTES;
+use form_items::layout::PATTERN_AT;
 use form_items::two_at;
 use keeping::copy_state;
 use keeping::has_calls;
 use pass_moment::Passed;
 use walking::walk;
-ghost use Prim.Native.Nat.{_+_, _<_};
-ghost use mathlib.Core.Path.{_≡_};
-ghost use lib.ListN.{length};
-ghost use Rattle.form_table.specs.Check.{twoAt};
 ghost use Rattle.pass_one.specs.Contract.{Lent, Passes};
 ghost use Rattle.pass_one.specs.Places.{SomeSlot, ItemsOf};
 
@@ -44,19 +43,12 @@ pub fn pass(
     walk(slot, items, kinds, line, state, out, marks, &mut none)
 }
 
-// The items of a slot's pattern.
+// The items of a slot's pattern, behind those of the calls before it.
 fn items_of(slot: &[u8]) -> &[u8]
     requires { ⌜ SomeSlot (now slot) ⌝ }
     ensures { λ r. ⌜ ItemsOf (now (slot .entry)) (now r) ⌝ }
 {
-    let end = pattern_end(slot);
-    &slot[8..end]
-}
-
-// Where the items of a slot's pattern end.
-fn pattern_end(slot: &[u8]) -> usize
-    requires { ⌜ 3 < length (now slot) ⌝ }
-    ensures { λ r. ⌜ r ≡ 8 + twoAt (now (slot .entry)) 2 ⌝ }
-{
-    8 + two_at(slot, 2)
+    let pattern = HEADER_BYTES + two_at(slot, BEFORE_AT);
+    let replacement = pattern + two_at(slot, PATTERN_AT);
+    &slot[pattern..replacement]
 }

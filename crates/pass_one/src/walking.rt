@@ -57,7 +57,7 @@ pub(crate) fn walk(
     requires { ⌜ Lent (now slot) (now kinds) (now line) (now state) (now out) (now marks) × ItemsOf (now slot) (now items) × Seen (now items) (now seen) (now state) ⌝ }
     ensures { λ r. ⌜ Passes (now (slot .entry)) (now (line .entry)) (now (state .entry)) (now (state .exit)) (now (out .entry)) (now (out .exit)) (now (marks .entry)) (now (marks .exit)) r ⌝ }
 {
-    let mut ends = [0u16; 1016];
+    let mut ends = [0u16; 1014];
     let mut at = start();
     while at.place <= line.len() {
         let p = at.place;

@@ -95,7 +95,7 @@ module _ (line pat ends : List ℕ) (es : List Piece) (qs : List ℕ) (same : (n
       ∙ bind-same (acts line es qs a w) _ _ (λ v. actions-do as₁ v)
 
 -- the replacement, and then the commands
-commands-as : (line : List ℕ) (es : List Piece) (qs : List ℕ) (cs : List Call) (w : Work) → replaces line es qs (map call cs) w ≡ commandsAct line es qs cs w
+pub commands-as : (line : List ℕ) (es : List Piece) (qs : List ℕ) (cs : List Call) (w : Work) → replaces line es qs (map call cs) w ≡ commandsAct line es qs cs w
 unfolding replaces acts commandsAct
 commands-as line es qs [] w = refl
 commands-as line es qs (c ∷ cs) w = bind-same (callActs line es qs c w) _ _ (λ v. commands-as line es qs cs v)

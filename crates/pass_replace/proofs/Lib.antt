@@ -3,5 +3,7 @@ pub mod Stepping
 pub mod Moving
 pub mod Inserting
 pub mod Decoding
+pub mod Parts
 pub mod Occurring
+pub mod Preparing
 pub mod Entries

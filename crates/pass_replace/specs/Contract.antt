@@ -1,4 +1,4 @@
--- What an occurrence's function promises (01, part 4).
+-- What the functions of an occurrence (01, part 4) and of the calls before a pattern (02, N2) promise.
 use Prim.Native.Nat.{ℕ, _+_, _≤_}
 use mathlib.Core.Path.{_≡_}
 use mathlib.Core.List.{List, [], _∷_}
@@ -8,8 +8,9 @@ use Rattle.macros.specs.Macro.{Piece, Macro}
 use Rattle.macros.specs.Formed.{Bytes}
 use Rattle.macros.specs.Accepted.{Spellable}
 use Rattle.form_table.specs.Form.{bodyBytes, pieceItems, slot}
+use Rattle.lines.specs.State.{State}
 use Rattle.lines.specs.Matching.{Division, stops}
-use Rattle.lines.specs.Replacing.{Work, Done, occur}
+use Rattle.lines.specs.Replacing.{Work, Done, startIn, beforeActs, occur}
 use Rattle.lines.specs.Replacing.Done.{bad, good}
 use Rattle.lines.specs.Line.{textOf}
 use Rattle.form_state.specs.Access.{Holds, IsState}
@@ -67,3 +68,15 @@ pub record Occurs (s ends t b b′ out out′ : List ℕ) (size : ℕ) (r : Outc
       → (v : Work) × (occur m t d w ≡ doneOf r v) × IsMoment out′ b′ (sizeOf r) v
   pub past : drop (sizeOf r) out′ ≡ drop (sizeOf r) out
   pub within : sizeOf r ≤ mostLineBytes
+
+-- THE CALLS BEFORE A PATTERN (02, N2)
+
+-- what the caller lends: a macro's slot, and the state in which its first pass on a line begins
+pub record Prepared (s b : List ℕ) : Type 0 where
+  pub macro : (m : Macro) × IsSlot s m
+  pub state : IsState b
+
+-- the state that is held then is that of the definition, done or refused, and the answer has the bytes of its new line
+pub record Prepares (s b b′ : List ℕ) (r : Outcome) : Type 0 where
+  pub comes : (m : Macro) → IsSlot s m → (st : State) → Holds b st
+      → (v : Work) × (beforeActs m (startIn st) ≡ doneOf r v) × (v .size ≡ sizeOf r) × Holds b′ (v .state)

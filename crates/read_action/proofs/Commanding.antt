@@ -1,4 +1,4 @@
--- The commands of a macro.
+-- Commands, before a pattern or behind a replacement.
 -- Assumes nothing.
 use mathlib.Core.Path.{_≡_, refl, ap, sym, _∙_}
 use mathlib.Core.Bool.{Bool, true, false}
@@ -6,22 +6,22 @@ use mathlib.Core.List.{List, [], _∷_, _++_, reverse, append-assoc, append-nil,
 use mathlib.Core.Option.{Option, none, some}
 use Prim.Native.Nat.{ℕ, _+_, _-_, _*_, _≤_, _<_}
 use native.Mathlib.Omega.{arith}
-use lib.Dec.{eqb}
 use lib.ListN.{length, length-append}
 use borrow.Author.Tests.{ne-eqb}
 use Rattle.macros.specs.Refusals.FileRefusal.{incomplete}
-use Rattle.macros.specs.Macro.{Macro, Mark, Action, Call, pick, markByte, tags}
+use Rattle.macros.specs.Macro.{Mark, Call, pick, markByte, tags}
 use Rattle.macros.specs.Macro.Mark.{stack, counter}
-use Rattle.macros.specs.Read.{Part, Front, CallSite, partByte, skips, commandsByte, commandsFresh, isCommand, frontOf, behindCall}
-use Rattle.macros.specs.ReadSoFar.Part.{calling, commands}
-use Rattle.macros.specs.ReadSoFar.CallSite.{asCommand}
+use Rattle.macros.specs.Read.{Part, Prior, CallSite, partByte, skips, callsByte, callsFresh, commandsByte, commandsFresh, siteOf, piecesOf, behindCall}
+use Rattle.macros.specs.ReadSoFar.Part.{calling}
+use Rattle.macros.specs.ReadSoFar.Site.{beforePattern}
+use Rattle.macros.specs.ReadSoFar.CallSite.{callsSoFar, commandsSoFar}
 use Rattle.macros.specs.ReadSoFar.Phase.{begun}
 use Rattle.macros.specs.ReadSoFar.Step.{on, stop}
 use Rattle.form_table.specs.Form.{callsItems, callItems}
-use Rattle.read_scan.specs.Scan.{run, Here, Passes, Reached}
+use Rattle.read_scan.specs.Scan.{MacroRead, run, noted, Here, Passes, Reached}
 use Rattle.form_items.specs.Items.{Wrote}
-use Rattle.read_call.specs.Call.{CalledFrom, markOf, nextEnd, leftBy}
-use Rattle.read_action.specs.Action.{Does, CommandFrom, CommandsFrom, CommandsRead}
+use Rattle.read_call.specs.Call.{CalledFrom, Called, markOf, nextEnd, leftBy}
+use Rattle.read_action.specs.Action.{Ahead, Lists, Does, CommandFrom, ListedFrom, CommandsRead, BeforeFrom, BeforeRead, siteBy, lastByte, strayByte, tagsAhead, listed}
 use Rattle.read_scan.specs.declared.FileFault.{FileFault}
 use Rattle.read_scan.specs.declared.FileFault.the-variants.{Incomplete}
 use Rattle.read_scan.specs.declared.Next.{Next}
@@ -47,39 +47,42 @@ no-call : callsItems (reverse []) ≡ []
 unfolding callsItems
 no-call = refl
 
+-- newest first, the items of the later calls stand behind
+items-both : (xs ys : List Call) → callsItems (reverse (ys ++ xs)) ≡ callsItems (reverse xs) ++ callsItems (reverse ys)
+items-both xs ys = ap callsItems (reverse-append ys xs) ∙ calls-append (reverse xs) (reverse ys)
+
 -- a way without a call
-does-skip : {s : List ℕ} {a p : ℕ} (old : List ℕ) (n k q : ℕ) → Reached s a q
-    → ((f : Front) (l : List Action) (cs : List Call) (ms : List Macro) → run s a ms false p (commands none f l cs) ≡ run s a ms false q (commands none f l cs)) → Does s a p old old n k q n
-does-skip old n k q h g =
+lists-skip : {s : List ℕ} {a p : ℕ} (old : List ℕ) (n : ℕ) (d : Bool) (k q : ℕ) → Reached s a q
+    → ((x : Ahead d) (cs : List Call) (pr : Prior) → run s a pr false p (listed d x none cs) ≡ run s a pr false q (listed d x none cs)) → Lists s a p old old n d k q n
+lists-skip old n d k q h g =
     record {
       calls = [];
       wrote = rw no-call (wrote-none old n);
       used = rw no-call (omega arith);
       room = omega arith;
       reached = h;
-      answer = λ f l cs u ms. g f l cs ms;
+      answer = λ x cs u pr. g x cs pr;
     }
 
-pub does-none : {s : List ℕ} {a p : ℕ} (old : List ℕ) (n k : ℕ) → Reached s a p → Does s a p old old n k p n
-does-none {s} {a} {p} old n k h = does-skip old n k p h (λ f l cs ms. refl)
+pub lists-none : {s : List ℕ} {a p : ℕ} (old : List ℕ) (n : ℕ) (d : Bool) (k : ℕ) → Reached s a p → Lists s a p old old n d k p n
+lists-none {s} {a} {p} old n d k h = lists-skip old n d k p h (λ x cs pr. refl)
 
-does-one : {s : List ℕ} {a p : ℕ} {old out : List ℕ} {n k q e : ℕ} (x : Call) → Wrote old out n (callItems x) → e ≡ n + length (callItems x) → e ≤ n + 2 * (q - p) → Reached s a q
-    → ((f : Front) (l : List Action) (cs : List Call) → tags (f .pieces) ≡ k → (ms : List Macro) → run s a ms false p (commands none f l cs) ≡ run s a ms false q (commands none f l (x ∷ cs)))
-    → Does s a p old out n k q e
-does-one x w u r h g =
+lists-one : {s : List ℕ} {a p : ℕ} {old out : List ℕ} {n : ℕ} (d : Bool) {k q e : ℕ} (c : Call) → Wrote old out n (callItems c) → e ≡ n + length (callItems c) → e ≤ n + 2 * (q - p) → Reached s a q
+    → ((x : Ahead d) (cs : List Call) → tagsAhead d x ≡ k → (pr : Prior) → run s a pr false p (listed d x none cs) ≡ run s a pr false q (listed d x none (c ∷ cs)))
+    → Lists s a p old out n d k q e
+lists-one d c w u r h g =
     record {
-      calls = x ∷ [];
-      wrote = rw (one-call x) w;
-      used = rw (one-call x) u;
+      calls = c ∷ [];
+      wrote = rw (one-call c) w;
+      used = rw (one-call c) u;
       room = r;
       reached = h;
       answer = g;
     }
 
-pub does-more : {s : List ℕ} {a p q z : ℕ} {old mid out : List ℕ} {n e e′ k : ℕ} → p ≤ q → q ≤ z → Does s a p old mid n k q e → Does s a q mid out e k z e′ → Does s a p old out n k z e′
-does-more {s} {a} {p} {q} {z} {old} {mid} {out} {n} {e} {e′} {k} h i x y =
-    let both : callsItems (reverse (y .calls ++ x .calls)) ≡ callsItems (reverse (x .calls)) ++ callsItems (reverse (y .calls)) =
-    ap callsItems (reverse-append (y .calls) (x .calls)) ∙ calls-append (reverse (x .calls)) (reverse (y .calls)) in
+lists-more : {s : List ℕ} {a p q z : ℕ} {old mid out : List ℕ} {n e e′ : ℕ} (d : Bool) {k : ℕ} → p ≤ q → q ≤ z → Lists s a p old mid n d k q e → Lists s a q mid out e d k z e′ → Lists s a p old out n d k z e′
+lists-more {s} {a} {p} {q} {z} {old} {mid} {out} {n} {e} {e′} d {k} h i x y =
+    let both = items-both (x .calls) (y .calls) in
     let second : Wrote mid out (n + length (callsItems (reverse (x .calls)))) (callsItems (reverse (y .calls))) = rw (x .used) at (y .wrote) in
     record {
       calls = y .calls ++ x .calls;
@@ -87,127 +90,217 @@ does-more {s} {a} {p} {q} {z} {old} {mid} {out} {n} {e} {e′} {k} h i x y =
       used = rw (both, length-append) (omega (arith, x .used, y .used));
       room = omega (arith, x .room, y .room);
       reached = y .reached;
-      answer = λ f l cs u ms. x .answer f l cs u ms ∙ rw (append-assoc (y .calls) (x .calls) cs) (y .answer f l (x .calls ++ cs) u ms);
+      answer = λ f cs u pr. x .answer f cs u pr ∙ rw (append-assoc (y .calls) (x .calls) cs) (y .answer f (x .calls ++ cs) u pr);
     }
 
 -- BYTES
 
-command-skips : (m : Option Mark) (f : Front) (l : List Action) (cs : List Call) → skips (commands m f l cs) ≡ true
+command-skips : (d : Bool) (x : Ahead d) (m : Option Mark) (cs : List Call) → skips (listed d x m cs) ≡ true
 unfolding skips
-command-skips m f l cs = refl
+command-skips true x m cs = refl
+command-skips false x m cs = refl
 
-command-quote : (f : Front) (l : List Action) (cs : List Call) (b : ℕ) → b ≡ 39 → partByte (commands none f l cs) b ≡ stop incomplete
-unfolding partByte commandsByte commandsFresh pick
-command-quote f l cs b e = rw e refl
+-- none of them ends a pattern
+noted-listed : (d : Bool) (x : Ahead d) (m : Option Mark) (cs : List Call) (st : Part) (q : ℕ) (o : MacroRead) → noted (listed d x m cs) st q o ≡ o
+noted-listed true x m cs st q o = refl
+noted-listed false x m cs st q o = refl
 
-command-mark : (m : Mark) (f : Front) (l : List Action) (cs : List Call) → partByte (commands none f l cs) (markByte m) ≡ on (commands (some m) f l cs)
-unfolding partByte commandsByte commandsFresh pick markByte
-command-mark stack f l cs = refl
-command-mark counter f l cs = refl
+command-stray : (d : Bool) (x : Ahead d) (cs : List Call) (b : ℕ) → b ≡ strayByte d → partByte (listed d x none cs) b ≡ stop incomplete
+unfolding partByte callsByte callsFresh commandsByte commandsFresh pick
+command-stray true x cs b e = rw e refl
+command-stray false x cs b e = rw e refl
 
-command-other : (f : Front) (l : List Action) (cs : List Call) (b : ℕ) → (b ≡ 59 → ⊥) → (b ≡ 39 → ⊥) → (b ≡ 38 → ⊥) → (b ≡ 35 → ⊥) → partByte (commands none f l cs) b ≡ on (commands none f l cs)
-unfolding partByte commandsByte commandsFresh pick
-command-other f l cs b e g h i = simp (ne-eqb _ _ e, ne-eqb _ _ g, ne-eqb _ _ h, ne-eqb _ _ i)
+command-mark : (d : Bool) (m : Mark) (x : Ahead d) (cs : List Call) → partByte (listed d x none cs) (markByte m) ≡ on (listed d x (some m) cs)
+unfolding partByte callsByte callsFresh commandsByte commandsFresh pick markByte
+command-mark true stack x cs = refl
+command-mark true counter x cs = refl
+command-mark false stack x cs = refl
+command-mark false counter x cs = refl
 
-mark-call : (m : Mark) (f : Front) (l : List Action) (cs : List Call) (b : ℕ) → b ≡ 40 → partByte (commands (some m) f l cs) b ≡ on (calling (asCommand f l cs) (begun m))
-unfolding partByte commandsByte pick
-mark-call m f l cs b e = rw e refl
+command-other : (d : Bool) (x : Ahead d) (cs : List Call) (b : ℕ) → (b ≡ lastByte d → ⊥) → (b ≡ strayByte d → ⊥) → (b ≡ 38 → ⊥) → (b ≡ 35 → ⊥)
+    → partByte (listed d x none cs) b ≡ on (listed d x none cs)
+unfolding partByte callsByte callsFresh commandsByte commandsFresh pick
+command-other true x cs b e g h i = simp (ne-eqb _ _ e, ne-eqb _ _ g, ne-eqb _ _ h, ne-eqb _ _ i)
+command-other false x cs b e g h i = simp (ne-eqb _ _ e, ne-eqb _ _ g, ne-eqb _ _ h, ne-eqb _ _ i)
 
-mark-other : (m : Mark) (f : Front) (l : List Action) (cs : List Call) (b : ℕ) → (b ≡ 40 → ⊥) → partByte (commands (some m) f l cs) b ≡ partByte (commands none f l cs) b
-unfolding partByte commandsByte pick
-mark-other m f l cs b e = simp (ne-eqb _ _ e)
+-- where a call begins
+abbrev sited : (d : Bool) → Ahead d → List Call → CallSite
+sited true x cs = callsSoFar cs
+sited false x cs = commandsSoFar (x .0) (x .1) cs
+
+sited-site : (d : Bool) (x : Ahead d) (cs : List Call) → siteOf (sited d x cs) ≡ siteBy d
+unfolding siteOf
+sited-site true x cs = refl
+sited-site false x cs = refl
+
+sited-tags : (d : Bool) (x : Ahead d) (cs : List Call) → tags (piecesOf (sited d x cs)) ≡ tagsAhead d x
+unfolding piecesOf tags
+sited-tags true x cs = refl
+sited-tags false x cs = refl
+
+sited-behind : (d : Bool) (x : Ahead d) (cs : List Call) (c : Call) → behindCall (sited d x cs) c ≡ listed d x none (c ∷ cs)
+unfolding behindCall
+sited-behind true x cs c = refl
+sited-behind false x cs c = refl
+
+mark-call : (d : Bool) (m : Mark) (x : Ahead d) (cs : List Call) (b : ℕ) → b ≡ 40 → partByte (listed d x (some m) cs) b ≡ on (calling (sited d x cs) (begun m))
+unfolding partByte callsByte commandsByte pick
+mark-call true m x cs b e = rw e refl
+mark-call false m x cs b e = rw e refl
+
+mark-other : (d : Bool) (m : Mark) (x : Ahead d) (cs : List Call) (b : ℕ) → (b ≡ 40 → ⊥) → partByte (listed d x (some m) cs) b ≡ partByte (listed d x none cs) b
+unfolding partByte callsByte commandsByte pick
+mark-other true m x cs b e = simp (ne-eqb _ _ e)
+mark-other false m x cs b e = simp (ne-eqb _ _ e)
 
 -- ONE COMMAND
 
-module _ {s : List ℕ} {a p b : ℕ} (old : List ℕ) (n k : ℕ) (x : Here s a p b) where
-  pub command-39 : b ≡ 39 → CommandFrom s a p old old n k (NoEnd Incomplete p)
-  command-39 e =
+module _ {s : List ℕ} {a p b : ℕ} (old : List ℕ) (n : ℕ) (d : Bool) (k : ℕ) (x : Here s a p b) where
+  pub command-out : {w : ℕ} → w ≡ strayByte d → b ≡ w → CommandFrom s a p old old n d k (NoEnd Incomplete p)
+  command-out h e =
       let t = x .stands in
-      (omega (arith, t .there), λ f l cs u ms. here-stop x ms (commands none f l cs) incomplete (command-quote f l cs b e))
+      (omega (arith, t .there), λ f cs u pr. here-stop x pr (listed d f none cs) incomplete (command-stray d f cs b (e ∙ h)))
 
-  pub command-text : (b ≡ 59 → ⊥) → (b ≡ 39 → ⊥) → (b ≡ 38 → ⊥) → (b ≡ 35 → ⊥) → CommandFrom s a p old old n k (Upto (p + 1) n)
-  command-text e g h i = (
+  pub command-text : {w : ℕ} → w ≡ strayByte d → (b ≡ lastByte d → ⊥) → (b ≡ w → ⊥) → (b ≡ 38 → ⊥) → (b ≡ 35 → ⊥) → CommandFrom s a p old old n d k (Upto (p + 1) n)
+  command-text j e g h i = (
     omega arith,
-    does-skip old n k (p + 1) (reached-behind (x .stands))
-        (λ f l cs ms. here-on x ms (commands none f l cs) (commands none f l cs) (λ q o. refl) (command-other f l cs b e g h i)),
+    lists-skip old n d k (p + 1) (reached-behind (x .stands))
+        (λ f cs pr. here-on x pr (listed d f none cs) (listed d f none cs) (noted-listed d f none cs (listed d f none cs)) (command-other d f cs b e (λ l. g (l ∙ sym j)) h i)),
   )
 
-module _ {s : List ℕ} {a p : ℕ} (old out : List ℕ) (n k : ℕ) (c : Bool) (x : Here s a p (markByte (markOf c))) {r : Next} (y : Passes s a (p + 1) r) where
-  lead : (f : Front) (l : List Action) (cs : List Call) (ms : List Macro) → run s a ms false p (commands none f l cs) ≡ run s a ms false (p + 1) (commands (some (markOf c)) f l cs)
-  lead f l cs ms = here-on x ms (commands none f l cs) (commands (some (markOf c)) f l cs) (λ q o. refl) (command-mark (markOf c) f l cs)
+module _ {s : List ℕ} {a p : ℕ} (old out : List ℕ) (n : ℕ) (d : Bool) (k : ℕ) (c : Bool) (x : Here s a p (markByte (markOf c))) {r : Next} (y : Passes s a (p + 1) r) where
+  lead : (f : Ahead d) (cs : List Call) (pr : Prior) → run s a pr false p (listed d f none cs) ≡ run s a pr false (p + 1) (listed d f (some (markOf c)) cs)
+  lead f cs pr =
+      here-on x pr (listed d f none cs) (listed d f (some (markOf c)) cs) (noted-listed d f none cs (listed d f (some (markOf c)) cs)) (command-mark d (markOf c) f cs)
 
-  pub command-none : {f : FileFault} {q : ℕ} {w : Ended} → r ≡ NoByte f q → w ≡ nextEnd r → CommandFrom s a p old out n k w
+  pub command-none : {f : FileFault} {q : ℕ} {w : Ended} → r ≡ NoByte f q → w ≡ nextEnd r → CommandFrom s a p old out n d k w
   command-none {f} {q} e i =
       let z : Passes s a (p + 1) (NoByte f q) = rw e at y in
-      rw (i ∙ ap nextEnd e) (z .found, λ g l cs u ms. lead g l cs ms ∙ z .answer (commands (some (markOf c)) g l cs) ms (command-skips (some (markOf c)) g l cs))
+      rw (i ∙ ap nextEnd e) (z .found, λ g cs u pr. lead g cs pr ∙ z .answer (listed d g (some (markOf c)) cs) pr (command-skips d g (some (markOf c)) cs))
 
   module _ {b q : ℕ} (e : r ≡ Byte b q) where
     pub command-byte : Passes s a (p + 1) (Byte b q)
     command-byte = rw e at y
 
-    there : (f : Front) (l : List Action) (cs : List Call) (ms : List Macro) → run s a ms false p (commands none f l cs) ≡ run s a ms false q (commands (some (markOf c)) f l cs)
-    there f l cs ms = lead f l cs ms ∙ command-byte .answer (commands (some (markOf c)) f l cs) ms (command-skips (some (markOf c)) f l cs)
+    there : (f : Ahead d) (cs : List Call) (pr : Prior) → run s a pr false p (listed d f none cs) ≡ run s a pr false q (listed d f (some (markOf c)) cs)
+    there f cs pr = lead f cs pr ∙ command-byte .answer (listed d f (some (markOf c)) cs) pr (command-skips d f (some (markOf c)) cs)
 
-    begins : b ≡ 40 → (f : Front) (l : List Action) (cs : List Call) (ms : List Macro)
-        → run s a ms false p (commands none f l cs) ≡ run s a ms false (q + 1) (calling (asCommand f l cs) (begun (markOf c)))
-    begins h f l cs ms = there f l cs ms ∙ here-on (command-byte .found .1) ms (commands (some (markOf c)) f l cs) (calling (asCommand f l cs) (begun (markOf c))) (λ q o. refl) (mark-call (markOf c) f l cs b h)
+    begins : b ≡ 40 → (f : Ahead d) (cs : List Call) (pr : Prior) → run s a pr false p (listed d f none cs) ≡ run s a pr false (q + 1) (calling (sited d f cs) (begun (markOf c)))
+    begins h f cs pr =
+        there f cs pr
+        ∙ here-on (command-byte .found .1) pr (listed d f (some (markOf c)) cs) (calling (sited d f cs) (begun (markOf c)))
+        (noted-listed d f (some (markOf c)) cs (calling (sited d f cs) (begun (markOf c)))) (mark-call d (markOf c) f cs b h)
 
-    pub command-call : b ≡ 40 → (w : Ended) → CalledFrom s a (q + 1) old out n (markOf c) true k w → CommandFrom s a p old out n k w
-    unfolding isCommand frontOf behindCall
-    command-call h (Upto z e′) d = (
-      omega (arith, d .further, command-byte .found .0),
-      does-one (d .call) (d .wrote) (d .used) (omega (arith, d .room, d .further, command-byte .found .0)) (d .reached)
-          (λ f l cs u ms. begins h f l cs ms ∙ d .answer (asCommand f l cs) refl u ms),
+    pub command-call : b ≡ 40 → (w : Ended) → CalledFrom s a (q + 1) old out n (markOf c) (siteBy d) k w → CommandFrom s a p old out n d k w
+    command-call h (Upto z e′) y′ = (
+      omega (arith, y′ .further, command-byte .found .0),
+      lists-one d (y′ .call) (y′ .wrote) (y′ .used) (omega (arith, y′ .room, y′ .further, command-byte .found .0)) (y′ .reached)
+          (λ f cs u pr. begins h f cs pr ∙ (y′ .answer (sited d f cs) (sited-site d f cs) (sited-tags d f cs ∙ u) pr ∙ ap (λ (st : Part). run s a pr false z st) (sited-behind d f cs (y′ .call)))),
     )
-    command-call h (NoEnd g z) d = (d .0, λ f l cs u ms. begins h f l cs ms ∙ d .1 (asCommand f l cs) refl u ms)
+    command-call h (NoEnd g z) y′ = (y′ .0, λ f cs u pr. begins h f cs pr ∙ y′ .1 (sited d f cs) (sited-site d f cs) (sited-tags d f cs ∙ u) pr)
 
-    pub command-plain : (b ≡ 40 → ⊥) → CommandFrom s a p old old n k (Upto q n)
+    pub command-plain : (b ≡ 40 → ⊥) → CommandFrom s a p old old n d k (Upto q n)
     command-plain h = (
       omega (arith, command-byte .found .0),
-      does-skip old n k q (reached-at (command-byte .found .1 .stands))
-          (λ f l cs ms. there f l cs ms ∙ here-same (command-byte .found .1) ms (commands (some (markOf c)) f l cs) (commands none f l cs) (λ x q o. refl) (mark-other (markOf c) f l cs b h)),
+      lists-skip old n d k q (reached-at (command-byte .found .1 .stands))
+          (λ f cs pr. there f cs pr
+          ∙ here-same (command-byte .found .1) pr (listed d f (some (markOf c)) cs) (listed d f none cs)
+          (λ x q o. noted-listed d f (some (markOf c)) cs x q o ∙ sym (noted-listed d f none cs x q o)) (mark-other d (markOf c) f cs b h)),
     )
 
--- ALL COMMANDS
+-- ALL OF THEM
 
-module _ (s : List ℕ) (a p : ℕ) (old out : List ℕ) (n k : ℕ) {v e : ℕ} (g : Does s a p old out n k v e) (l : p ≤ v) {r : Next} (y : Passes s a v r) where
-  pub does-fault : {f : FileFault} {q : ℕ} {w : Ended} → r ≡ NoByte f q → w ≡ nextEnd r → CommandsFrom s a p old out n k w
-  does-fault {f} {q} i j =
+module _ (s : List ℕ) (a p : ℕ) (old out : List ℕ) (n : ℕ) (d : Bool) (k : ℕ) {v e : ℕ} (g : Lists s a p old out n d k v e) (l : p ≤ v) {r : Next} (y : Passes s a v r) where
+  pub lists-fault : {f : FileFault} {q : ℕ} {w : Ended} → r ≡ NoByte f q → w ≡ nextEnd r → ListedFrom s a p old out n d k w
+  lists-fault {f} {q} i j =
       let z : Passes s a v (NoByte f q) = rw i at y in
-      rw (j ∙ ap nextEnd i) (z .found, λ h t cs u ms. g .answer h t cs u ms ∙ z .answer (commands none h t (g .calls ++ cs)) ms (command-skips none h t (g .calls ++ cs)))
+      rw (j ∙ ap nextEnd i) (z .found, λ h cs u pr. g .answer h cs u pr ∙ z .answer (listed d h none (g .calls ++ cs)) pr (command-skips d h none (g .calls ++ cs)))
 
   module _ {b q : ℕ} (i : r ≡ Byte b q) where
-    pub does-byte : Passes s a v (Byte b q)
-    does-byte = rw i at y
+    pub lists-byte : Passes s a v (Byte b q)
+    lists-byte = rw i at y
 
-    pub does-pass : Does s a p old out n k q e
-    does-pass =
+    lists-pass : Lists s a p old out n d k q e
+    lists-pass =
         record {
           calls = g .calls;
           wrote = g .wrote;
           used = g .used;
-          room = omega (arith, g .room, does-byte .found .0);
-          reached = reached-at (does-byte .found .1 .stands);
-          answer = λ f t cs u ms. g .answer f t cs u ms ∙ does-byte .answer (commands none f t (g .calls ++ cs)) ms (command-skips none f t (g .calls ++ cs));
+          room = omega (arith, g .room, lists-byte .found .0);
+          reached = reached-at (lists-byte .found .1 .stands);
+          answer = λ f cs u pr. g .answer f cs u pr ∙ lists-byte .answer (listed d f none (g .calls ++ cs)) pr (command-skips d f none (g .calls ++ cs));
         }
 
-    pub does-end : b ≡ 59 → CommandsFrom s a p old out n k (Upto q e)
-    does-end h = (omega (arith, does-byte .found .0), rw h at (does-byte .found .1), does-pass)
+    pub lists-end : {w : ℕ} → w ≡ lastByte d → b ≡ w → ListedFrom s a p old out n d k (Upto q e)
+    lists-end j h = (omega (arith, lists-byte .found .0), rw (h ∙ j) at (lists-byte .found .1), lists-pass)
 
-    pub does-fault-2 : (mid : List ℕ) {w : Ended} {f : FileFault} {z : ℕ} → CommandFrom s a q out mid e k w → w ≡ NoEnd f z → CommandsFrom s a p old mid n k w
-    does-fault-2 mid {w} {f} {z} x j =
-        let t : CommandFrom s a q out mid e k (NoEnd f z) = rw j at x in
-        rw j (t .0, λ h c cs u ms. does-pass .answer h c cs u ms ∙ t .1 h c (does-pass .calls ++ cs) u ms)
+    pub lists-fault-2 : (mid : List ℕ) {w : Ended} {f : FileFault} {z : ℕ} → CommandFrom s a q out mid e d k w → w ≡ NoEnd f z → ListedFrom s a p old mid n d k w
+    lists-fault-2 mid {w} {f} {z} x j =
+        let t : CommandFrom s a q out mid e d k (NoEnd f z) = rw j at x in
+        rw j (t .0, λ h cs u pr. lists-pass .answer h cs u pr ∙ t .1 h (lists-pass .calls ++ cs) u pr)
 
-    pub does-next : {mid : List ℕ} {w : Ended} {z e′ : ℕ} → CommandFrom s a q out mid e k w → w ≡ Upto z e′ → (q < z) × Does s a q out mid e k z e′
-    does-next x j = rw j at x
+    pub lists-next : {mid : List ℕ} {w : Ended} {z e′ : ℕ} → CommandFrom s a q out mid e d k w → w ≡ Upto z e′ → (q < z) × Lists s a q out mid e d k z e′
+    lists-next x j = rw j at x
 
-    pub does-on : {mid : List ℕ} {w : Ended} {z e′ : ℕ} → CommandFrom s a q out mid e k w → w ≡ Upto z e′ → Does s a p old mid n k z e′
-    does-on x j = does-more (omega (arith, does-byte .found .0)) (omega (arith, does-next x j .0)) does-pass (does-next x j .1)
+    pub lists-on : {mid : List ℕ} {w : Ended} {z e′ : ℕ} → CommandFrom s a q out mid e d k w → w ≡ Upto z e′ → Lists s a p old mid n d k z e′
+    lists-on x j = lists-more d (omega (arith, lists-byte .found .0)) (omega (arith, lists-next x j .0)) lists-pass (lists-next x j .1)
 
--- ALL LENT BYTES
+-- BEHIND A REPLACEMENT, with all lent bytes
 
-pub commands-left : {s : List ℕ} {a p : ℕ} {old : List ℕ} (mid : List ℕ) {out : List ℕ} {n k : ℕ} (r : Ended) → CommandsFrom s a p old mid n k r → out ≡ leftBy mid r → length mid ≡ length old
+does-all : {s : List ℕ} {a p : ℕ} {old out : List ℕ} {n k q e : ℕ} → Lists s a p old out n false k q e → Does s a p old out n k q e
+does-all y =
+    record {
+      calls = y .calls;
+      wrote = y .wrote;
+      used = y .used;
+      room = y .room;
+      reached = y .reached;
+      answer = λ f l cs u pr. y .answer (f, l) cs u pr;
+    }
+
+pub commands-left : {s : List ℕ} {a p : ℕ} {old : List ℕ} (mid : List ℕ) {out : List ℕ} {n k : ℕ} (r : Ended) → ListedFrom s a p old mid n false k r → out ≡ leftBy mid r → length mid ≡ length old
     → CommandsRead s a p old out n k r
-commands-left mid (Upto q e) x o l = record { from = rw o x; zeros = tt }
-commands-left {s} {a} {p} {old} mid (NoEnd f q) x o l = record { from = x; zeros = zeroed old mid (NoEnd f q) o l }
+commands-left mid (Upto q e) x o l = record { from = rw o (x .0, x .1, does-all (x .2)); zeros = tt }
+commands-left {s} {a} {p} {old} mid (NoEnd f q) x o l = record { from = (x .0, λ g t cs u pr. x .1 (g, t) cs u pr); zeros = zeroed old mid (NoEnd f q) o l }
+
+-- BEFORE A PATTERN
+
+module _ (s : List ℕ) (a p : ℕ) (old mid : List ℕ) (n : ℕ) (c : Bool) {w : Ended} (x : CalledFrom s a p old mid n (markOf c) beforePattern 0 w) where
+  pub before-none : {f : FileFault} {q : ℕ} → w ≡ NoEnd f q → BeforeFrom s a p old mid n c w
+  unfolding siteOf piecesOf tags
+  before-none {f} {q} j =
+      let z : CalledFrom s a p old mid n (markOf c) beforePattern 0 (NoEnd f q) = rw j at x in
+      rw j (z .0, λ pr. z .1 (callsSoFar []) refl refl pr)
+
+  module _ {z e : ℕ} (j : w ≡ Upto z e) where
+    pub before-first : Called s a p old mid n 0 beforePattern 0 (λ pl. calling pl (begun (markOf c))) z e
+    before-first = rw j at x
+
+    first-answer : (pr : Prior) → run s a pr false p (calling (callsSoFar []) (begun (markOf c))) ≡ run s a pr false z (listed true tt none (before-first .call ∷ []))
+    unfolding siteOf piecesOf tags behindCall
+    first-answer pr = before-first .answer (callsSoFar []) refl refl pr
+
+    pub before-all : (out : List ℕ) (r : Ended) → ListedFrom s a z mid out e true 0 r → BeforeFrom s a p old out n c r
+    before-all out (Upto q e′) y =
+        let t = before-first in
+        let both : callsItems (reverse (y .2 .calls ++ (t .call ∷ []))) ≡ callItems (t .call) ++ callsItems (reverse (y .2 .calls)) =
+        items-both (t .call ∷ []) (y .2 .calls) ∙ ap (λ (l : List ℕ). l ++ callsItems (reverse (y .2 .calls))) (one-call (t .call)) in
+        let second : Wrote mid out (n + length (callItems (t .call))) (callsItems (reverse (y .2 .calls))) = rw (t .used) at (y .2 .wrote) in (
+          omega (arith, t .further, y .0),
+          y .1,
+          record {
+            calls = y .2 .calls ++ (t .call ∷ []);
+            wrote = rw both (wrote-more (t .wrote) second);
+            used = rw (both, length-append) (omega (arith, t .used, y .2 .used));
+            room = omega (arith, t .room, t .further, y .2 .room, y .0);
+            reached = y .2 .reached;
+            answer = λ pr. first-answer pr ∙ y .2 .answer tt (t .call ∷ []) refl pr;
+          },
+        )
+    before-all out (NoEnd f q) y = (y .0, λ pr. first-answer pr ∙ y .1 tt (before-first .call ∷ []) refl pr)
+
+-- with all lent bytes
+pub before-left : {s : List ℕ} {a p : ℕ} {old : List ℕ} (mid : List ℕ) {out : List ℕ} {n : ℕ} {c : Bool} (r : Ended) → BeforeFrom s a p old mid n c r → out ≡ leftBy mid r → length mid ≡ length old
+    → BeforeRead s a p old out n c r
+before-left mid (Upto q e) x o l = record { from = rw o x; zeros = tt }
+before-left {s} {a} {p} {old} mid (NoEnd f q) x o l = record { from = x; zeros = zeroed old mid (NoEnd f q) o l }

@@ -11,12 +11,13 @@ use lib.Dec.{eqb}
 use lib.ListN.{length, length-append}
 use borrow.Author.Tests.{ne-eqb}
 use Rattle.macros.specs.Refusals.FileRefusal.{incomplete, badCall}
-use Rattle.macros.specs.Macro.{Macro, Mark, Action, pick, among, within, digit, markByte, tags}
+use Rattle.macros.specs.Macro.{Mark, Action, pick, among, within, digit, markByte, tags}
 use Rattle.macros.specs.Macro.Mark.{stack, counter}
 use Rattle.macros.specs.Macro.Action.{text, tag, call}
-use Rattle.macros.specs.Read.{Part, Step, Front, CallSite, partByte, skips, replacementByte, replacementFresh, tagByte, tagEnd, breaks, escaped, isCommand, frontOf, behindCall}
+use Rattle.macros.specs.Read.{Prior, Step, Front, partByte, skips, replacementByte, replacementFresh, tagByte, tagEnd, breaks, escaped, siteOf, piecesOf, behindCall}
 use Rattle.macros.specs.ReadSoFar.Part.{replacement, replacementEscape, tagNumber, calling, commands}
-use Rattle.macros.specs.ReadSoFar.CallSite.{inReplacement}
+use Rattle.macros.specs.ReadSoFar.CallSite.{replacementSoFar}
+use Rattle.macros.specs.ReadSoFar.Site.{inReplacement}
 use Rattle.macros.specs.ReadSoFar.Phase.{begun}
 use Rattle.macros.specs.ReadSoFar.Step.{on, stop}
 use Rattle.read_scan.specs.Scan.MacroRead.{refusedAt}
@@ -63,11 +64,11 @@ acts-none old n k h =
       used = rw no-items (omega arith);
       room = omega arith;
       reached = h;
-      answer = λ f l u ms. refl;
+      answer = λ f l u pr. refl;
     }
 
 acts-one : {s : List ℕ} {a p : ℕ} {old out : List ℕ} {n k q e : ℕ} (x : Action) → Wrote old out n (actionItems x) → e ≡ n + length (actionItems x) → e ≤ n + 2 * (q - p) → Reached s a q
-    → ((f : Front) (l : List Action) → tags (f .pieces) ≡ k → (ms : List Macro) → run s a ms false p (replacement none f l) ≡ run s a ms false q (replacement none f (x ∷ l)))
+    → ((f : Front) (l : List Action) → tags (f .pieces) ≡ k → (pr : Prior) → run s a pr false p (replacement none f l) ≡ run s a pr false q (replacement none f (x ∷ l)))
     → Acts s a p old out n k q e
 acts-one x w u r h g =
     record {
@@ -90,7 +91,7 @@ acts-more {s} {a} {p} {q} {z} {old} {mid} {out} {n} {e} {e′} {k} h i x y =
       used = rw (both, length-append) (omega (arith, x .used, y .used));
       room = omega (arith, x .room, y .room);
       reached = y .reached;
-      answer = λ f l u ms. x .answer f l u ms ∙ rw (append-assoc (y .actions) (x .actions) l) (y .answer f (x .actions ++ l) u ms);
+      answer = λ f l u pr. x .answer f l u pr ∙ rw (append-assoc (y .actions) (x .actions) l) (y .answer f (x .actions ++ l) u pr);
     }
 
 -- BYTES
@@ -125,7 +126,7 @@ part-literal : (f : Front) (l : List Action) (b : ℕ) → (b ≡ 39 → ⊥) �
 unfolding partByte replacementByte replacementFresh pick
 part-literal f l b e g h i j k = simp (ne-eqb _ _ e, g, ne-eqb _ _ h, ne-eqb _ _ i, ne-eqb _ _ j, ne-eqb _ _ k)
 
-mark-call : (m : Mark) (f : Front) (l : List Action) (b : ℕ) → b ≡ 40 → partByte (replacement (some m) f l) b ≡ on (calling (inReplacement f l) (begun m))
+mark-call : (m : Mark) (f : Front) (l : List Action) (b : ℕ) → b ≡ 40 → partByte (replacement (some m) f l) b ≡ on (calling (replacementSoFar f l) (begun m))
 unfolding partByte replacementByte pick
 mark-call m f l b e = rw e refl
 
@@ -153,27 +154,27 @@ module _ {s : List ℕ} {a p b : ℕ} (old out : List ℕ) (n k : ℕ) (x : Here
   pub action-break : breaks b ≡ true → ActionFrom s a p old out n k (NoEnd Incomplete p)
   action-break g =
       let t = x .stands in
-      (omega (arith, t .there), λ f l u ms. here-stop x ms (replacement none f l) incomplete (part-break f l b e g))
+      (omega (arith, t .there), λ f l u pr. here-stop x pr (replacement none f l) incomplete (part-break f l b e g))
 
   pub action-literal : breaks b ≡ false → (b ≡ 92 → ⊥) → (b ≡ 123 → ⊥) → (b ≡ 38 → ⊥) → (b ≡ 35 → ⊥) → Wrote old out n (40 ∷ b ∷ []) → ActionFrom s a p old out n k (Upto (p + 1) (n + 2))
   action-literal g h i j m w = (
     omega arith,
     acts-one (text b) (rw (text-items b) w) (rw (text-items b) refl) (omega arith) (reached-behind (x .stands))
-        (λ f l u ms. here-on x ms (replacement none f l) (replacement none f (text b ∷ l)) (λ q o. refl) (part-literal f l b e g h i j m)),
+        (λ f l u pr. here-on x pr (replacement none f l) (replacement none f (text b ∷ l)) (λ q o. refl) (part-literal f l b e g h i j m)),
   )
 
 -- AN ESCAPE
 
-escape-on : {s : List ℕ} {a p d : ℕ} → At s a p d → (f : Front) (l : List Action) (ms : List Macro)
-    → run s a ms false p (replacementEscape f l) ≡ run s a ms false (p + 1) (replacement none f (text (escaped d) ∷ l))
+escape-on : {s : List ℕ} {a p d : ℕ} → At s a p d → (f : Front) (l : List Action) (pr : Prior)
+    → run s a pr false p (replacementEscape f l) ≡ run s a pr false (p + 1) (replacement none f (text (escaped d) ∷ l))
 unfolding partByte skips
-escape-on {s} {a} {p} {d} x f l ms = at-on x ms (replacementEscape f l) (replacement none f (text (escaped d) ∷ l)) (λ q o. refl) refl refl
+escape-on {s} {a} {p} {d} x f l pr = at-on x pr (replacementEscape f l) (replacement none f (text (escaped d) ∷ l)) (λ q o. refl) refl refl
 
 module _ {s : List ℕ} {a p : ℕ} (old out : List ℕ) (n : ℕ) (x : Here s a p 92) {r : Next} (y : Stays s a (p + 1) r) where
   pub escape-none : {f : FileFault} {q : ℕ} {w : Ended} → r ≡ NoByte f q → w ≡ nextEnd r → EscapeFrom s a p old out n w
   escape-none {f} {q} e i =
       let z : Stays s a (p + 1) (NoByte f q) = rw e at y in
-      rw (i ∙ ap nextEnd e) (λ k. (z .found, λ g l u ms. here-on x ms (replacement none g l) (replacementEscape g l) (λ q o. refl) (part-escape g l) ∙ z .answer (replacementEscape g l) ms))
+      rw (i ∙ ap nextEnd e) (λ k. (z .found, λ g l u pr. here-on x pr (replacement none g l) (replacementEscape g l) (λ q o. refl) (part-escape g l) ∙ z .answer (replacementEscape g l) pr))
 
   module _ {d q : ℕ} (e : r ≡ Byte d q) where
     pub escape-byte : Stays s a (p + 1) (Byte d q)
@@ -185,46 +186,46 @@ module _ {s : List ℕ} {a p : ℕ} (old out : List ℕ) (n : ℕ) (x : Here s a
         let there = escape-byte .found .1 in (
           omega arith,
           acts-one (text (escaped d)) (rw (text-items (escaped d), ← i) w) (rw (text-items (escaped d)) refl) (omega arith) (rw same (reached-behind there))
-              (λ f l u ms. here-on x ms (replacement none f l) (replacementEscape f l) (λ q o. refl) (part-escape f l) ∙ rw same (escape-on there f l ms)),
+              (λ f l u pr. here-on x pr (replacement none f l) (replacementEscape f l) (λ q o. refl) (part-escape f l) ∙ rw same (escape-on there f l pr)),
         )
 
 -- `&` AND `#`
 
 module _ {s : List ℕ} {a p : ℕ} (old out : List ℕ) (n k : ℕ) (c : Bool) (x : Here s a p (markByte (markOf c))) {r : Next} (y : Passes s a (p + 1) r) where
-  lead : (f : Front) (l : List Action) (ms : List Macro) → run s a ms false p (replacement none f l) ≡ run s a ms false (p + 1) (replacement (some (markOf c)) f l)
-  lead f l ms = here-on x ms (replacement none f l) (replacement (some (markOf c)) f l) (λ q o. refl) (part-mark (markOf c) f l)
+  lead : (f : Front) (l : List Action) (pr : Prior) → run s a pr false p (replacement none f l) ≡ run s a pr false (p + 1) (replacement (some (markOf c)) f l)
+  lead f l pr = here-on x pr (replacement none f l) (replacement (some (markOf c)) f l) (λ q o. refl) (part-mark (markOf c) f l)
 
   pub marked-none : {f : FileFault} {q : ℕ} {w : Ended} → r ≡ NoByte f q → w ≡ nextEnd r → ActionFrom s a p old out n k w
   marked-none {f} {q} e i =
       let z : Passes s a (p + 1) (NoByte f q) = rw e at y in
-      rw (i ∙ ap nextEnd e) (z .found, λ g l u ms. lead g l ms ∙ z .answer (replacement (some (markOf c)) g l) ms (part-skips (some (markOf c)) g l))
+      rw (i ∙ ap nextEnd e) (z .found, λ g l u pr. lead g l pr ∙ z .answer (replacement (some (markOf c)) g l) pr (part-skips (some (markOf c)) g l))
 
   module _ {b q : ℕ} (e : r ≡ Byte b q) where
     pub marked-byte : Passes s a (p + 1) (Byte b q)
     marked-byte = rw e at y
 
-    there : (f : Front) (l : List Action) (ms : List Macro) → run s a ms false p (replacement none f l) ≡ run s a ms false q (replacement (some (markOf c)) f l)
-    there f l ms = lead f l ms ∙ marked-byte .answer (replacement (some (markOf c)) f l) ms (part-skips (some (markOf c)) f l)
+    there : (f : Front) (l : List Action) (pr : Prior) → run s a pr false p (replacement none f l) ≡ run s a pr false q (replacement (some (markOf c)) f l)
+    there f l pr = lead f l pr ∙ marked-byte .answer (replacement (some (markOf c)) f l) pr (part-skips (some (markOf c)) f l)
 
-    begins : b ≡ 40 → (f : Front) (l : List Action) (ms : List Macro) → run s a ms false p (replacement none f l) ≡ run s a ms false (q + 1) (calling (inReplacement f l) (begun (markOf c)))
-    begins h f l ms = there f l ms ∙ here-on (marked-byte .found .1) ms (replacement (some (markOf c)) f l) (calling (inReplacement f l) (begun (markOf c))) (λ q o. refl) (mark-call (markOf c) f l b h)
+    begins : b ≡ 40 → (f : Front) (l : List Action) (pr : Prior) → run s a pr false p (replacement none f l) ≡ run s a pr false (q + 1) (calling (replacementSoFar f l) (begun (markOf c)))
+    begins h f l pr = there f l pr ∙ here-on (marked-byte .found .1) pr (replacement (some (markOf c)) f l) (calling (replacementSoFar f l) (begun (markOf c))) (λ q o. refl) (mark-call (markOf c) f l b h)
 
-    pub marked-call : b ≡ 40 → (w : Ended) → CalledFrom s a (q + 1) old out n (markOf c) false k w → ActionFrom s a p old out n k w
-    unfolding isCommand frontOf behindCall actionItems
+    pub marked-call : b ≡ 40 → (w : Ended) → CalledFrom s a (q + 1) old out n (markOf c) inReplacement k w → ActionFrom s a p old out n k w
+    unfolding siteOf piecesOf behindCall actionItems
     marked-call h (Upto z e′) d = (
       omega (arith, d .further, marked-byte .found .0),
       acts-one (call (d .call)) (d .wrote) (d .used) (omega (arith, d .room, d .further, marked-byte .found .0)) (d .reached)
-          (λ f l u ms. begins h f l ms ∙ d .answer (inReplacement f l) refl u ms),
+          (λ f l u pr. begins h f l pr ∙ d .answer (replacementSoFar f l) refl u pr),
     )
-    marked-call h (NoEnd g z) d = (d .0, λ f l u ms. begins h f l ms ∙ d .1 (inReplacement f l) refl u ms)
+    marked-call h (NoEnd g z) d = (d .0, λ f l u pr. begins h f l pr ∙ d .1 (replacementSoFar f l) refl u pr)
 
     pub marked-literal : {m : ℕ} → (b ≡ 40 → ⊥) → m ≡ markByte (markOf c) → Wrote old out n (40 ∷ m ∷ []) → ActionFrom s a p old out n k (Upto q (n + 2))
     marked-literal {m} h i w = (
       omega (arith, marked-byte .found .0),
       acts-one (text (markByte (markOf c))) (rw (text-items (markByte (markOf c)), ← i) w) (rw (text-items (markByte (markOf c))) refl)
           (omega (arith, marked-byte .found .0)) (reached-at (marked-byte .found .1 .stands))
-          (λ f l u ms. there f l ms
-          ∙ here-same (marked-byte .found .1) ms (replacement (some (markOf c)) f l) (replacement none f (text (markByte (markOf c)) ∷ l)) (λ x q o. refl) (mark-other (markOf c) f l b h)),
+          (λ f l u pr. there f l pr
+          ∙ here-same (marked-byte .found .1) pr (replacement (some (markOf c)) f l) (replacement none f (text (markByte (markOf c)) ∷ l)) (λ x q o. refl) (mark-other (markOf c) f l b h)),
     )
 
 -- `{n}`
@@ -262,24 +263,24 @@ pub counted-at : (s : List ℕ) (a p : ℕ) {r : Number} {v : ℕ} {m : Bool} {b
 counted-at s a p y e = rw e at y
 
 module _ (s : List ℕ) (a p : ℕ) (old out : List ℕ) (n k : ℕ) (x : Here s a p 123) where
-  opens : (f : Front) (l : List Action) (ms : List Macro) → run s a ms false p (replacement none f l) ≡ run s a ms false (p + 1) (tagNumber none f l)
-  opens f l ms = here-on x ms (replacement none f l) (tagNumber none f l) (λ q o. refl) (part-tag f l)
+  opens : (f : Front) (l : List Action) (pr : Prior) → run s a pr false p (replacement none f l) ≡ run s a pr false (p + 1) (tagNumber none f l)
+  opens f l pr = here-on x pr (replacement none f l) (tagNumber none f l) (λ q o. refl) (part-tag f l)
 
   pub brace-none : {r : Number} {f : FileFault} {q : ℕ} {w : Ended} → Counts s a (p + 1) false r → r ≡ NoNumber f q → w ≡ numberEnd r → ActionFrom s a p old out n k w
   brace-none {r} {f} {q} y e i =
       let z : Counts s a (p + 1) false (NoNumber f q) = rw e at y in
-      rw (i ∙ ap numberEnd e) (z .0, λ g l u ms. opens g l ms ∙ z .1 (λ o. tagNumber o g l) (eats-tag g l) ms)
+      rw (i ∙ ap numberEnd e) (z .0, λ g l u pr. opens g l pr ∙ z .1 (λ o. tagNumber o g l) (eats-tag g l) pr)
 
   module _ {v : ℕ} {m : Bool} {b q : ℕ} (y : Counts s a (p + 1) false (Got v m b q)) where
-    comes : (f : Front) (l : List Action) (ms : List Macro) → run s a ms false p (replacement none f l) ≡ run s a ms false q (tagNumber (y .4 .value) f l)
-    comes f l ms = opens f l ms ∙ y .4 .answer (λ o. tagNumber o f l) (eats-tag f l) ms
+    comes : (f : Front) (l : List Action) (pr : Prior) → run s a pr false p (replacement none f l) ≡ run s a pr false q (tagNumber (y .4 .value) f l)
+    comes f l pr = opens f l pr ∙ y .4 .answer (λ o. tagNumber o f l) (eats-tag f l) pr
 
     in-file : q ≤ length s
     in-file = let t = y .1 .stands in omega (arith, t .there)
 
     brace-wrong : (f : FileFault) → (b ≡ 125 → ⊥) → faultOf f ≡ wrongTag b → ActionFrom s a p old out n k (NoEnd f q)
     brace-wrong f h i =
-        (in-file, λ g l u ms. comes g l ms ∙ (here-stop (y .1) ms (tagNumber (y .4 .value) g l) (wrongTag b) (tag-stray (y .4 .value) g l b (y .2 .0) h) ∙ rw i refl))
+        (in-file, λ g l u pr. comes g l pr ∙ (here-stop (y .1) pr (tagNumber (y .4 .value) g l) (wrongTag b) (tag-stray (y .4 .value) g l b (y .2 .0) h) ∙ rw i refl))
 
     module _ (h : b ≡ 125) where
       at-brace : Here s a q 125
@@ -288,37 +289,37 @@ module _ (s : List ℕ) (a p : ℕ) (old out : List ℕ) (n k : ℕ) (x : Here s
       brace-empty : m ≡ false → ActionFrom s a p old out n k (NoEnd BadCall q)
       brace-empty j = by (y .4 .value) (y .4 .kept) comes
         where
-          by : (o : Option ℕ) → Kept o v m → ((f : Front) (l : List Action) (ms : List Macro) → run s a ms false p (replacement none f l) ≡ run s a ms false q (tagNumber o f l))
+          by : (o : Option ℕ) → Kept o v m → ((f : Front) (l : List Action) (pr : Prior) → run s a pr false p (replacement none f l) ≡ run s a pr false q (tagNumber o f l))
               → ActionFrom s a p old out n k (NoEnd BadCall q)
-          by none t g = (in-file, λ f l u ms. g f l ms ∙ here-stop at-brace ms (tagNumber none f l) badCall (tag-empty f l))
+          by none t g = (in-file, λ f l u pr. g f l pr ∙ here-stop at-brace pr (tagNumber none f l) badCall (tag-empty f l))
           by (some w) t g = absurd (true≢false (sym (t .1) ∙ j))
 
       module _ (j : m ≡ true) where
         brace-unfit : ((w : ℕ) → v ≡ most w → within 1 k w ≡ false) → ActionFrom s a p old out n k (NoEnd BadCall q)
         brace-unfit z = by (y .4 .value) (y .4 .kept) comes
           where
-            by : (o : Option ℕ) → Kept o v m → ((f : Front) (l : List Action) (ms : List Macro) → run s a ms false p (replacement none f l) ≡ run s a ms false q (tagNumber o f l))
+            by : (o : Option ℕ) → Kept o v m → ((f : Front) (l : List Action) (pr : Prior) → run s a pr false p (replacement none f l) ≡ run s a pr false q (tagNumber o f l))
                 → ActionFrom s a p old out n k (NoEnd BadCall q)
             by none t g = absurd (true≢false (sym j ∙ t .1))
-            by (some w) t g = (in-file, λ f l u ms. g f l ms ∙ here-stop at-brace ms (tagNumber (some w) f l) badCall (tag-no w f l (rw u (z w (t .0)))))
+            by (some w) t g = (in-file, λ f l u pr. g f l pr ∙ here-stop at-brace pr (tagNumber (some w) f l) badCall (tag-no w f l (rw u (z w (t .0)))))
 
         brace-done : 1 ≤ v → v ≤ k → k ≤ 99 → Wrote old out n (41 ∷ v ∷ []) → ActionFrom s a p old out n k (Upto (q + 1) (n + 2))
         brace-done lo hi lim c = by (y .4 .value) (y .4 .kept) comes
           where
-            by : (o : Option ℕ) → Kept o v m → ((f : Front) (l : List Action) (ms : List Macro) → run s a ms false p (replacement none f l) ≡ run s a ms false q (tagNumber o f l))
+            by : (o : Option ℕ) → Kept o v m → ((f : Front) (l : List Action) (pr : Prior) → run s a pr false p (replacement none f l) ≡ run s a pr false q (tagNumber o f l))
                 → ActionFrom s a p old out n k (Upto (q + 1) (n + 2))
             by none t g = absurd (true≢false (sym j ∙ t .1))
             by (some w) t g =
                 let same : w ≡ v = most-same w v (t .0) (omega arith) in (
                   omega (arith, y .0),
                   acts-one (tag w) (rw (tag-items w, same) c) (rw (tag-items w) refl) (omega (arith, y .0)) (reached-behind (at-brace .stands))
-                      (λ f l u ms. g f l ms
-                      ∙ here-on at-brace ms (tagNumber (some w) f l) (replacement none f (tag w ∷ l)) (λ q o. refl) (tag-yes w f l (rw u (within-yes k w (omega arith) (omega arith))))),
+                      (λ f l u pr. g f l pr
+                      ∙ here-on at-brace pr (tagNumber (some w) f l) (replacement none f (tag w ∷ l)) (λ q o. refl) (tag-yes w f l (rw u (within-yes k w (omega arith) (omega arith))))),
                 )
 
     -- the `}` of a number out of range is a wrong byte too
     late : (f : FileFault) → b ≡ 125 → faultOf f ≡ wrongTag b → ActionFrom s a p old out n k (NoEnd BadCall q) → ActionFrom s a p old out n k (NoEnd f q)
-    late f h j x = (x .0, λ g l u ms. x .1 g l u ms ∙ ap (λ d. refusedAt d q) (wrong-brace ∙ (ap wrongTag (sym h) ∙ sym j)))
+    late f h j x = (x .0, λ g l u pr. x .1 g l u pr ∙ ap (λ d. refusedAt d q) (wrong-brace ∙ (ap wrongTag (sym h) ∙ sym j)))
 
     pub brace-refused : {w : Bool} → Unclosed b 125 m v k w → w ≡ true → (f : FileFault) → faultOf f ≡ wrongTag b → ActionFrom s a p old out n k (NoEnd f q)
     brace-refused {w} x e f j =
@@ -340,7 +341,7 @@ module _ (s : List ℕ) (a p : ℕ) (old out : List ℕ) (n k : ℕ) {v e : ℕ}
   pub acts-fault : {f : FileFault} {q : ℕ} {w : Ended} → r ≡ NoByte f q → w ≡ nextEnd r → ReplacedFrom s a p old out n k w
   acts-fault {f} {q} i j =
       let z : Passes s a v (NoByte f q) = rw i at y in
-      rw (j ∙ ap nextEnd i) (z .found, λ h u ms. g .answer h [] u ms ∙ z .answer (replacement none h (g .actions ++ [])) ms (part-skips none h (g .actions ++ [])))
+      rw (j ∙ ap nextEnd i) (z .found, λ h u pr. g .answer h [] u pr ∙ z .answer (replacement none h (g .actions ++ [])) pr (part-skips none h (g .actions ++ [])))
 
   module _ {b q : ℕ} (i : r ≡ Byte b q) where
     pub acts-byte : Passes s a v (Byte b q)
@@ -354,7 +355,7 @@ module _ (s : List ℕ) (a p : ℕ) (old out : List ℕ) (n k : ℕ) {v e : ℕ}
           used = g .used;
           room = omega (arith, g .room, acts-byte .found .0);
           reached = reached-at (acts-byte .found .1 .stands);
-          answer = λ f t u ms. g .answer f t u ms ∙ acts-byte .answer (replacement none f (g .actions ++ t)) ms (part-skips none f (g .actions ++ t));
+          answer = λ f t u pr. g .answer f t u pr ∙ acts-byte .answer (replacement none f (g .actions ++ t)) pr (part-skips none f (g .actions ++ t));
         }
 
     pub acts-quote : b ≡ 39 → ReplacedFrom s a p old out n k (Upto (q + 1) e)
@@ -367,14 +368,14 @@ module _ (s : List ℕ) (a p : ℕ) (old out : List ℕ) (n k : ℕ) {v e : ℕ}
           room = omega (arith, z .room, acts-byte .found .0);
           further = omega (arith, acts-byte .found .0);
           reached = reached-behind (acts-byte .found .1 .stands);
-          answer = λ f u ms. rw (append-nil (z .actions)) at (z .answer f [] u ms)
-              ∙ here-on (acts-byte .found .1) ms (replacement none f (z .actions)) (commands none f (z .actions) []) (λ q o. refl) (part-quote f (z .actions) b h);
+          answer = λ f u pr. rw (append-nil (z .actions)) at (z .answer f [] u pr)
+              ∙ here-on (acts-byte .found .1) pr (replacement none f (z .actions)) (commands none f (z .actions) []) (λ q o. refl) (part-quote f (z .actions) b h);
         }
 
     pub acts-fault-2 : (mid : List ℕ) {w : Ended} {f : FileFault} {z : ℕ} → ActionFrom s a q out mid e k w → w ≡ NoEnd f z → ReplacedFrom s a p old mid n k w
     acts-fault-2 mid {w} {f} {z} x j =
         let t : ActionFrom s a q out mid e k (NoEnd f z) = rw j at x in
-        rw j (t .0, λ h u ms. acts-pass .answer h [] u ms ∙ t .1 h (acts-pass .actions ++ []) u ms)
+        rw j (t .0, λ h u pr. acts-pass .answer h [] u pr ∙ t .1 h (acts-pass .actions ++ []) u pr)
 
     pub acts-next : {mid : List ℕ} {w : Ended} {z e′ : ℕ} → ActionFrom s a q out mid e k w → w ≡ Upto z e′ → (q < z) × Acts s a q out mid e k z e′
     acts-next x j = rw j at x

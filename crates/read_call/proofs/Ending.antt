@@ -1,7 +1,7 @@
 -- The ends of calls, whatever was read of them before.
 -- Assumes nothing.
 use mathlib.Core.Path.{_≡_, refl, ap, sym, _∙_}
-use mathlib.Core.Bool.{Bool, true, false, not, _&&_, _||_, true≢false, and-true, and-false}
+use mathlib.Core.Bool.{Bool, true, false, _&&_, _||_, true≢false, and-true, and-false}
 use mathlib.Core.List.{List, [], _∷_}
 use mathlib.Core.Option.{Option, none, some}
 use mathlib.Core.Logic.{⊎-elim, inl, inr, _⊎_}
@@ -11,12 +11,12 @@ use lib.Dec.{eqb, leb, ltb}
 use lib.ListN.{length}
 use borrow.Author.Tests.{eq-eqb, ne-eqb, eqb-true, le-leb, lt-leb, ltb-true, ltb-false}
 use Rattle.macros.specs.Refusals.FileRefusal.{badCall}
-use Rattle.macros.specs.Macro.{Macro, Mark, Move, Call, Sign, pick, within, asciiLower, digit, tags, among}
+use Rattle.macros.specs.Macro.{Mark, Move, Call, Sign, pick, within, asciiLower, digit, tags, among}
 use Rattle.macros.specs.Macro.Mark.{stack, counter}
 use Rattle.macros.specs.Macro.Move.{still, before, after}
 use Rattle.macros.specs.Macro.Call.{insert, storeTag, setTo, storeText, setIncrement}
 use Rattle.macros.specs.Formed.{numberFits, limit}
-use Rattle.macros.specs.Read.{Part, CallSite, Phase, callByte, isCommand, frontOf, behindCall, isSign, signOf, isStill, breaks, numberEnd as closing}
+use Rattle.macros.specs.Read.{Part, Prior, Site, CallSite, Phase, callByte, siteOf, mayInsert, mayStoreTag, behindCall, isSign, signOf, isStill, breaks, numberEnd as closing}
 use Rattle.macros.specs.ReadSoFar.Part.{calling, callText}
 use Rattle.macros.specs.ReadSoFar.Phase.{begun, signed, named, equals, increment, tagged, comma, tagSigned, tagNamed, texted}
 use Rattle.macros.specs.ReadCalls.Turn.{into, textOf, closed, wrong}
@@ -43,9 +43,9 @@ use Rattle.form_items.proofs.Writing.{wrote-more}
 use Rattle.read_call.proofs.Naming.{turn-closed, turn-unfit, call-next, call-none, here-wrong, here-into}
 
 -- a call read further
-pub ends-from : (s : List ℕ) (a p p′ : ℕ) (old out : List ℕ) (n x x′ : ℕ) (cmd : Bool) (k : ℕ) (F G : CallSite → Part) (r : Ended)
-    → p ≤ p′ → x′ ≤ x + 2 * (p′ - p) → Comes s a cmd k F p G p′ → Ends s a p′ old out n x′ cmd k G r → Ends s a p old out n x cmd k F r
-ends-from s a p p′ old out n x x′ cmd k F G (Upto q e) h j g y =
+pub ends-from : (s : List ℕ) (a p p′ : ℕ) (old out : List ℕ) (n x x′ : ℕ) (si : Site) (k : ℕ) (F G : CallSite → Part) (r : Ended)
+    → p ≤ p′ → x′ ≤ x + 2 * (p′ - p) → Comes s a si k F p G p′ → Ends s a p′ old out n x′ si k G r → Ends s a p old out n x si k F r
+ends-from s a p p′ old out n x x′ si k F G (Upto q e) h j g y =
     record {
       call = y .call;
       wrote = y .wrote;
@@ -53,32 +53,32 @@ ends-from s a p p′ old out n x x′ cmd k F G (Upto q e) h j g y =
       room = omega (arith, y .room, y .further);
       further = omega (arith, y .further);
       reached = y .reached;
-      answer = λ pl u v ms. g pl u v ms ∙ y .answer pl u v ms;
+      answer = λ pl u v pr. g pl u v pr ∙ y .answer pl u v pr;
     }
-ends-from s a p p′ old out n x x′ cmd k F G (NoEnd f q) h j g y = (y .0, λ pl u v ms. g pl u v ms ∙ y .1 pl u v ms)
+ends-from s a p p′ old out n x x′ si k F G (NoEnd f q) h j g y = (y .0, λ pl u v pr. g pl u v pr ∙ y .1 pl u v pr)
 
-module _ (s : List ℕ) (a p : ℕ) (old out : List ℕ) (n x : ℕ) (cmd : Bool) (k : ℕ) (F : CallSite → Part) {q : ℕ} (ph : Phase) (g : Comes s a cmd k F p (λ pl. calling pl ph) q) where
+module _ (s : List ℕ) (a p : ℕ) (old out : List ℕ) (n x : ℕ) (si : Site) (k : ℕ) (F : CallSite → Part) {q : ℕ} (ph : Phase) (g : Comes s a si k F p (λ pl. calling pl ph) q) where
   -- no byte more
-  pub ends-none : {r : Next} {f : FileFault} {v : ℕ} {w : Ended} → Calls s a q r → r ≡ NoByte f v → w ≡ nextEnd r → Ends s a p old out n x cmd k F w
+  pub ends-none : {r : Next} {f : FileFault} {v : ℕ} {w : Ended} → Calls s a q r → r ≡ NoByte f v → w ≡ nextEnd r → Ends s a p old out n x si k F w
   ends-none {r} {f} {v} y e i =
       let z : Calls s a q (NoByte f v) = rw e at y in
-      rw (i ∙ ap nextEnd e) (z .found, λ pl u t ms. g pl u t ms ∙ call-none pl ph ms z)
+      rw (i ∙ ap nextEnd e) (z .found, λ pl u t pr. g pl u t pr ∙ call-none pl ph pr z)
 
   module _ {c : ℕ} (y : Here s a q c) where
     -- a byte that cannot be
-    pub ends-wrong : (f : FileFault) → (c ≡ 32 → ⊥) → callByte cmd ph c ≡ wrong → faultOf f ≡ wrongCall c → Ends s a p old out n x cmd k F (NoEnd f q)
+    pub ends-wrong : (f : FileFault) → (c ≡ 32 → ⊥) → callByte si ph c ≡ wrong → faultOf f ≡ wrongCall c → Ends s a p old out n x si k F (NoEnd f q)
     ends-wrong f h e i =
         let t = y .stands in
-        (omega (arith, t .there), λ pl u v ms. g pl u v ms ∙ here-wrong pl ph ms y f h (rw u e) i)
+        (omega (arith, t .there), λ pl u v pr. g pl u v pr ∙ here-wrong pl ph pr y f h (rw u e) i)
 
     -- a number out of range
-    pub ends-unfit : (d : Call) → callByte cmd ph c ≡ closed d → numberFits k d ≡ false → Ends s a p old out n x cmd k F (NoEnd BadCall q)
+    pub ends-unfit : (d : Call) → callByte si ph c ≡ closed d → numberFits k d ≡ false → Ends s a p old out n x si k F (NoEnd BadCall q)
     ends-unfit d e h =
         let t = y .stands in
-        (omega (arith, t .there), λ pl u v ms. g pl u v ms ∙ here-stop y ms (calling pl ph) badCall (turn-unfit pl ph d c (rw u e) (rw v h)))
+        (omega (arith, t .there), λ pl u v pr. g pl u v pr ∙ here-stop y pr (calling pl ph) badCall (turn-unfit pl ph d c (rw u e) (rw v h)))
 
-    pub ends-closed : (d : Call) {e : ℕ} → callByte cmd ph c ≡ closed d → numberFits k d ≡ true → Wrote old out n (callItems d) → e ≡ n + length (callItems d)
-        → e ≤ n + x + 2 * (q + 1 - p) → p ≤ q → Ends s a p old out n x cmd k F (Upto (q + 1) e)
+    pub ends-closed : (d : Call) {e : ℕ} → callByte si ph c ≡ closed d → numberFits k d ≡ true → Wrote old out n (callItems d) → e ≡ n + length (callItems d)
+        → e ≤ n + x + 2 * (q + 1 - p) → p ≤ q → Ends s a p old out n x si k F (Upto (q + 1) e)
     ends-closed d e h w l m j =
         record {
           call = d;
@@ -87,7 +87,7 @@ module _ (s : List ℕ) (a p : ℕ) (old out : List ℕ) (n x : ℕ) (cmd : Bool
           room = m;
           further = omega arith;
           reached = reached-behind (y .stands);
-          answer = λ pl u v ms. g pl u v ms ∙ here-on y ms (calling pl ph) (behindCall pl d) (λ q o. refl) (turn-closed pl ph d c (rw u e) (rw v h));
+          answer = λ pl u v pr. g pl u v pr ∙ here-on y pr (calling pl ph) (behindCall pl d) (λ q o. refl) (turn-closed pl ph d c (rw u e) (rw v h));
         }
 
 -- NUMBERS
@@ -142,20 +142,20 @@ module _ (s : List ℕ) (a p : ℕ) (old out : List ℕ) (n code i top : ℕ) {r
   pub set-none : {f : FileFault} {q : ℕ} {w : Ended} → r ≡ NoNumber f q → w ≡ numberEnd r → SetFrom s a p old out n code i top w
   set-none {f} {q} e j =
       let z : Counts s a p true (NoNumber f q) = rw e at y in
-      rw (j ∙ ap numberEnd e) (λ ph c g cmd k. (z .0, λ pl u v ms. z .1 (λ o. calling pl (ph o)) (g .eats pl) ms))
+      rw (j ∙ ap numberEnd e) (λ ph c g si k. (z .0, λ pl u v pr. z .1 (λ o. calling pl (ph o)) (g .eats pl) pr))
 
   module _ {v : ℕ} {m : Bool} {b q : ℕ} (e : r ≡ Got v m b q) where
     pub set-byte : Counts s a p true (Got v m b q)
     set-byte = rw e at y
 
-    comes : (ph : Option ℕ → Phase) (c : ℕ → Call) → Sets code i top ph c → (cmd : Bool) (k : ℕ)
-        → Comes s a cmd k (λ pl. calling pl (ph none)) p (λ pl. calling pl (ph (set-byte .4 .value))) q
-    comes ph c g cmd k pl u t ms = set-byte .4 .answer (λ o. calling pl (ph o)) (g .eats pl) ms
+    comes : (ph : Option ℕ → Phase) (c : ℕ → Call) → Sets code i top ph c → (si : Site) (k : ℕ)
+        → Comes s a si k (λ pl. calling pl (ph none)) p (λ pl. calling pl (ph (set-byte .4 .value))) q
+    comes ph c g si k pl u t pr = set-byte .4 .answer (λ o. calling pl (ph o)) (g .eats pl) pr
 
     set-wrong : (f : FileFault) → (b ≡ 41 → ⊥) → faultOf f ≡ wrongCall b → SetFrom s a p old out n code i top (NoEnd f q)
-    set-wrong f h j ph c g cmd k =
-        ends-wrong s a p old out n 4 cmd k (λ pl. calling pl (ph none)) (ph (set-byte .4 .value)) (comes ph c g cmd k) (set-byte .1) f (set-byte .2 .1 refl)
-        (g .others cmd (set-byte .4 .value) b (set-byte .2 .0) h) j
+    set-wrong f h j ph c g si k =
+        ends-wrong s a p old out n 4 si k (λ pl. calling pl (ph none)) (ph (set-byte .4 .value)) (comes ph c g si k) (set-byte .1) f (set-byte .2 .1 refl)
+        (g .others si (set-byte .4 .value) b (set-byte .2 .0) h) j
 
     module _ (h : b ≡ 41) where
       at-close : Here s a q 41
@@ -163,35 +163,35 @@ module _ (s : List ℕ) (a p : ℕ) (old out : List ℕ) (n code i top : ℕ) {r
 
       set-empty : m ≡ false → SetFrom s a p old out n code i top (NoEnd BadCall q)
       unfolding closing
-      set-empty j ph c g cmd k = by (set-byte .4 .value) (set-byte .4 .kept) (comes ph c g cmd k)
+      set-empty j ph c g si k = by (set-byte .4 .value) (set-byte .4 .kept) (comes ph c g si k)
         where
-          by : (o : Option ℕ) → Kept o v m → Comes s a cmd k (λ pl. calling pl (ph none)) p (λ pl. calling pl (ph o)) q
-              → Ends s a p old out n 4 cmd k (λ pl. calling pl (ph none)) (NoEnd BadCall q)
+          by : (o : Option ℕ) → Kept o v m → Comes s a si k (λ pl. calling pl (ph none)) p (λ pl. calling pl (ph o)) q
+              → Ends s a p old out n 4 si k (λ pl. calling pl (ph none)) (NoEnd BadCall q)
           by none t l =
-              ends-wrong s a p old out n 4 cmd k (λ pl. calling pl (ph none)) (ph none) l at-close BadCall (omega arith) (g .closes cmd none) wrong-close
+              ends-wrong s a p old out n 4 si k (λ pl. calling pl (ph none)) (ph none) l at-close BadCall (omega arith) (g .closes si none) wrong-close
           by (some w) t l = absurd (true≢false (sym (t .1) ∙ j))
 
       module _ (j : m ≡ true) where
-        number : (o : Option ℕ) → Kept o v m → (ph : Option ℕ → Phase) (c : ℕ → Call) → Sets code i top ph c → (cmd : Bool) (k : ℕ)
-            → Comes s a cmd k (λ pl. calling pl (ph none)) p (λ pl. calling pl (ph o)) q → (e′ : Ended)
-            → ((w : ℕ) → v ≡ most w → Comes s a cmd k (λ pl. calling pl (ph none)) p (λ pl. calling pl (ph (some w))) q → callByte cmd (ph (some w)) 41 ≡ closed (c w)
-            → Ends s a p old out n 4 cmd k (λ pl. calling pl (ph none)) e′)
-            → Ends s a p old out n 4 cmd k (λ pl. calling pl (ph none)) e′
+        number : (o : Option ℕ) → Kept o v m → (ph : Option ℕ → Phase) (c : ℕ → Call) → Sets code i top ph c → (si : Site) (k : ℕ)
+            → Comes s a si k (λ pl. calling pl (ph none)) p (λ pl. calling pl (ph o)) q → (e′ : Ended)
+            → ((w : ℕ) → v ≡ most w → Comes s a si k (λ pl. calling pl (ph none)) p (λ pl. calling pl (ph (some w))) q → callByte si (ph (some w)) 41 ≡ closed (c w)
+            → Ends s a p old out n 4 si k (λ pl. calling pl (ph none)) e′)
+            → Ends s a p old out n 4 si k (λ pl. calling pl (ph none)) e′
         unfolding closing
-        number none t ph c g cmd k l e′ f = absurd (true≢false (sym j ∙ t .1))
-        number (some w) t ph c g cmd k l e′ f = f w (t .0) l (g .closes cmd (some w))
+        number none t ph c g si k l e′ f = absurd (true≢false (sym j ∙ t .1))
+        number (some w) t ph c g si k l e′ f = f w (t .0) l (g .closes si (some w))
 
         set-unfit : ((w : ℕ) → v ≡ most w → within 1 top w ≡ false) → SetFrom s a p old out n code i top (NoEnd BadCall q)
-        set-unfit z ph c g cmd k =
-            number (set-byte .4 .value) (set-byte .4 .kept) ph c g cmd k (comes ph c g cmd k) (NoEnd BadCall q) (λ w t l f.
-            ends-unfit s a p old out n 4 cmd k (λ pl. calling pl (ph none)) (ph (some w)) l at-close (c w) f (g .fits k w ∙ z w t))
+        set-unfit z ph c g si k =
+            number (set-byte .4 .value) (set-byte .4 .kept) ph c g si k (comes ph c g si k) (NoEnd BadCall q) (λ w t l f.
+            ends-unfit s a p old out n 4 si k (λ pl. calling pl (ph none)) (ph (some w)) l at-close (c w) f (g .fits k w ∙ z w t))
 
         set-done : {mid : List ℕ} → 1 ≤ v → v ≤ top → top ≤ 999999999 → Wrote old mid n (code ∷ i ∷ []) → Wrote mid out (n + 2) (four v)
             → SetFrom s a p old out n code i top (Upto (q + 1) (n + 6))
-        set-done {mid} lo hi lim w₁ w₂ ph c g cmd k =
-            number (set-byte .4 .value) (set-byte .4 .kept) ph c g cmd k (comes ph c g cmd k) (Upto (q + 1) (n + 6)) (λ w t l f.
+        set-done {mid} lo hi lim w₁ w₂ ph c g si k =
+            number (set-byte .4 .value) (set-byte .4 .kept) ph c g si k (comes ph c g si k) (Upto (q + 1) (n + 6)) (λ w t l f.
             let same : w ≡ v = most-same w v t (omega arith) in
-            ends-closed s a p old out n 4 cmd k (λ pl. calling pl (ph none)) (ph (some w)) l at-close (c w) f
+            ends-closed s a p old out n 4 si k (λ pl. calling pl (ph none)) (ph (some w)) l at-close (c w) f
             (g .fits k w ∙ within-yes top w (omega arith) (omega arith))
             (rw (g .items w, same) (wrote-more {l = code ∷ i ∷ []} w₁ w₂))
             (rw (g .items w) (set-size n code i w))
@@ -199,7 +199,7 @@ module _ (s : List ℕ) (a p : ℕ) (old out : List ℕ) (n code i top : ℕ) {r
 
     -- the `)` of a number out of range is a wrong byte too
     late : (f : FileFault) → b ≡ 41 → faultOf f ≡ wrongCall b → SetFrom s a p old out n code i top (NoEnd BadCall q) → SetFrom s a p old out n code i top (NoEnd f q)
-    late f h j x ph c g cmd k = let z = x ph c g cmd k in (z .0, λ pl u t ms. z .1 pl u t ms ∙ ap (λ d. refusedAt d q) (wrong-close ∙ (ap wrongCall (sym h) ∙ sym j)))
+    late f h j x ph c g si k = let z = x ph c g si k in (z .0, λ pl u t pr. z .1 pl u t pr ∙ ap (λ d. refusedAt d q) (wrong-close ∙ (ap wrongCall (sym h) ∙ sym j)))
 
     pub set-refused : {w : Bool} → Unclosed b 41 m v top w → w ≡ true → (f : FileFault) → faultOf f ≡ wrongCall b → SetFrom s a p old out n code i top (NoEnd f q)
     set-refused {w} x e′ f j =
@@ -231,51 +231,50 @@ signs c x e = by (eqb c 43) (eqb c 45) x refl refl e
     by false true false f g h = absurd (true≢false (sym h))
     by false false w f g h = absurd (true≢false (sym h))
 
-tag-moved : (cmd : Bool) (w i d : ℕ) → (isSign d && true) ≡ true → callByte cmd (tagNamed w i still) d ≡ into (tagNamed w i (after (signOf d)))
+tag-moved : (si : Site) (w i d : ℕ) → (isSign d && true) ≡ true → callByte si (tagNamed w i still) d ≡ into (tagNamed w i (after (signOf d)))
 unfolding callByte pick isStill isSign
-tag-moved cmd w i d e = ⊎-elim (λ f. rw f refl) (λ f. rw f refl) (signs d true e .0)
+tag-moved si w i d e = ⊎-elim (λ f. rw f refl) (λ f. rw f refl) (signs d true e .0)
 
-stack-first : (cmd : Bool) (b : ℕ) → digit b ≡ false
-    → callByte cmd (begun stack) b ≡ pick (isSign b && true) (into (signed stack (signOf b))) (pick (asciiLower b) (into (named stack b still)) wrong)
+stack-first : (si : Site) (b : ℕ) → (digit b && mayStoreTag si) ≡ false
+    → callByte si (begun stack) b ≡ pick (isSign b && true) (into (signed stack (signOf b))) (pick (asciiLower b) (into (named stack b still)) wrong)
 unfolding callByte pick
-stack-first cmd b h = simp (h, and-true)
+stack-first si b h = simp (h, and-true)
 
-stack-moved : (cmd : Bool) (i d : ℕ) → (isSign d && true) ≡ true → callByte cmd (named stack i still) d ≡ into (named stack i (after (signOf d)))
+stack-moved : (si : Site) (i d : ℕ) → (isSign d && true) ≡ true → callByte si (named stack i still) d ≡ into (named stack i (after (signOf d)))
 unfolding callByte pick isStill isSign
-stack-moved cmd i d e = ⊎-elim (λ f. rw f refl) (λ f. rw f refl) (signs d true e .0)
+stack-moved si i d e = ⊎-elim (λ f. rw f refl) (λ f. rw f refl) (signs d true e .0)
 
-counter-moved : (cmd : Bool) (i d : ℕ) → (isSign d && not cmd) ≡ true → callByte cmd (named counter i still) d ≡ into (named counter i (after (signOf d)))
+counter-moved : (si : Site) (i d : ℕ) → (isSign d && mayInsert si) ≡ true → callByte si (named counter i still) d ≡ into (named counter i (after (signOf d)))
 unfolding callByte pick isStill isSign
-counter-moved true i d e = absurd (true≢false (sym (signs d false e .1)))
-counter-moved false i d e = ⊎-elim (λ f. rw f refl) (λ f. rw f refl) (signs d true e .0)
+counter-moved si i d e = let g = signs d (mayInsert si) e in ⊎-elim (λ f. rw f (rw (g .1) refl)) (λ f. rw f (rw (g .1) refl)) (g .0)
 
-pub names-comma : (cmd : Bool) (c w : ℕ) → Names cmd true c (comma w) (tagSigned w) (tagNamed w)
+pub names-comma : (si : Site) (c w : ℕ) → Names si true c (comma w) (tagSigned w) (tagNamed w)
 unfolding callByte
-names-comma cmd c w = record { first = rw (and-true (isSign c)) refl; second = λ x d. refl; third = λ i d e. tag-moved cmd w i d e }
+names-comma si c w = record { first = rw (and-true (isSign c)) refl; second = λ x d. refl; third = λ i d e. tag-moved si w i d e }
 
-pub names-stack : (cmd : Bool) (b : ℕ) → digit b ≡ false → Names cmd true b (begun stack) (signed stack) (named stack)
+pub names-stack : (si : Site) (b : ℕ) → (digit b && mayStoreTag si) ≡ false → Names si true b (begun stack) (signed stack) (named stack)
 unfolding callByte
-names-stack cmd b h = record { first = stack-first cmd b h; second = λ x d. refl; third = λ i d e. stack-moved cmd i d e }
+names-stack si b h = record { first = stack-first si b h; second = λ x d. refl; third = λ i d e. stack-moved si i d e }
 
-pub names-counter : (cmd : Bool) (b : ℕ) → Names cmd (not cmd) b (begun counter) (signed counter) (named counter)
+pub names-counter : (si : Site) (b : ℕ) → Names si (mayInsert si) b (begun counter) (signed counter) (named counter)
 unfolding callByte
-names-counter cmd b = record { first = refl; second = λ x d. refl; third = λ i d e. counter-moved cmd i d e }
+names-counter si b = record { first = refl; second = λ x d. refl; third = λ i d e. counter-moved si i d e }
 
-tag-comma : (cmd : Bool) (w b : ℕ) → b ≡ 44 → callByte cmd (tagged w) b ≡ into (comma w)
+tag-comma : (si : Site) (w b : ℕ) → b ≡ 44 → callByte si (tagged w) b ≡ into (comma w)
 unfolding callByte pick digit within
-tag-comma cmd w b e = simp e
+tag-comma si w b e = simp e
 
-tag-stray : (cmd : Bool) (w b : ℕ) → digit b ≡ false → (b ≡ 44 → ⊥) → callByte cmd (tagged w) b ≡ wrong
+tag-stray : (si : Site) (w b : ℕ) → digit b ≡ false → (b ≡ 44 → ⊥) → callByte si (tagged w) b ≡ wrong
 unfolding callByte pick
-tag-stray cmd w b h e = simp (h, ne-eqb _ _ e)
+tag-stray si w b h e = simp (h, ne-eqb _ _ e)
 
-tag-close : (cmd : Bool) (w i b : ℕ) (v : Move) → b ≡ 41 → callByte cmd (tagNamed w i v) b ≡ closed (storeTag w i v)
+tag-close : (si : Site) (w i b : ℕ) (v : Move) → b ≡ 41 → callByte si (tagNamed w i v) b ≡ closed (storeTag w i v)
 unfolding callByte pick
-tag-close cmd w i b v e = simp e
+tag-close si w i b v e = simp e
 
-tag-unclosed : (cmd : Bool) (w i b : ℕ) (v : Move) → (b ≡ 41 → ⊥) → (isSign b && isStill v) ≡ false → callByte cmd (tagNamed w i v) b ≡ wrong
+tag-unclosed : (si : Site) (w i b : ℕ) (v : Move) → (b ≡ 41 → ⊥) → (isSign b && isStill v) ≡ false → callByte si (tagNamed w i v) b ≡ wrong
 unfolding callByte pick
-tag-unclosed cmd w i b v e f = simp (ne-eqb _ _ e, f)
+tag-unclosed si w i b v e f = simp (ne-eqb _ _ e, f)
 
 tag-fits : (k w i : ℕ) (v : Move) → numberFits k (storeTag w i v) ≡ within 1 k w
 unfolding numberFits
@@ -289,23 +288,23 @@ module _ {s : List ℕ} {a p b : ℕ} (x : Here s a p b) where
   pub tag-wrong : (f : FileFault) → (b ≡ 32 → ⊥) → digit b ≡ false → (b ≡ 44 → ⊥) → faultOf f ≡ wrongCall b → TagNaming s a p (NoName f p)
   tag-wrong f g h e i =
       let t = x .stands in
-      (omega (arith, t .there), λ w pl ms. here-wrong pl (tagged w) ms x f g (tag-stray (isCommand pl) w b h e) i)
+      (omega (arith, t .there), λ w pl pr. here-wrong pl (tagged w) pr x f g (tag-stray (siteOf pl) w b h e) i)
 
   module _ (e : b ≡ 44) {r : Next} (y : Calls s a (p + 1) r) where
-    at-comma : (w : ℕ) (pl : CallSite) (ms : List Macro) → run s a ms false p (calling pl (tagged w)) ≡ run s a ms false (p + 1) (calling pl (comma w))
-    at-comma w pl ms = here-into pl (tagged w) ms x (comma w) (tag-comma (isCommand pl) w b e)
+    at-comma : (w : ℕ) (pl : CallSite) (pr : Prior) → run s a pr false p (calling pl (tagged w)) ≡ run s a pr false (p + 1) (calling pl (comma w))
+    at-comma w pl pr = here-into pl (tagged w) pr x (comma w) (tag-comma (siteOf pl) w b e)
 
     pub tag-none : {f : FileFault} {q : ℕ} {z : Name} → r ≡ NoByte f q → z ≡ nextName r → TagNaming s a p z
     tag-none {f} {q} i j =
         let z : Calls s a (p + 1) (NoByte f q) = rw i at y in
-        rw (j ∙ ap nextName i) (z .found, λ w pl ms. at-comma w pl ms ∙ call-none pl (comma w) ms z)
+        rw (j ∙ ap nextName i) (z .found, λ w pl pr. at-comma w pl pr ∙ call-none pl (comma w) pr z)
 
     module _ {c q : ℕ} (i : r ≡ Byte c q) where
       pub tag-byte : Calls s a (p + 1) (Byte c q)
       tag-byte = rw i at y
 
-      behind : (w : ℕ) (pl : CallSite) (ms : List Macro) → run s a ms false p (calling pl (tagged w)) ≡ run s a ms false q (calling pl (comma w))
-      behind w pl ms = at-comma w pl ms ∙ call-next pl (comma w) ms tag-byte
+      behind : (w : ℕ) (pl : CallSite) (pr : Prior) → run s a pr false p (calling pl (tagged w)) ≡ run s a pr false q (calling pl (comma w))
+      behind w pl pr = at-comma w pl pr ∙ call-next pl (comma w) pr tag-byte
 
       pub tag-named : (w : Name) → Naming s a q c true w → TagNaming s a p w
       tag-named (GotName i m d u) z =
@@ -317,35 +316,35 @@ module _ {s : List ℕ} {a p b : ℕ} (x : Here s a p b) where
             solid = z .solid;
             further = omega (arith, f .0, z .further);
             last = z .last;
-            answer = λ w pl ms. behind w pl ms ∙ z .answer pl (comma w) (tagSigned w) (tagNamed w) (names-comma (isCommand pl) c w) ms;
+            answer = λ w pl pr. behind w pl pr ∙ z .answer pl (comma w) (tagSigned w) (tagNamed w) (names-comma (siteOf pl) c w) pr;
           }
-      tag-named (NoName f u) z = (z .0, λ w pl ms. behind w pl ms ∙ z .1 pl (comma w) (tagSigned w) (tagNamed w) (names-comma (isCommand pl) c w) ms)
+      tag-named (NoName f u) z = (z .0, λ w pl pr. behind w pl pr ∙ z .1 pl (comma w) (tagSigned w) (tagNamed w) (names-comma (siteOf pl) c w) pr)
 
 module _ (s : List ℕ) (a p : ℕ) (old out : List ℕ) (n v k : ℕ) {r : Name} (z : TagNaming s a p r) where
   pub tag-noname : {f : FileFault} {u : ℕ} {o : Ended} → r ≡ NoName f u → o ≡ nameEnd r → TagFrom s a p old out n v k o
   tag-noname {f} {u} j h =
       let l : TagNaming s a p (NoName f u) = rw j at z in
-      rw (h ∙ ap nameEnd j) (λ w m cmd. (l .0, λ pl g t ms. l .1 w pl ms))
+      rw (h ∙ ap nameEnd j) (λ w m si. (l .0, λ pl g t pr. l .1 w pl pr))
 
   module _ {i m d u : ℕ} (j : r ≡ GotName i m d u) where
     pub tag-letter : TagLetter s a p i m d u
     tag-letter = rw j at z
 
-    named-tag : (w : ℕ) (cmd : Bool) → Comes s a cmd k (λ pl. calling pl (tagged w)) p (λ pl. calling pl (tagNamed w i (tag-letter .move))) u
-    named-tag w cmd pl g t ms = tag-letter .answer w pl ms
+    named-tag : (w : ℕ) (si : Site) → Comes s a si k (λ pl. calling pl (tagged w)) p (λ pl. calling pl (tagNamed w i (tag-letter .move))) u
+    named-tag w si pl g t pr = tag-letter .answer w pl pr
 
     tag-open : (f : FileFault) → (d ≡ 41 → ⊥) → faultOf f ≡ wrongCall d → TagFrom s a p old out n v k (NoEnd f u)
-    tag-open f g h w l cmd =
-        ends-wrong s a p old out n 0 cmd k (λ pl. calling pl (tagged w)) (tagNamed w i (tag-letter .move)) (named-tag w cmd) (tag-letter .here) f (tag-letter .solid)
-        (tag-unclosed cmd w i d (tag-letter .move) g (joined (isSign d) (isStill (tag-letter .move)) (tag-letter .last))) h
+    tag-open f g h w l si =
+        ends-wrong s a p old out n 0 si k (λ pl. calling pl (tagged w)) (tagNamed w i (tag-letter .move)) (named-tag w si) (tag-letter .here) f (tag-letter .solid)
+        (tag-unclosed si w i d (tag-letter .move) g (joined (isSign d) (isStill (tag-letter .move)) (tag-letter .last))) h
 
     tag-unfit : d ≡ 41 → ((w : ℕ) → v ≡ most w → within 1 k w ≡ false) → (f : FileFault) → faultOf f ≡ wrongCall d → TagFrom s a p old out n v k (NoEnd f u)
-    tag-unfit g h f j w l cmd =
+    tag-unfit g h f j w l si =
         let y =
-        ends-unfit s a p old out n 0 cmd k (λ pl. calling pl (tagged w)) (tagNamed w i (tag-letter .move)) (named-tag w cmd) (tag-letter .here)
-        (storeTag w i (tag-letter .move)) (tag-close cmd w i d (tag-letter .move) g) (tag-fits k w i (tag-letter .move) ∙ h w l)
+        ends-unfit s a p old out n 0 si k (λ pl. calling pl (tagged w)) (tagNamed w i (tag-letter .move)) (named-tag w si) (tag-letter .here)
+        (storeTag w i (tag-letter .move)) (tag-close si w i d (tag-letter .move) g) (tag-fits k w i (tag-letter .move) ∙ h w l)
         in
-        (y .0, λ pl x t ms. y .1 pl x t ms ∙ ap (λ c. refusedAt c u) (wrong-close ∙ (ap wrongCall (sym g) ∙ sym j)))
+        (y .0, λ pl x t pr. y .1 pl x t pr ∙ ap (λ c. refusedAt c u) (wrong-close ∙ (ap wrongCall (sym g) ∙ sym j)))
 
     pub tag-refused : {w : Bool} → Unclosed d 41 true v k w → w ≡ true → (f : FileFault) → faultOf f ≡ wrongCall d → TagFrom s a p old out n v k (NoEnd f u)
     tag-refused {w} x e f j =
@@ -357,14 +356,14 @@ module _ (s : List ℕ) (a p : ℕ) (old out : List ℕ) (n v k : ℕ) {r : Name
 
     pub tag-done : {w : Bool} {mid : List ℕ} → Unclosed d 41 true v k w → w ≡ false → k ≤ 99 → Wrote old mid n ((64 + m) ∷ i ∷ []) → Wrote mid out (n + 2) (42 ∷ v ∷ [])
         → TagFrom s a p old out n v k (Upto (u + 1) (n + 4))
-    tag-done {w} x e lim w₁ w₂ o l cmd =
+    tag-done {w} x e lim w₁ w₂ o l si =
         let y : Unclosed d 41 true v k false = rw e at x in
         let lo = y .2 in
         let hi = y .3 in
         let same : o ≡ v = most-same o v l (omega (arith, hi)) in
         let t = tag-letter in
-        ends-closed s a p old out n 0 cmd k (λ pl. calling pl (tagged o)) (tagNamed o i (t .move)) (named-tag o cmd) (t .here)
-        (storeTag o i (t .move)) (tag-close cmd o i d (t .move) (y .0)) (tag-fits k o i (t .move) ∙ within-yes k o (omega (arith, lo)) (omega (arith, hi)))
+        ends-closed s a p old out n 0 si k (λ pl. calling pl (tagged o)) (tagNamed o i (t .move)) (named-tag o si) (t .here)
+        (storeTag o i (t .move)) (tag-close si o i d (t .move) (y .0)) (tag-fits k o i (t .move) ∙ within-yes k o (omega (arith, lo)) (omega (arith, hi)))
         (rw (tag-items o i (t .move), ← t .code, same) (wrote-more {l = (64 + m) ∷ i ∷ []} w₁ w₂))
         (rw (tag-items o i (t .move)) refl)
         (omega (arith, t .further)) (omega (arith, t .further))

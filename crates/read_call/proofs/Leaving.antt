@@ -1,11 +1,11 @@
 -- What is left in the lent bytes: zeros behind a refusal.
 -- Assumes nothing.
 use mathlib.Core.Path.{_≡_, ap, _∙_}
-use mathlib.Core.Bool.{Bool}
 use mathlib.Core.List.{List}
 use Prim.Native.Nat.{ℕ}
 use lib.ListN.{length, replicate, length-replicate}
 use Rattle.macros.specs.Macro.{Mark}
+use Rattle.macros.specs.Read.{Site}
 use Rattle.form_items.specs.Items.{Wrote}
 use Rattle.read_scan.specs.declared.FileFault.{FileFault}
 use Rattle.read_call.specs.Call.{CalledFrom, CallRead, Zeroed, leftBy}
@@ -28,7 +28,7 @@ zeroed old mid (Upto q e) o l = tt
 zeroed old mid (NoEnd f q) o l = o ∙ ap (λ (n : ℕ). replicate {A = ℕ} n 0) l
 
 -- a whole call
-pub call-left : {s : List ℕ} {a p : ℕ} {old : List ℕ} (mid : List ℕ) {out : List ℕ} {n : ℕ} {m : Mark} {cmd : Bool} {k : ℕ} (r : Ended) → CalledFrom s a p old mid n m cmd k r → out ≡ leftBy mid r
-    → length mid ≡ length old → CallRead s a p old out n m cmd k r
+pub call-left : {s : List ℕ} {a p : ℕ} {old : List ℕ} (mid : List ℕ) {out : List ℕ} {n : ℕ} {m : Mark} {si : Site} {k : ℕ} (r : Ended) → CalledFrom s a p old mid n m si k r → out ≡ leftBy mid r
+    → length mid ≡ length old → CallRead s a p old out n m si k r
 call-left mid (Upto q e) x o l = record { from = rw o x; zeros = tt }
 call-left {s} {a} {p} {old} mid (NoEnd f q) x o l = record { from = x; zeros = zeroed old mid (NoEnd f q) o l }

@@ -9,12 +9,12 @@ use native.Mathlib.Omega.{arith}
 use lib.Dec.{eqb, ltb}
 use lib.ListN.{length}
 use borrow.Author.Tests.{ne-eqb, ltb-true, ltb-false}
-use Rattle.macros.specs.Macro.{Macro, Mark, Move, Call, Sign, pick, within, asciiLower, digit}
+use Rattle.macros.specs.Macro.{Mark, Move, Call, Sign, pick, within, asciiLower, digit}
 use Rattle.macros.specs.Macro.Mark.{stack, counter}
 use Rattle.macros.specs.Macro.Move.{still, before, after}
 use Rattle.macros.specs.Macro.Call.{insert, setTo, setIncrement, divide}
 use Rattle.macros.specs.Formed.{numberFits, limit}
-use Rattle.macros.specs.Read.{Part, CallSite, Phase, callByte, isCommand, isSign, isStill, numberEnd as closing}
+use Rattle.macros.specs.Read.{Site, CallSite, callByte, siteOf, mayInsert, mayStoreTag, isSign, isStill}
 use Rattle.macros.specs.ReadSoFar.Part.{calling, callText}
 use Rattle.macros.specs.ReadSoFar.Phase.{begun, signed, named, equals, increment, divisor, tagged}
 use Rattle.macros.specs.ReadCalls.Turn.{into, textOf, closed, wrong}
@@ -41,102 +41,103 @@ use Rattle.read_call.proofs.Ending.{ends-from, ends-none, ends-wrong, e
 
 -- BYTES BEHIND A LETTER
 
-pub stack-colon : (cmd : Bool) (i c : ℕ) (v : Move) → c ≡ 58 → callByte cmd (named stack i v) c ≡ textOf i v
+pub stack-colon : (si : Site) (i c : ℕ) (v : Move) → c ≡ 58 → callByte si (named stack i v) c ≡ textOf i v
 unfolding callByte pick
-stack-colon cmd i c v e = rw e refl
+stack-colon si i c v e = rw e refl
 
-pub stack-equal : (cmd : Bool) (i c m : ℕ) (v : Move) → c ≡ 61 → m ≡ moveCode v → m ≤ 0 → callByte cmd (named stack i v) c ≡ into (equals stack i none)
+pub stack-equal : (si : Site) (i c m : ℕ) (v : Move) → c ≡ 61 → m ≡ moveCode v → m ≤ 0 → callByte si (named stack i v) c ≡ into (equals stack i none)
 unfolding callByte pick isStill
-stack-equal cmd i c m v e f g = rw (e, code-none v (omega (arith, f))) refl
+stack-equal si i c m v e f g = rw (e, code-none v (omega (arith, f))) refl
 
-pub stack-unequal : (cmd : Bool) (i c m : ℕ) (v : Move) → c ≡ 61 → m ≡ moveCode v → 0 < m → callByte cmd (named stack i v) c ≡ wrong
+pub stack-unequal : (si : Site) (i c m : ℕ) (v : Move) → c ≡ 61 → m ≡ moveCode v → 0 < m → callByte si (named stack i v) c ≡ wrong
 unfolding callByte pick isSign
-stack-unequal cmd i c m v e f g = rw (e, code-some v (omega (arith, f))) refl
+stack-unequal si i c m v e f g = rw (e, code-some v (omega (arith, f))) refl
 
-pub stack-command : (cmd : Bool) (i c : ℕ) (v : Move) → c ≡ 41 → cmd ≡ true → callByte cmd (named stack i v) c ≡ wrong
+pub stack-uninserted : (si : Site) (i c : ℕ) (v : Move) → c ≡ 41 → mayInsert si ≡ false → callByte si (named stack i v) c ≡ wrong
 unfolding callByte pick isSign
-stack-command cmd i c v e f = rw (e, f) refl
+stack-uninserted si i c v e f = rw (e, f) refl
 
-pub stack-close : (cmd : Bool) (i c : ℕ) (v : Move) → c ≡ 41 → cmd ≡ false → callByte cmd (named stack i v) c ≡ closed (insert stack i v)
+pub stack-close : (si : Site) (i c : ℕ) (v : Move) → c ≡ 41 → mayInsert si ≡ true → callByte si (named stack i v) c ≡ closed (insert stack i v)
 unfolding callByte pick
-stack-close cmd i c v e f = rw (e, f) refl
+stack-close si i c v e f = rw (e, f) refl
 
-pub stack-strange : (cmd : Bool) (i c : ℕ) (v : Move) → (c ≡ 58 → ⊥) → (c ≡ 61 → ⊥) → (c ≡ 41 → ⊥) → (isStill v ≡ true → (isSign c && true) ≡ false)
-    → callByte cmd (named stack i v) c ≡ wrong
+pub stack-strange : (si : Site) (i c : ℕ) (v : Move) → (c ≡ 58 → ⊥) → (c ≡ 61 → ⊥) → (c ≡ 41 → ⊥) → (isStill v ≡ true → (isSign c && true) ≡ false)
+    → callByte si (named stack i v) c ≡ wrong
 unfolding callByte pick
-stack-strange cmd i c v e f g h = simp (ne-eqb _ _ e, ne-eqb _ _ f, ne-eqb _ _ g, joined (isSign c) (isStill v) h)
+stack-strange si i c v e f g h = simp (ne-eqb _ _ e, ne-eqb _ _ f, ne-eqb _ _ g, joined (isSign c) (isStill v) h)
 
-pub counter-comma : (cmd : Bool) (i c m : ℕ) (v : Move) → c ≡ 44 → m ≡ moveCode v → m ≤ 0 → callByte cmd (named counter i v) c ≡ into (increment i none)
+pub counter-comma : (si : Site) (i c m : ℕ) (v : Move) → c ≡ 44 → m ≡ moveCode v → m ≤ 0 → callByte si (named counter i v) c ≡ into (increment i none)
 unfolding callByte pick isStill
-counter-comma cmd i c m v e f g = rw (e, code-none v (omega (arith, f))) refl
+counter-comma si i c m v e f g = rw (e, code-none v (omega (arith, f))) refl
 
-pub counter-uncomma : (cmd : Bool) (i c m : ℕ) (v : Move) → c ≡ 44 → m ≡ moveCode v → 0 < m → callByte cmd (named counter i v) c ≡ wrong
+pub counter-uncomma : (si : Site) (i c m : ℕ) (v : Move) → c ≡ 44 → m ≡ moveCode v → 0 < m → callByte si (named counter i v) c ≡ wrong
 unfolding callByte pick isSign
-counter-uncomma cmd i c m v e f g = rw (e, code-some v (omega (arith, f))) refl
+counter-uncomma si i c m v e f g = rw (e, code-some v (omega (arith, f))) refl
 
-pub counter-equal : (cmd : Bool) (i c m : ℕ) (v : Move) → c ≡ 61 → m ≡ moveCode v → m ≤ 0 → callByte cmd (named counter i v) c ≡ into (equals counter i none)
+pub counter-equal : (si : Site) (i c m : ℕ) (v : Move) → c ≡ 61 → m ≡ moveCode v → m ≤ 0 → callByte si (named counter i v) c ≡ into (equals counter i none)
 unfolding callByte pick isStill
-counter-equal cmd i c m v e f g = rw (e, code-none v (omega (arith, f))) refl
+counter-equal si i c m v e f g = rw (e, code-none v (omega (arith, f))) refl
 
-pub counter-unequal : (cmd : Bool) (i c m : ℕ) (v : Move) → c ≡ 61 → m ≡ moveCode v → 0 < m → callByte cmd (named counter i v) c ≡ wrong
+pub counter-unequal : (si : Site) (i c m : ℕ) (v : Move) → c ≡ 61 → m ≡ moveCode v → 0 < m → callByte si (named counter i v) c ≡ wrong
 unfolding callByte pick isSign
-counter-unequal cmd i c m v e f g = rw (e, code-some v (omega (arith, f))) refl
+counter-unequal si i c m v e f g = rw (e, code-some v (omega (arith, f))) refl
 
--- whether a `:` may stand
-colon : (cmd : Bool) (m : ℕ) (v : Move) → m ≡ moveCode v → (isStill v && not cmd) ≡ not (ltb 0 m || cmd)
+-- whether a `:` may stand, where x says whether a call may insert
+colon : (x : Bool) (m : ℕ) (v : Move) → m ≡ moveCode v → (isStill v && x) ≡ not (ltb 0 m || not x)
 unfolding isStill
-colon cmd m v f = by (ltb 0 m) refl
+colon x m v f = by (ltb 0 m) x refl
   where
-    by : (x : Bool) → ltb 0 m ≡ x → (isStill v && not cmd) ≡ not (x || cmd)
-    by true e = rw (code-some v (let g = ltb-true 0 m e in omega (arith, f))) refl
-    by false e = rw (code-none v (let g = ltb-false 0 m e in omega (arith, f))) refl
+    by : (y z : Bool) → ltb 0 m ≡ y → (isStill v && z) ≡ not (y || not z)
+    by true z e = rw (code-some v (let g = ltb-true 0 m e in omega (arith, f))) refl
+    by false true e = rw (code-none v (let g = ltb-false 0 m e in omega (arith, f))) refl
+    by false false e = and-false (isStill v)
 
-pub counter-colon : (cmd : Bool) (i c m : ℕ) (v : Move) → c ≡ 58 → m ≡ moveCode v → (ltb 0 m || cmd) ≡ false → callByte cmd (named counter i v) c ≡ into (divisor i none)
+pub counter-colon : (si : Site) (x : Bool) (i c m : ℕ) (v : Move) → x ≡ mayInsert si → c ≡ 58 → m ≡ moveCode v → (ltb 0 m || not x) ≡ false → callByte si (named counter i v) c ≡ into (divisor i none)
 unfolding callByte pick
-counter-colon cmd i c m v e f g = rw (e, colon cmd m v f, g) refl
+counter-colon si x i c m v h e f g = rw (e, ← h, colon x m v f, g) refl
 
-pub counter-uncolon : (cmd : Bool) (i c m : ℕ) (v : Move) → c ≡ 58 → m ≡ moveCode v → (ltb 0 m || cmd) ≡ true → callByte cmd (named counter i v) c ≡ wrong
+pub counter-uncolon : (si : Site) (x : Bool) (i c m : ℕ) (v : Move) → x ≡ mayInsert si → c ≡ 58 → m ≡ moveCode v → (ltb 0 m || not x) ≡ true → callByte si (named counter i v) c ≡ wrong
 unfolding callByte pick isSign
-counter-uncolon cmd i c m v e f g = rw (e, colon cmd m v f, g) refl
+counter-uncolon si x i c m v h e f g = rw (e, ← h, colon x m v f, g) refl
 
-pub counter-command : (cmd : Bool) (i c : ℕ) (v : Move) → c ≡ 41 → cmd ≡ true → callByte cmd (named counter i v) c ≡ wrong
+pub counter-uninserted : (si : Site) (i c : ℕ) (v : Move) → c ≡ 41 → mayInsert si ≡ false → callByte si (named counter i v) c ≡ wrong
 unfolding callByte pick isSign
-counter-command cmd i c v e f = rw (e, f) refl
+counter-uninserted si i c v e f = rw (e, f) refl
 
-pub counter-close : (cmd : Bool) (i c : ℕ) (v : Move) → c ≡ 41 → cmd ≡ false → callByte cmd (named counter i v) c ≡ closed (insert counter i v)
+pub counter-close : (si : Site) (i c : ℕ) (v : Move) → c ≡ 41 → mayInsert si ≡ true → callByte si (named counter i v) c ≡ closed (insert counter i v)
 unfolding callByte pick
-counter-close cmd i c v e f = rw (e, f) refl
+counter-close si i c v e f = rw (e, f) refl
 
 joined-late : (x y w : Bool) → (y ≡ true → (x && w) ≡ false) → (x && (y && w)) ≡ false
 joined-late x true w h = h refl
 joined-late x false w h = and-false x
 
-pub counter-strange : (cmd : Bool) (i c : ℕ) (v : Move) → (c ≡ 44 → ⊥) → (c ≡ 61 → ⊥) → (c ≡ 58 → ⊥) → (c ≡ 41 → ⊥) → (isStill v ≡ true → (isSign c && not cmd) ≡ false)
-    → callByte cmd (named counter i v) c ≡ wrong
+pub counter-strange : (si : Site) (i c : ℕ) (v : Move) → (c ≡ 44 → ⊥) → (c ≡ 61 → ⊥) → (c ≡ 58 → ⊥) → (c ≡ 41 → ⊥) → (isStill v ≡ true → (isSign c && mayInsert si) ≡ false)
+    → callByte si (named counter i v) c ≡ wrong
 unfolding callByte pick
-counter-strange cmd i c v e f k g h = simp (ne-eqb _ _ e, ne-eqb _ _ f, ne-eqb _ _ k, ne-eqb _ _ g, joined-late (isSign c) (isStill v) (not cmd) h)
+counter-strange si i c v e f k g h = simp (ne-eqb _ _ e, ne-eqb _ _ f, ne-eqb _ _ k, ne-eqb _ _ g, joined-late (isSign c) (isStill v) (mayInsert si) h)
 
 -- NUMBERS
 
-sets-others : (cmd : Bool) (m : Mark) (i : ℕ) (o : Option ℕ) (b : ℕ) → digit b ≡ false → (b ≡ 41 → ⊥) → callByte cmd (equals m i o) b ≡ wrong
+sets-others : (si : Site) (m : Mark) (i : ℕ) (o : Option ℕ) (b : ℕ) → digit b ≡ false → (b ≡ 41 → ⊥) → callByte si (equals m i o) b ≡ wrong
 unfolding callByte pick
-sets-others cmd m i o b h e = simp (h, ne-eqb _ _ e)
+sets-others si m i o b h e = simp (h, ne-eqb _ _ e)
 
-increment-others : (cmd : Bool) (i : ℕ) (o : Option ℕ) (b : ℕ) → digit b ≡ false → (b ≡ 41 → ⊥) → callByte cmd (increment i o) b ≡ wrong
+increment-others : (si : Site) (i : ℕ) (o : Option ℕ) (b : ℕ) → digit b ≡ false → (b ≡ 41 → ⊥) → callByte si (increment i o) b ≡ wrong
 unfolding callByte pick
-increment-others cmd i o b h e = simp (h, ne-eqb _ _ e)
+increment-others si i o b h e = simp (h, ne-eqb _ _ e)
 
-divisor-others : (cmd : Bool) (i : ℕ) (o : Option ℕ) (b : ℕ) → digit b ≡ false → (b ≡ 41 → ⊥) → callByte cmd (divisor i o) b ≡ wrong
+divisor-others : (si : Site) (i : ℕ) (o : Option ℕ) (b : ℕ) → digit b ≡ false → (b ≡ 41 → ⊥) → callByte si (divisor i o) b ≡ wrong
 unfolding callByte pick
-divisor-others cmd i o b h e = simp (h, ne-eqb _ _ e)
+divisor-others si i o b h e = simp (h, ne-eqb _ _ e)
 
 pub sets-stack : (i : ℕ) → Sets 80 i 20 (equals stack i) (setTo stack i)
 unfolding callByte pick digit within numberFits limit callItems
 sets-stack i =
     record {
       eats = λ pl. eats-equals pl stack i;
-      others = λ cmd o b h e. sets-others cmd stack i o b h e;
-      closes = λ cmd o. refl;
+      others = λ si o b h e. sets-others si stack i o b h e;
+      closes = λ si o. refl;
       fits = λ k v. refl;
       items = λ v. refl;
     }
@@ -146,8 +147,8 @@ unfolding callByte pick digit within numberFits limit callItems
 sets-counter i =
     record {
       eats = λ pl. eats-equals pl counter i;
-      others = λ cmd o b h e. sets-others cmd counter i o b h e;
-      closes = λ cmd o. refl;
+      others = λ si o b h e. sets-others si counter i o b h e;
+      closes = λ si o. refl;
       fits = λ k v. refl;
       items = λ v. refl;
     }
@@ -157,8 +158,8 @@ unfolding callByte pick digit within numberFits limit callItems
 sets-increment i =
     record {
       eats = λ pl. eats-increment pl i;
-      others = λ cmd o b h e. increment-others cmd i o b h e;
-      closes = λ cmd o. refl;
+      others = λ si o b h e. increment-others si i o b h e;
+      closes = λ si o. refl;
       fits = λ k v. refl;
       items = λ v. refl;
     }
@@ -168,8 +169,8 @@ unfolding callByte pick digit within numberFits limit callItems
 sets-divisor i =
     record {
       eats = λ pl. eats-divisor pl i;
-      others = λ cmd o b h e. divisor-others cmd i o b h e;
-      closes = λ cmd o. refl;
+      others = λ si o b h e. divisor-others si i o b h e;
+      closes = λ si o. refl;
       fits = λ k v. refl;
       items = λ v. refl;
     }
@@ -179,26 +180,26 @@ sets-divisor i =
 pub number-at : (s : List ℕ) (a p : ℕ) {r : Number} {v : ℕ} {m : Bool} {b q : ℕ} → Counts s a p true r → r ≡ Got v m b q → Counts s a p true (Got v m b q)
 number-at s a p y e = rw e at y
 
-module _ (s : List ℕ) (a p : ℕ) (old out : List ℕ) (n : ℕ) (cmd : Bool) (k : ℕ) where
-  pub stack-none : {r : Number} {f : FileFault} {q : ℕ} {w : Ended} → Counts s a p true r → r ≡ NoNumber f q → w ≡ numberEnd r → CalledFrom s a p old out n stack cmd k w
+module _ (s : List ℕ) (a p : ℕ) (old out : List ℕ) (n : ℕ) (si : Site) (k : ℕ) (ok : mayStoreTag si ≡ true) where
+  pub stack-none : {r : Number} {f : FileFault} {q : ℕ} {w : Ended} → Counts s a p true r → r ≡ NoNumber f q → w ≡ numberEnd r → CalledFrom s a p old out n stack si k w
   stack-none {r} {f} {q} y e i =
       let z : Counts s a p true (NoNumber f q) = rw e at y in
-      rw (i ∙ ap numberEnd e) (z .0, λ pl u t ms. z .1 (tagState pl) (eats-tagged pl) ms)
+      rw (i ∙ ap numberEnd e) (z .0, λ pl u t pr. z .1 (tagState pl) (eats-tagged pl (rw u ok)) pr)
 
-  pub stack-tag : {v : ℕ} {m : Bool} {b q : ℕ} → Counts s a p true (Got v m b q) → m ≡ true → (w : Ended) → TagFrom s a q old out n v k w → CalledFrom s a p old out n stack cmd k w
-  stack-tag {v} {m} {b} {q} y j w t = by (y .4 .value) (y .4 .kept) (λ pl u g ms. y .4 .answer (tagState pl) (eats-tagged pl) ms)
+  pub stack-tag : {v : ℕ} {m : Bool} {b q : ℕ} → Counts s a p true (Got v m b q) → m ≡ true → (w : Ended) → TagFrom s a q old out n v k w → CalledFrom s a p old out n stack si k w
+  stack-tag {v} {m} {b} {q} y j w t = by (y .4 .value) (y .4 .kept) (λ pl u g pr. y .4 .answer (tagState pl) (eats-tagged pl (rw u ok)) pr)
     where
-      by : (o : Option ℕ) → Kept o v m → Comes s a cmd k (λ pl. calling pl (begun stack)) p (λ pl. tagState pl o) q → CalledFrom s a p old out n stack cmd k w
+      by : (o : Option ℕ) → Kept o v m → Comes s a si k (λ pl. calling pl (begun stack)) p (λ pl. tagState pl o) q → CalledFrom s a p old out n stack si k w
       by none h g = absurd (true≢false (sym j ∙ h .1))
       by (some x) h g =
-          ends-from s a p q old out n 0 0 cmd k (λ pl. calling pl (begun stack)) (λ pl. calling pl (tagged x)) w (y .0) (omega arith) g (t x (h .0) cmd)
+          ends-from s a p q old out n 0 0 si k (λ pl. calling pl (begun stack)) (λ pl. calling pl (tagged x)) w (y .0) (omega arith) g (t x (h .0) si)
 
   -- behind spaces and skips alone
-  pub stack-begun : {v : ℕ} {m : Bool} {b q : ℕ} → Counts s a p true (Got v m b q) → m ≡ false → (w : Ended) → NamedFrom s a q old out n stack cmd w → CalledFrom s a p old out n stack cmd k w
-  stack-begun {v} {m} {b} {q} y j w t = by (y .4 .value) (y .4 .kept) (λ pl u g ms. y .4 .answer (tagState pl) (eats-tagged pl) ms)
+  pub stack-begun : {v : ℕ} {m : Bool} {b q : ℕ} → Counts s a p true (Got v m b q) → m ≡ false → (w : Ended) → NamedFrom s a q old out n stack si w → CalledFrom s a p old out n stack si k w
+  stack-begun {v} {m} {b} {q} y j w t = by (y .4 .value) (y .4 .kept) (λ pl u g pr. y .4 .answer (tagState pl) (eats-tagged pl (rw u ok)) pr)
     where
-      by : (o : Option ℕ) → Kept o v m → Comes s a cmd k (λ pl. calling pl (begun stack)) p (λ pl. tagState pl o) q → CalledFrom s a p old out n stack cmd k w
-      by none h g = ends-from s a p q old out n 0 0 cmd k (λ pl. calling pl (begun stack)) (λ pl. calling pl (begun stack)) w (y .0) (omega arith) g (t k)
+      by : (o : Option ℕ) → Kept o v m → Comes s a si k (λ pl. calling pl (begun stack)) p (λ pl. tagState pl o) q → CalledFrom s a p old out n stack si k w
+      by none h g = ends-from s a p q old out n 0 0 si k (λ pl. calling pl (begun stack)) (λ pl. calling pl (begun stack)) w (y .0) (omega arith) g (t k)
       by (some x) h g = absurd (true≢false (sym (h .1) ∙ j))
 
 -- A LETTER AND WHAT FOLLOWS
@@ -221,63 +222,67 @@ pub insert-counter : (i : ℕ) (v : Move) → callItems (insert counter i v) ≡
 unfolding callItems
 insert-counter i v = refl
 
-pub names-of : (c cmd : Bool) (b : ℕ) → Starts c b → Names cmd (signsIn c cmd) b (begun (markOf c)) (signed (markOf c)) (named (markOf c))
-names-of true cmd b h = names-counter cmd b
-names-of false cmd b h = names-stack cmd b (h refl)
+pub names-of : (c : Bool) (si : Site) (b : ℕ) → Starts c si b → Names si (signsIn c si) b (begun (markOf c)) (signed (markOf c)) (named (markOf c))
+names-of true si b h = names-counter si b
+names-of false si b h = names-stack si b (h refl)
 
-module _ (s : List ℕ) (a p : ℕ) (old out : List ℕ) (n : ℕ) (cmd : Bool) (mk : Mark) (sg : Bool) {b : ℕ} (nm : Names cmd sg b (begun mk) (signed mk) (named mk)) where
-  pub mark-noname : {r : Name} {f : FileFault} {u : ℕ} {w : Ended} → Naming s a p b sg r → r ≡ NoName f u → w ≡ nameEnd r → NamedFrom s a p old out n mk cmd w
+module _ (s : List ℕ) (a p : ℕ) (old out : List ℕ) (n : ℕ) (si : Site) (mk : Mark) (sg : Bool) {b : ℕ} (nm : Names si sg b (begun mk) (signed mk) (named mk)) where
+  pub mark-noname : {r : Name} {f : FileFault} {u : ℕ} {w : Ended} → Naming s a p b sg r → r ≡ NoName f u → w ≡ nameEnd r → NamedFrom s a p old out n mk si w
   mark-noname {r} {f} {u} z e i =
       let t : Naming s a p b sg (NoName f u) = rw e at z in
-      rw (i ∙ ap nameEnd e) (λ k. (t .0, λ pl x y ms. t .1 pl (begun mk) (signed mk) (named mk) (rw x nm) ms))
+      rw (i ∙ ap nameEnd e) (λ k. (t .0, λ pl x y pr. t .1 pl (begun mk) (signed mk) (named mk) (rw x nm) pr))
 
-  mark-named : {i m c u : ℕ} (t : Letter s a p b sg i m c u) (k : ℕ) → Comes s a cmd k (λ pl. calling pl (begun mk)) p (λ pl. calling pl (named mk i (t .move))) u
-  mark-named t k pl x y ms = t .answer pl (begun mk) (signed mk) (named mk) (rw x nm) ms
+  mark-named : {i m c u : ℕ} (t : Letter s a p b sg i m c u) (k : ℕ) → Comes s a si k (λ pl. calling pl (begun mk)) p (λ pl. calling pl (named mk i (t .move))) u
+  mark-named t k pl x y pr = t .answer pl (begun mk) (signed mk) (named mk) (rw x nm) pr
 
-  module _ {i m c u : ℕ} (t : Letter s a p b sg i m c u) {r : Tail} (x : Asks mk cmd sg c m r) where
-    pub mark-wrong : r ≡ Wrong → (f : FileFault) → faultOf f ≡ wrongCall c → NamedFrom s a p old out n mk cmd (NoEnd f u)
+  module _ {i m c u : ℕ} (t : Letter s a p b sg i m c u) {r : Tail} (x : Asks mk si sg c m r) where
+    pub mark-wrong : r ≡ Wrong → (f : FileFault) → faultOf f ≡ wrongCall c → NamedFrom s a p old out n mk si (NoEnd f u)
     mark-wrong e f j k =
-        let h : Asks mk cmd sg c m Wrong = rw e at x in
-        ends-wrong s a p old out n 0 cmd k (λ pl. calling pl (begun mk)) (named mk i (t .move)) (mark-named t k) (t .here) f (t .solid) (h i (t .move) (t .code) (t .last)) j
+        let h : Asks mk si sg c m Wrong = rw e at x in
+        ends-wrong s a p old out n 0 si k (λ pl. calling pl (begun mk)) (named mk i (t .move)) (mark-named t k) (t .here) f (t .solid) (h i (t .move) (t .code) (t .last)) j
 
     pub mark-top : {code top : ℕ} → r ≡ Set code top → top ≤ 999999999
-    mark-top {code} {top} e = let h : Asks mk cmd sg c m (Set code top) = rw e at x in h .0
+    mark-top {code} {top} e = let h : Asks mk si sg c m (Set code top) = rw e at x in h .0
 
-    pub mark-set : {code top : ℕ} → r ≡ Set code top → (w : Ended) → SetFrom s a (u + 1) old out n code i top w → NamedFrom s a p old out n mk cmd w
+    pub mark-set : {code top : ℕ} → r ≡ Set code top → (w : Ended) → SetFrom s a (u + 1) old out n code i top w → NamedFrom s a p old out n mk si w
     mark-set {code} {top} e w y k =
-        let h : Asks mk cmd sg c m (Set code top) = rw e at x in
+        let h : Asks mk si sg c m (Set code top) = rw e at x in
         let g = h .1 i (t .move) (t .code) in
-        ends-from s a p (u + 1) old out n 0 4 cmd k (λ pl. calling pl (begun mk)) (λ pl. calling pl ((g .0) none)) w
+        ends-from s a p (u + 1) old out n 0 4 si k (λ pl. calling pl (begun mk)) (λ pl. calling pl ((g .0) none)) w
         (omega (arith, t .further)) (omega (arith, t .further))
-        (λ pl z v ms. mark-named t k pl z v ms ∙ here-into pl (named mk i (t .move)) ms (t .here) ((g .0) none) (rw z (g .3))) (y (g .0) (g .1) (g .2) cmd k)
+        (λ pl z v pr. mark-named t k pl z v pr ∙ here-into pl (named mk i (t .move)) pr (t .here) ((g .0) none) (rw z (g .3))) (y (g .0) (g .1) (g .2) si k)
 
-    pub mark-text : r ≡ Text → (w : Ended) → StoreFrom s a (u + 1) old out n i m w → NamedFrom s a p old out n mk cmd w
+    pub mark-text : r ≡ Text → (w : Ended) → StoreFrom s a (u + 1) old out n i m w → NamedFrom s a p old out n mk si w
     mark-text e w y k =
-        let h : Asks mk cmd sg c m Text = rw e at x in
-        ends-from s a p (u + 1) old out n 0 4 cmd k (λ pl. calling pl (begun mk)) (λ pl. callText pl i (t .move) []) w
+        let h : Asks mk si sg c m Text = rw e at x in
+        ends-from s a p (u + 1) old out n 0 4 si k (λ pl. calling pl (begun mk)) (λ pl. callText pl i (t .move) []) w
         (omega (arith, t .further)) (omega (arith, t .further))
-        (λ pl z v ms. mark-named t k pl z v ms ∙ here-on (t .here) ms _ _ (λ q o. refl) (turn-text pl (named mk i (t .move)) i (t .move) c (rw z (h i (t .move) (t .code)))))
-        (y (t .move) (t .code) cmd k)
+        (λ pl z v pr. mark-named t k pl z v pr ∙ here-on (t .here) pr _ _ (λ q o. refl) (turn-text pl (named mk i (t .move)) i (t .move) c (rw z (h i (t .move) (t .code)))))
+        (y (t .move) (t .code) si k)
 
-    pub mark-insert : {code : ℕ} → r ≡ Insert code → Wrote old out n (code ∷ i ∷ []) → NamedFrom s a p old out n mk cmd (Upto (u + 1) (n + 2))
+    pub mark-insert : {code : ℕ} → r ≡ Insert code → Wrote old out n (code ∷ i ∷ []) → NamedFrom s a p old out n mk si (Upto (u + 1) (n + 2))
     mark-insert {code} e w k =
-        let h : Asks mk cmd sg c m (Insert code) = rw e at x in
+        let h : Asks mk si sg c m (Insert code) = rw e at x in
         let g = h i (t .move) (t .code) in
-        ends-closed s a p old out n 0 cmd k (λ pl. calling pl (begun mk)) (named mk i (t .move)) (mark-named t k) (t .here) (insert mk i (t .move))
+        ends-closed s a p old out n 0 si k (λ pl. calling pl (begun mk)) (named mk i (t .move)) (mark-named t k) (t .here) (insert mk i (t .move))
         (g .0) (insert-fits k mk i (t .move)) (rw (g .1) w) (rw (g .1) refl) (omega (arith, t .further)) (omega (arith, t .further))
 
--- THE FIRST BYTE OF A COUNTER'S CALL
+-- A CALL THAT BEGINS WITH ITS LETTER
 
-module _ (s : List ℕ) (a p : ℕ) (old out : List ℕ) (n : ℕ) (cmd : Bool) {r : Next} (y : Calls s a p r) where
-  pub counter-none : {f : FileFault} {q : ℕ} {w : Ended} → r ≡ NoByte f q → w ≡ nextEnd r → NamedFrom s a p old out n counter cmd w
-  counter-none e i k = ends-none s a p old out n 0 cmd k (λ pl. calling pl (begun counter)) (begun counter) (λ pl u t ms. refl) y e i
+module _ (s : List ℕ) (a p : ℕ) (old out : List ℕ) (n : ℕ) (mk : Mark) (si : Site) {r : Next} (y : Calls s a p r) where
+  pub letter-none : {f : FileFault} {q : ℕ} {w : Ended} → r ≡ NoByte f q → w ≡ nextEnd r → NamedFrom s a p old out n mk si w
+  letter-none e i k = ends-none s a p old out n 0 si k (λ pl. calling pl (begun mk)) (begun mk) (λ pl u t pr. refl) y e i
 
   module _ {b q : ℕ} (e : r ≡ Byte b q) where
-    pub counter-byte : Calls s a p (Byte b q)
-    counter-byte = rw e at y
+    pub letter-byte : Calls s a p (Byte b q)
+    letter-byte = rw e at y
 
-    pub counter-begun : (w : Ended) → NamedFrom s a q old out n counter cmd w → NamedFrom s a p old out n counter cmd w
-    counter-begun w t k =
-        let f = counter-byte .found in
-        ends-from s a p q old out n 0 0 cmd k (λ pl. calling pl (begun counter)) (λ pl. calling pl (begun counter)) w (f .0) (omega arith)
-        (λ pl u g ms. call-next pl (begun counter) ms counter-byte) (t k)
+    pub letter-begun : (w : Ended) → NamedFrom s a q old out n mk si w → NamedFrom s a p old out n mk si w
+    letter-begun w t k =
+        let f = letter-byte .found in
+        ends-from s a p q old out n 0 0 si k (λ pl. calling pl (begun mk)) (λ pl. calling pl (begun mk)) w (f .0) (omega arith)
+        (λ pl u g pr. call-next pl (begun mk) pr letter-byte) (t k)
+
+-- where no tag may be stored, any byte may be tried as a letter
+pub starts-any : (c : Bool) (si : Site) (b : ℕ) → (c ≡ false → mayStoreTag si ≡ false) → Starts c si b
+starts-any c si b h e = rw (h e) (and-false (digit b))

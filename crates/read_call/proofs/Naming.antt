@@ -8,11 +8,11 @@ use native.Mathlib.Omega.{arith}
 use lib.Dec.{eqb}
 use lib.ListN.{length}
 use Rattle.macros.specs.Refusals.FileRefusal.{badCall}
-use Rattle.macros.specs.Macro.{Macro, Move, Call, Sign, pick, asciiLower, tags}
+use Rattle.macros.specs.Macro.{Move, Call, Sign, pick, asciiLower, tags}
 use Rattle.macros.specs.Macro.Sign.{plus, minus}
 use Rattle.macros.specs.Macro.Move.{still, before, after}
 use Rattle.macros.specs.Formed.{numberFits}
-use Rattle.macros.specs.Read.{Part, CallSite, Phase, partByte, skips, turned, callByte, isCommand, frontOf, behindCall, isSign, signOf, isStill}
+use Rattle.macros.specs.Read.{Prior, CallSite, Phase, partByte, skips, turned, callByte, siteOf, piecesOf, behindCall, isSign, signOf, isStill}
 use Rattle.macros.specs.ReadSoFar.Part.{calling, callText}
 use Rattle.macros.specs.ReadSoFar.Step.{on, stop}
 use Rattle.macros.specs.ReadCalls.Turn.{into, textOf, closed, wrong}
@@ -30,20 +30,20 @@ use Rattle.read_call.proofs.Phases.{space-call, wrong-call}
 
 -- ONE BYTE OF A CALL
 
-pub turn-on : (pl : CallSite) (ph ph′ : Phase) (b : ℕ) → callByte (isCommand pl) ph b ≡ into ph′ → partByte (calling pl ph) b ≡ on (calling pl ph′)
+pub turn-on : (pl : CallSite) (ph ph′ : Phase) (b : ℕ) → callByte (siteOf pl) ph b ≡ into ph′ → partByte (calling pl ph) b ≡ on (calling pl ph′)
 unfolding partByte turned
 turn-on pl ph ph′ b e = rw e refl
 
-pub turn-text : (pl : CallSite) (ph : Phase) (i : ℕ) (v : Move) (b : ℕ) → callByte (isCommand pl) ph b ≡ textOf i v → partByte (calling pl ph) b ≡ on (callText pl i v [])
+pub turn-text : (pl : CallSite) (ph : Phase) (i : ℕ) (v : Move) (b : ℕ) → callByte (siteOf pl) ph b ≡ textOf i v → partByte (calling pl ph) b ≡ on (callText pl i v [])
 unfolding partByte turned
 turn-text pl ph i v b e = rw e refl
 
-pub turn-closed : (pl : CallSite) (ph : Phase) (c : Call) (b : ℕ) → callByte (isCommand pl) ph b ≡ closed c → numberFits (tags (frontOf pl .pieces)) c ≡ true
+pub turn-closed : (pl : CallSite) (ph : Phase) (c : Call) (b : ℕ) → callByte (siteOf pl) ph b ≡ closed c → numberFits (tags (piecesOf pl)) c ≡ true
     → partByte (calling pl ph) b ≡ on (behindCall pl c)
 unfolding partByte turned pick
 turn-closed pl ph c b e f = rw e (rw f refl)
 
-pub turn-unfit : (pl : CallSite) (ph : Phase) (c : Call) (b : ℕ) → callByte (isCommand pl) ph b ≡ closed c → numberFits (tags (frontOf pl .pieces)) c ≡ false
+pub turn-unfit : (pl : CallSite) (ph : Phase) (c : Call) (b : ℕ) → callByte (siteOf pl) ph b ≡ closed c → numberFits (tags (piecesOf pl)) c ≡ false
     → partByte (calling pl ph) b ≡ stop badCall
 unfolding partByte turned pick
 turn-unfit pl ph c b e f = rw e (rw f refl)
@@ -52,20 +52,20 @@ pub call-skips : (pl : CallSite) (ph : Phase) → skips (calling pl ph) ≡ true
 unfolding skips
 call-skips pl ph = refl
 
-module _ {s : List ℕ} {a p : ℕ} (pl : CallSite) (ph : Phase) (ms : List Macro) where
+module _ {s : List ℕ} {a p : ℕ} (pl : CallSite) (ph : Phase) (pr : Prior) where
   -- to the next byte of a call
-  pub call-next : {c q : ℕ} → Calls s a p (Byte c q) → run s a ms false p (calling pl ph) ≡ run s a ms false q (calling pl ph)
-  call-next y = y .answer (calling pl ph) ms (call-skips pl ph) (space-call pl ph)
+  pub call-next : {c q : ℕ} → Calls s a p (Byte c q) → run s a pr false p (calling pl ph) ≡ run s a pr false q (calling pl ph)
+  call-next y = y .answer (calling pl ph) pr (call-skips pl ph) (space-call pl ph)
 
-  pub call-none : {f : FileFault} {q : ℕ} → Calls s a p (NoByte f q) → run s a ms false p (calling pl ph) ≡ refusedAt (faultOf f) q
-  call-none y = y .answer (calling pl ph) ms (call-skips pl ph) (space-call pl ph)
+  pub call-none : {f : FileFault} {q : ℕ} → Calls s a p (NoByte f q) → run s a pr false p (calling pl ph) ≡ refusedAt (faultOf f) q
+  call-none y = y .answer (calling pl ph) pr (call-skips pl ph) (space-call pl ph)
 
   module _ {b : ℕ} (x : Here s a p b) where
-    pub here-wrong : (f : FileFault) → (b ≡ 32 → ⊥) → callByte (isCommand pl) ph b ≡ wrong → faultOf f ≡ wrongCall b → run s a ms false p (calling pl ph) ≡ refusedAt (faultOf f) p
-    here-wrong f g e h = here-stop x ms (calling pl ph) _ (wrong-call pl ph b e g) ∙ rw h refl
+    pub here-wrong : (f : FileFault) → (b ≡ 32 → ⊥) → callByte (siteOf pl) ph b ≡ wrong → faultOf f ≡ wrongCall b → run s a pr false p (calling pl ph) ≡ refusedAt (faultOf f) p
+    here-wrong f g e h = here-stop x pr (calling pl ph) _ (wrong-call pl ph b e g) ∙ rw h refl
 
-    pub here-into : (ph′ : Phase) → callByte (isCommand pl) ph b ≡ into ph′ → run s a ms false p (calling pl ph) ≡ run s a ms false (p + 1) (calling pl ph′)
-    here-into ph′ e = here-on x ms (calling pl ph) (calling pl ph′) (λ q o. refl) (turn-on pl ph ph′ b e)
+    pub here-into : (ph′ : Phase) → callByte (siteOf pl) ph b ≡ into ph′ → run s a pr false p (calling pl ph) ≡ run s a pr false (p + 1) (calling pl ph′)
+    here-into ph′ e = here-on x pr (calling pl ph) (calling pl ph′) (λ q o. refl) (turn-on pl ph ph′ b e)
 
 -- CODES
 
@@ -130,15 +130,15 @@ unstill-after x e y = absurd (true≢false (sym e))
 -- A LETTER BEHIND A SIGN
 
 module _ {s : List ℕ} {a p b : ℕ} (sg : Bool) (x : Here s a p b) (h : (isSign b && sg) ≡ true) {r : Next} (y : Calls s a (p + 1) r) where
-  lead : (pl : CallSite) (start : Phase) (sgn : Sign → Phase) (nam : ℕ → Move → Phase) → Names (isCommand pl) sg b start sgn nam → (ms : List Macro)
-      → run s a ms false p (calling pl start) ≡ run s a ms false (p + 1) (calling pl (sgn (signOf b)))
+  lead : (pl : CallSite) (start : Phase) (sgn : Sign → Phase) (nam : ℕ → Move → Phase) → Names (siteOf pl) sg b start sgn nam → (pr : Prior)
+      → run s a pr false p (calling pl start) ≡ run s a pr false (p + 1) (calling pl (sgn (signOf b)))
   unfolding pick
-  lead pl start sgn nam g ms = here-into pl start ms x (sgn (signOf b)) (g .first ∙ rw h refl)
+  lead pl start sgn nam g pr = here-into pl start pr x (sgn (signOf b)) (g .first ∙ rw h refl)
 
   pub signed-none : {f : FileFault} {q : ℕ} {w : Name} → r ≡ NoByte f q → w ≡ nextName r → Naming s a p b sg w
   signed-none {f} {q} e i =
       let z : Calls s a (p + 1) (NoByte f q) = rw e at y in
-      rw (i ∙ ap nextName e) (z .found, λ pl start sgn nam g ms. lead pl start sgn nam g ms ∙ call-none pl (sgn (signOf b)) ms z)
+      rw (i ∙ ap nextName e) (z .found, λ pl start sgn nam g pr. lead pl start sgn nam g pr ∙ call-none pl (sgn (signOf b)) pr z)
 
   module _ {c q : ℕ} (e : r ≡ Byte c q) where
     pub signed-byte : Calls s a (p + 1) (Byte c q)
@@ -150,23 +150,23 @@ module _ {s : List ℕ} {a p b : ℕ} (sg : Bool) (x : Here s a p b) (h : (isSig
         let z = signed-byte in
         let t = z .found .1 .stands in (
           omega (arith, t .there),
-          λ pl start sgn nam g ms. lead pl start sgn nam g ms
-              ∙ (call-next pl (sgn (signOf b)) ms z ∙ here-wrong pl (sgn (signOf b)) ms (z .found .1) f (z .found .2) (g .second (signOf b) c ∙ rw l refl) i),
+          λ pl start sgn nam g pr. lead pl start sgn nam g pr
+              ∙ (call-next pl (sgn (signOf b)) pr z ∙ here-wrong pl (sgn (signOf b)) pr (z .found .1) f (z .found .2) (g .second (signOf b) c ∙ rw l refl) i),
         )
 
     module _ (l : asciiLower c ≡ true) {r′ : Next} (y′ : Calls s a (q + 1) r′) where
-      letter : (pl : CallSite) (start : Phase) (sgn : Sign → Phase) (nam : ℕ → Move → Phase) → Names (isCommand pl) sg b start sgn nam → (ms : List Macro)
-          → run s a ms false p (calling pl start) ≡ run s a ms false (q + 1) (calling pl (nam c (before (signOf b))))
+      letter : (pl : CallSite) (start : Phase) (sgn : Sign → Phase) (nam : ℕ → Move → Phase) → Names (siteOf pl) sg b start sgn nam → (pr : Prior)
+          → run s a pr false p (calling pl start) ≡ run s a pr false (q + 1) (calling pl (nam c (before (signOf b))))
       unfolding pick
-      letter pl start sgn nam g ms =
-          lead pl start sgn nam g ms
-          ∙ (call-next pl (sgn (signOf b)) ms signed-byte
-          ∙ here-into pl (sgn (signOf b)) ms (signed-byte .found .1) (nam c (before (signOf b))) (g .second (signOf b) c ∙ rw l refl))
+      letter pl start sgn nam g pr =
+          lead pl start sgn nam g pr
+          ∙ (call-next pl (sgn (signOf b)) pr signed-byte
+          ∙ here-into pl (sgn (signOf b)) pr (signed-byte .found .1) (nam c (before (signOf b))) (g .second (signOf b) c ∙ rw l refl))
 
       pub signed-none-2 : {f : FileFault} {v : ℕ} {w : Name} → r′ ≡ NoByte f v → w ≡ nextName r′ → Naming s a p b sg w
       signed-none-2 {f} {v} e′ i =
           let z : Calls s a (q + 1) (NoByte f v) = rw e′ at y′ in
-          rw (i ∙ ap nextName e′) (z .found, λ pl start sgn nam g ms. letter pl start sgn nam g ms ∙ call-none pl (nam c (before (signOf b))) ms z)
+          rw (i ∙ ap nextName e′) (z .found, λ pl start sgn nam g pr. letter pl start sgn nam g pr ∙ call-none pl (nam c (before (signOf b))) pr z)
 
       pub signed-got : {d v m : ℕ} → r′ ≡ Byte d v → m ≡ signCode b → Naming s a p b sg (GotName c m d v)
       signed-got {d} {v} e′ i =
@@ -178,7 +178,7 @@ module _ {s : List ℕ} {a p b : ℕ} (sg : Bool) (x : Here s a p b) (h : (isSig
             solid = z .found .2;
             further = omega (arith, z .found .0, signed-byte .found .0);
             last = λ j. unstill (signOf b) j _;
-            answer = λ pl start sgn nam g ms. letter pl start sgn nam g ms ∙ call-next pl (nam c (before (signOf b))) ms z;
+            answer = λ pl start sgn nam g pr. letter pl start sgn nam g pr ∙ call-next pl (nam c (before (signOf b))) pr z;
           }
 
 -- A LETTER AT ONCE
@@ -188,26 +188,26 @@ module _ {s : List ℕ} {a p b : ℕ} (sg : Bool) (x : Here s a p b) (h : (isSig
   unfolding pick
   name-wrong f k l i =
       let t = x .stands in
-      (omega (arith, t .there), λ pl start sgn nam g ms. here-wrong pl start ms x f k (g .first ∙ (rw h (rw l refl))) i)
+      (omega (arith, t .there), λ pl start sgn nam g pr. here-wrong pl start pr x f k (g .first ∙ (rw h (rw l refl))) i)
 
   module _ (l : asciiLower b ≡ true) {r : Next} (y : Calls s a (p + 1) r) where
-    named : (pl : CallSite) (start : Phase) (sgn : Sign → Phase) (nam : ℕ → Move → Phase) → Names (isCommand pl) sg b start sgn nam → (ms : List Macro)
-        → run s a ms false p (calling pl start) ≡ run s a ms false (p + 1) (calling pl (nam b still))
+    named : (pl : CallSite) (start : Phase) (sgn : Sign → Phase) (nam : ℕ → Move → Phase) → Names (siteOf pl) sg b start sgn nam → (pr : Prior)
+        → run s a pr false p (calling pl start) ≡ run s a pr false (p + 1) (calling pl (nam b still))
     unfolding pick
-    named pl start sgn nam g ms = here-into pl start ms x (nam b still) (g .first ∙ (rw h (rw l refl)))
+    named pl start sgn nam g pr = here-into pl start pr x (nam b still) (g .first ∙ (rw h (rw l refl)))
 
     pub name-none : {f : FileFault} {q : ℕ} {w : Name} → r ≡ NoByte f q → w ≡ nextName r → Naming s a p b sg w
     name-none {f} {q} e i =
         let z : Calls s a (p + 1) (NoByte f q) = rw e at y in
-        rw (i ∙ ap nextName e) (z .found, λ pl start sgn nam g ms. named pl start sgn nam g ms ∙ call-none pl (nam b still) ms z)
+        rw (i ∙ ap nextName e) (z .found, λ pl start sgn nam g pr. named pl start sgn nam g pr ∙ call-none pl (nam b still) pr z)
 
     module _ {c q : ℕ} (e : r ≡ Byte c q) where
       pub name-byte : Calls s a (p + 1) (Byte c q)
       name-byte = rw e at y
 
-      there : (pl : CallSite) (start : Phase) (sgn : Sign → Phase) (nam : ℕ → Move → Phase) → Names (isCommand pl) sg b start sgn nam → (ms : List Macro)
-          → run s a ms false p (calling pl start) ≡ run s a ms false q (calling pl (nam b still))
-      there pl start sgn nam g ms = named pl start sgn nam g ms ∙ call-next pl (nam b still) ms name-byte
+      there : (pl : CallSite) (start : Phase) (sgn : Sign → Phase) (nam : ℕ → Move → Phase) → Names (siteOf pl) sg b start sgn nam → (pr : Prior)
+          → run s a pr false p (calling pl start) ≡ run s a pr false q (calling pl (nam b still))
+      there pl start sgn nam g pr = named pl start sgn nam g pr ∙ call-next pl (nam b still) pr name-byte
 
       pub name-still : (isSign c && sg) ≡ false → Naming s a p b sg (GotName b 0 c q)
       name-still j =
@@ -222,15 +222,15 @@ module _ {s : List ℕ} {a p b : ℕ} (sg : Bool) (x : Here s a p b) (h : (isSig
           }
 
       module _ (j : (isSign c && sg) ≡ true) {r′ : Next} (y′ : Calls s a (q + 1) r′) where
-        moved : (pl : CallSite) (start : Phase) (sgn : Sign → Phase) (nam : ℕ → Move → Phase) → Names (isCommand pl) sg b start sgn nam → (ms : List Macro)
-            → run s a ms false p (calling pl start) ≡ run s a ms false (q + 1) (calling pl (nam b (after (signOf c))))
-        moved pl start sgn nam g ms =
-            there pl start sgn nam g ms ∙ here-into pl (nam b still) ms (name-byte .found .1) (nam b (after (signOf c))) (g .third b c j)
+        moved : (pl : CallSite) (start : Phase) (sgn : Sign → Phase) (nam : ℕ → Move → Phase) → Names (siteOf pl) sg b start sgn nam → (pr : Prior)
+            → run s a pr false p (calling pl start) ≡ run s a pr false (q + 1) (calling pl (nam b (after (signOf c))))
+        moved pl start sgn nam g pr =
+            there pl start sgn nam g pr ∙ here-into pl (nam b still) pr (name-byte .found .1) (nam b (after (signOf c))) (g .third b c j)
 
         pub name-none-2 : {f : FileFault} {v : ℕ} {w : Name} → r′ ≡ NoByte f v → w ≡ nextName r′ → Naming s a p b sg w
         name-none-2 {f} {v} e′ i =
             let z : Calls s a (q + 1) (NoByte f v) = rw e′ at y′ in
-            rw (i ∙ ap nextName e′) (z .found, λ pl start sgn nam g ms. moved pl start sgn nam g ms ∙ call-none pl (nam b (after (signOf c))) ms z)
+            rw (i ∙ ap nextName e′) (z .found, λ pl start sgn nam g pr. moved pl start sgn nam g pr ∙ call-none pl (nam b (after (signOf c))) pr z)
 
         pub name-moved : {d v m : ℕ} → r′ ≡ Byte d v → m ≡ signCode c → Naming s a p b sg (GotName b (2 + m) d v)
         name-moved {d} {v} e′ i =
@@ -242,5 +242,5 @@ module _ {s : List ℕ} {a p b : ℕ} (sg : Bool) (x : Here s a p b) (h : (isSig
               solid = z .found .2;
               further = omega (arith, z .found .0, name-byte .found .0);
               last = λ k. unstill-after (signOf c) k _;
-              answer = λ pl start sgn nam g ms. moved pl start sgn nam g ms ∙ call-next pl (nam b (after (signOf c))) ms z;
+              answer = λ pl start sgn nam g pr. moved pl start sgn nam g pr ∙ call-next pl (nam b (after (signOf c))) pr z;
             }

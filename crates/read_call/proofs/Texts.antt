@@ -9,10 +9,10 @@ use lib.Dec.{eqb, ltb}
 use lib.ListN.{length, set, length-set, length-reverse, length-append}
 use borrow.Author.Tests.{eq-eqb, ne-eqb, le-ltb, lt-ltb}
 use Rattle.macros.specs.Refusals.FileRefusal.{incomplete, badCall}
-use Rattle.macros.specs.Macro.{Macro, Move, Call, pick, among}
+use Rattle.macros.specs.Macro.{Move, Call, pick, among}
 use Rattle.macros.specs.Macro.Call.{storeText}
 use Rattle.macros.specs.Formed.{numberFits}
-use Rattle.macros.specs.Read.{Part, CallSite, Phase, partByte, skips, textByte, callByte, breaks, escaped}
+use Rattle.macros.specs.Read.{Part, Prior, Site, CallSite, Phase, partByte, skips, textByte, callByte, breaks, escaped}
 use Rattle.macros.specs.ReadSoFar.Part.{calling, callText, callTextEscape}
 use Rattle.macros.specs.ReadSoFar.Phase.{texted}
 use Rattle.macros.specs.ReadSoFar.Step.{on, stop}
@@ -61,42 +61,42 @@ module _ (pl : CallSite) (i : ℕ) (v : Move) (t : List ℕ) (b : ℕ) (h : b �
   unfolding partByte textByte pick
   byte-plain g l e = simp (ne-eqb _ _ h, g, lt-ltb _ _ l, ne-eqb _ _ e)
 
-byte-escaped : {s : List ℕ} {a p d : ℕ} → At s a p d → (pl : CallSite) (i : ℕ) (v : Move) (t : List ℕ) (ms : List Macro)
-    → run s a ms false p (callTextEscape pl i v t) ≡ run s a ms false (p + 1) (callText pl i v (escaped d ∷ t))
+byte-escaped : {s : List ℕ} {a p d : ℕ} → At s a p d → (pl : CallSite) (i : ℕ) (v : Move) (t : List ℕ) (pr : Prior)
+    → run s a pr false p (callTextEscape pl i v t) ≡ run s a pr false (p + 1) (callText pl i v (escaped d ∷ t))
 unfolding partByte skips
-byte-escaped {s} {a} {p} {d} x pl i v t ms = at-on x ms (callTextEscape pl i v t) (callText pl i v (escaped d ∷ t)) (λ q o. refl) refl refl
+byte-escaped {s} {a} {p} {d} x pl i v t pr = at-on x pr (callTextEscape pl i v t) (callText pl i v (escaped d ∷ t)) (λ q o. refl) refl refl
 
 module _ {s : List ℕ} {a p b : ℕ} (x : Here s a p b) (h : b ≡ 58 → ⊥) (k : ℕ) where
   within-file : p ≤ length s
   within-file = let t = x .stands in omega (arith, t .there)
 
   pub text-break : breaks b ≡ true → Texting s a p k (NoByte Incomplete p)
-  text-break g = (within-file, λ pl i v t l ms. here-stop x ms (callText pl i v t) incomplete (byte-break pl i v t b h g))
+  text-break g = (within-file, λ pl i v t l pr. here-stop x pr (callText pl i v t) incomplete (byte-break pl i v t b h g))
 
   module _ (g : breaks b ≡ false) where
     pub text-long : 50 ≤ k → Texting s a p k (NoByte BadCall p)
-    text-long j = (within-file, λ pl i v t l ms. here-stop x ms (callText pl i v t) badCall (byte-long pl i v t b h g (omega (arith, l))))
+    text-long j = (within-file, λ pl i v t l pr. here-stop x pr (callText pl i v t) badCall (byte-long pl i v t b h g (omega (arith, l))))
 
     pub text-plain : k < 50 → (b ≡ 92 → ⊥) → Texting s a p k (Byte b p)
     text-plain j e =
         let y = x .stands in
-        (omega arith, y .there, y .counted, j, λ pl i v t l ms. here-on x ms (callText pl i v t) (callText pl i v (b ∷ t)) (λ q o. refl) (byte-plain pl i v t b h g (omega (arith, l)) e))
+        (omega arith, y .there, y .counted, j, λ pl i v t l pr. here-on x pr (callText pl i v t) (callText pl i v (b ∷ t)) (λ q o. refl) (byte-plain pl i v t b h g (omega (arith, l)) e))
 
     module _ (j : k < 50) (e : b ≡ 92) {r : Next} (y : Stays s a (p + 1) r) where
-      escape : (pl : CallSite) (i : ℕ) (v : Move) (t : List ℕ) → length t ≡ k → (ms : List Macro) → run s a ms false p (callText pl i v t) ≡ run s a ms false (p + 1) (callTextEscape pl i v t)
-      escape pl i v t l ms = here-on x ms (callText pl i v t) (callTextEscape pl i v t) (λ q o. refl) (byte-escape pl i v t b h g (omega (arith, l)) e)
+      escape : (pl : CallSite) (i : ℕ) (v : Move) (t : List ℕ) → length t ≡ k → (pr : Prior) → run s a pr false p (callText pl i v t) ≡ run s a pr false (p + 1) (callTextEscape pl i v t)
+      escape pl i v t l pr = here-on x pr (callText pl i v t) (callTextEscape pl i v t) (λ q o. refl) (byte-escape pl i v t b h g (omega (arith, l)) e)
 
       pub text-none : {f : FileFault} {q : ℕ} → r ≡ NoByte f q → Texting s a p k r
       text-none {f} {q} i =
           let z : Stays s a (p + 1) (NoByte f q) = rw i at y in
-          rw i (z .found, λ pl i v t l ms. escape pl i v t l ms ∙ z .answer (callTextEscape pl i v t) ms)
+          rw i (z .found, λ pl i v t l pr. escape pl i v t l pr ∙ z .answer (callTextEscape pl i v t) pr)
 
       pub text-escaped : {d q c : ℕ} → r ≡ Byte d q → c ≡ escaped d → Texting s a p k (Byte c q)
       text-escaped {d} {q} {c} i u =
           let z : Stays s a (p + 1) (Byte d q) = rw i at y in
           let same : q ≡ p + 1 = z .found .0 in
           let there = z .found .1 in
-          rw u (omega arith, omega (arith, there .there), omega (arith, there .counted), j, λ pl i v t l ms. escape pl i v t l ms ∙ rw same (byte-escaped there pl i v t ms))
+          rw u (omega arith, omega (arith, there .there), omega (arith, there .counted), j, λ pl i v t l pr. escape pl i v t l pr ∙ rw same (byte-escaped there pl i v t pr))
 
 -- A TEXT SO FAR
 
@@ -108,7 +108,7 @@ pub record Reading (s : List ℕ) (a p : ℕ) (old out : List ℕ) (n at k : ℕ
   pub room : p + k ≤ at
   pub reached : Reached s a at
   pub kept : length out ≡ length old
-  pub answer : (pl : CallSite) (i : ℕ) (v : Move) (ms : List Macro) → run s a ms false p (callText pl i v []) ≡ run s a ms false at (callText pl i v text)
+  pub answer : (pl : CallSite) (i : ℕ) (v : Move) (pr : Prior) → run s a pr false p (callText pl i v []) ≡ run s a pr false at (callText pl i v text)
 
 pub reading-none : {s : List ℕ} {a p : ℕ} (old : List ℕ) (n : ℕ) → Reached s a p → Reading s a p old old n p 0
 reading-none old n h =
@@ -120,21 +120,21 @@ reading-none old n h =
       room = omega arith;
       reached = h;
       kept = refl;
-      answer = λ pl i v ms. refl;
+      answer = λ pl i v pr. refl;
     }
 
 module _ {s : List ℕ} {a p : ℕ} {old out : List ℕ} {n at k : ℕ} (g : Reading s a p old out n at k) {r : Next} (y : Passes s a at r) where
   pub reading-fault : {f : FileFault} {q : ℕ} {w : Ended} → r ≡ NoByte f q → w ≡ nextEnd r → TextFrom s a p old out n w
   reading-fault {f} {q} e i =
       let z : Passes s a at (NoByte f q) = rw e at y in
-      rw (i ∙ ap nextEnd e) (z .found, λ pl i v ms. g .answer pl i v ms ∙ z .answer (callText pl i v (g .text)) ms (text-skips pl i v (g .text)))
+      rw (i ∙ ap nextEnd e) (z .found, λ pl i v pr. g .answer pl i v pr ∙ z .answer (callText pl i v (g .text)) pr (text-skips pl i v (g .text)))
 
   module _ {b q : ℕ} (e : r ≡ Byte b q) where
     pub reading-byte : Passes s a at (Byte b q)
     reading-byte = rw e at y
 
-    there : (pl : CallSite) (i : ℕ) (v : Move) (ms : List Macro) → run s a ms false p (callText pl i v []) ≡ run s a ms false q (callText pl i v (g .text))
-    there pl i v ms = g .answer pl i v ms ∙ reading-byte .answer (callText pl i v (g .text)) ms (text-skips pl i v (g .text))
+    there : (pl : CallSite) (i : ℕ) (v : Move) (pr : Prior) → run s a pr false p (callText pl i v []) ≡ run s a pr false q (callText pl i v (g .text))
+    there pl i v pr = g .answer pl i v pr ∙ reading-byte .answer (callText pl i v (g .text)) pr (text-skips pl i v (g .text))
 
     pub reading-done : b ≡ 58 → TextFrom s a p old out n (Upto (q + 1) (n + k))
     reading-done h =
@@ -145,14 +145,14 @@ module _ {s : List ℕ} {a p : ℕ} {old out : List ℕ} {n at k : ℕ} (g : Rea
           short = omega (arith, g .size, g .short);
           room = omega (arith, g .size, g .room, reading-byte .found .0);
           reached = reached-behind (reading-byte .found .1 .stands);
-          answer = λ pl i v ms. there pl i v ms ∙ here-on (reading-byte .found .1) ms (callText pl i v (g .text)) (calling pl (texted i v (g .text))) (λ q o. refl) (text-colon pl i v (g .text) b h);
+          answer = λ pl i v pr. there pl i v pr ∙ here-on (reading-byte .found .1) pr (callText pl i v (g .text)) (calling pl (texted i v (g .text))) (λ q o. refl) (text-colon pl i v (g .text) b h);
         }
 
     module _ {r′ : Next} (x : Texting s a q k r′) where
       pub reading-fault-2 : {f : FileFault} {u : ℕ} {w : Ended} → r′ ≡ NoByte f u → w ≡ nextEnd r′ → TextFrom s a p old out n w
       reading-fault-2 {f} {u} i j =
           let z : Texting s a q k (NoByte f u) = rw i at x in
-          rw (j ∙ ap nextEnd i) (z .0, λ pl i v ms. there pl i v ms ∙ z .1 pl i v (g .text) (g .size) ms)
+          rw (j ∙ ap nextEnd i) (z .0, λ pl i v pr. there pl i v pr ∙ z .1 pl i v (g .text) (g .size) pr)
 
       module _ {c u : ℕ} (i : r′ ≡ Byte c u) where
         pub reading-text : Texting s a q k (Byte c u)
@@ -172,7 +172,7 @@ module _ {s : List ℕ} {a p : ℕ} {old out : List ℕ} {n at k : ℕ} (g : Rea
               room = omega (arith, g .room, f .0, z .0);
               reached = (omega (arith, here .behind, z .0), omega (arith, z .1), omega (arith, z .2));
               kept = simp length-set (g .kept);
-              answer = λ pl i v ms. there pl i v ms ∙ z .4 pl i v (g .text) (g .size) ms;
+              answer = λ pl i v pr. there pl i v pr ∙ z .4 pl i v (g .text) (g .size) pr;
             }
 
 -- THE END OF A TEXT
@@ -203,13 +203,13 @@ evened-padding : (t : List ℕ) → evened t ≡ t ++ padding (length t)
 unfolding evened padding
 evened-padding t = refl
 
-texted-close : (cmd : Bool) (i : ℕ) (v : Move) (t : List ℕ) (b : ℕ) → b ≡ 41 → callByte cmd (texted i v t) b ≡ closed (storeText i v (reverse t))
+texted-close : (si : Site) (i : ℕ) (v : Move) (t : List ℕ) (b : ℕ) → b ≡ 41 → callByte si (texted i v t) b ≡ closed (storeText i v (reverse t))
 unfolding callByte pick
-texted-close cmd i v t b e = simp e
+texted-close si i v t b e = simp e
 
-texted-wrong : (cmd : Bool) (i : ℕ) (v : Move) (t : List ℕ) (b : ℕ) → (b ≡ 41 → ⊥) → callByte cmd (texted i v t) b ≡ wrong
+texted-wrong : (si : Site) (i : ℕ) (v : Move) (t : List ℕ) (b : ℕ) → (b ≡ 41 → ⊥) → callByte si (texted i v t) b ≡ wrong
 unfolding callByte pick
-texted-wrong cmd i v t b e = simp (ne-eqb _ _ e)
+texted-wrong si i v t b e = simp (ne-eqb _ _ e)
 
 store-fits : (k i : ℕ) (v : Move) (t : List ℕ) → numberFits k (storeText i v t) ≡ true
 unfolding numberFits
@@ -229,37 +229,37 @@ module _ (s : List ℕ) (a p : ℕ) (old mid : List ℕ) (n i m : ℕ) {r : Ende
   pub store-fault : {f : FileFault} {q : ℕ} → r ≡ NoEnd f q → StoreFrom s a p old mid n i m r
   store-fault {f} {q} e =
       let z : TextFrom s a p old mid (n + 4) (NoEnd f q) = rw e at y in
-      rw e (λ v h cmd k. (z .0, λ pl u t ms. z .1 pl i v ms))
+      rw e (λ v h si k. (z .0, λ pl u t pr. z .1 pl i v pr))
 
   module _ {q e : ℕ} (j : r ≡ Upto q e) where
     pub store-text : TextRead s a p old mid (n + 4) q e
     store-text = rw j at y
 
-    comes : (v : Move) (cmd : Bool) (k : ℕ) → Comes s a cmd k (λ pl. callText pl i v []) p (λ pl. calling pl (texted i v (store-text .text))) q
-    comes v cmd k pl u t ms = store-text .answer pl i v ms
+    comes : (v : Move) (si : Site) (k : ℕ) → Comes s a si k (λ pl. callText pl i v []) p (λ pl. calling pl (texted i v (store-text .text))) q
+    comes v si k pl u t pr = store-text .answer pl i v pr
 
     module _ {r′ : Next} (z : Calls s a q r′) where
       pub store-none : {f : FileFault} {u : ℕ} {w : Ended} → r′ ≡ NoByte f u → w ≡ nextEnd r′ → StoreFrom s a p old mid n i m w
-      store-none {f} {u} {w} g h v l cmd k =
-          ends-none s a p old mid n 4 cmd k (λ pl. callText pl i v []) (texted i v (store-text .text)) (comes v cmd k) z g h
+      store-none {f} {u} {w} g h v l si k =
+          ends-none s a p old mid n 4 si k (λ pl. callText pl i v []) (texted i v (store-text .text)) (comes v si k) z g h
 
       module _ {b u : ℕ} (j′ : r′ ≡ Byte b u) where
         pub store-byte : Calls s a q (Byte b u)
         store-byte = rw j′ at z
 
         pub store-wrong : (f : FileFault) → (b ≡ 41 → ⊥) → faultOf f ≡ wrongCall b → StoreFrom s a p old mid n i m (NoEnd f u)
-        store-wrong f h g v l cmd k =
-            ends-wrong s a p old mid n 4 cmd k (λ pl. callText pl i v []) (texted i v (store-text .text))
-            (λ pl x t ms. comes v cmd k pl x t ms ∙ store-byte .answer (calling pl (texted i v (store-text .text))) ms (call-skips pl _) (space-call pl _))
-            (store-byte .found .1) f (store-byte .found .2) (texted-wrong cmd i v (store-text .text) b h) g
+        store-wrong f h g v l si k =
+            ends-wrong s a p old mid n 4 si k (λ pl. callText pl i v []) (texted i v (store-text .text))
+            (λ pl x t pr. comes v si k pl x t pr ∙ store-byte .answer (calling pl (texted i v (store-text .text))) pr (call-skips pl _) (space-call pl _))
+            (store-byte .found .1) f (store-byte .found .2) (texted-wrong si i v (store-text .text) b h) g
 
-        at-end : (v : Move) (cmd : Bool) (k : ℕ) → Comes s a cmd k (λ pl. callText pl i v []) p (λ pl. calling pl (texted i v (store-text .text))) u
-        at-end v cmd k pl x t ms = comes v cmd k pl x t ms ∙ store-byte .answer (calling pl (texted i v (store-text .text))) ms (call-skips pl _) (space-call pl _)
+        at-end : (v : Move) (si : Site) (k : ℕ) → Comes s a si k (λ pl. callText pl i v []) p (λ pl. calling pl (texted i v (store-text .text))) u
+        at-end v si k pl x t pr = comes v si k pl x t pr ∙ store-byte .answer (calling pl (texted i v (store-text .text))) pr (call-skips pl _) (space-call pl _)
 
         store-done : {mid₂ mid₃ out : List ℕ} {e′ : ℕ} → b ≡ 41 → n + 4 ≤ length old → n + 4 ≤ length mid₂ → n + 4 ≤ length mid₃
             → Wrote mid mid₂ e (padding (e - (n + 4))) → e′ ≡ e + length (padding (e - (n + 4)))
             → Wrote mid₂ mid₃ (n + 2) (43 ∷ (e - (n + 4)) ∷ []) → Wrote mid₃ out n ((72 + m) ∷ i ∷ []) → StoreFrom s a p old out n i m (Upto (u + 1) e′)
-        store-done {mid₂} {mid₃} {out} {e′} h l₀ l₂ l₃ w₁ g w₂ w₃ v c cmd k =
+        store-done {mid₂} {mid₃} {out} {e′} h l₀ l₂ l₃ w₁ g w₂ w₃ v c si k =
             let t = store-text in
             let f = store-byte .found in
             let long : e - (n + 4) ≡ length (reverse (t .text)) = rw (length-reverse (t .text)) (omega (arith, t .used)) in
@@ -271,8 +271,8 @@ module _ (s : List ℕ) (a p : ℕ) (old mid : List ℕ) (n i m : ℕ) {r : Ende
             let whole : Wrote old out n ((72 + m) ∷ i ∷ 43 ∷ length (reverse (t .text)) ∷ evened (reverse (t .text))) = wrote-before (omega arith) (omega arith) head w₃ in
             let sized : length (evened (reverse (t .text))) ≡ length (reverse (t .text)) + length (padding (e - (n + 4))) =
             rw (evened-padding (reverse (t .text)), length-append, long) refl in
-            ends-closed s a p old out n 4 cmd k (λ pl. callText pl i v []) (texted i v (t .text)) (at-end v cmd k) (f .1) (storeText i v (reverse (t .text)))
-            (texted-close cmd i v (t .text) b h) (store-fits k i v (reverse (t .text)))
+            ends-closed s a p old out n 4 si k (λ pl. callText pl i v []) (texted i v (t .text)) (at-end v si k) (f .1) (storeText i v (reverse (t .text)))
+            (texted-close si i v (t .text) b h) (store-fits k i v (reverse (t .text)))
             (rw (store-items i v (reverse (t .text)), ← c) whole)
             (rw (store-items i v (reverse (t .text))) (omega (arith, sized, long, t .used, g)))
             (omega (arith, g, t .used, t .room, f .0, padding-most (e - (n + 4)))) (omega (arith, t .room, f .0))

@@ -1,19 +1,20 @@
 -- Calls: what reading one says of the machine, at every place where it may stand.
 use Prim.Native.Nat.{ℕ, _+_, _-_, _*_, _%_, _≤_, _<_}
 use mathlib.Core.Path.{_≡_}
-use mathlib.Core.Bool.{Bool, true, false, not, _&&_}
+use mathlib.Core.Bool.{Bool, true, false, _&&_}
 use mathlib.Core.List.{List, [], _∷_, reverse}
 use mathlib.Core.Option.{Option, none, some}
 use mathlib.Core.Logic.{_⊎_}
 use lib.Dec.{eqb}
 use lib.ListN.{length, replicate}
-use Rattle.macros.specs.Macro.{Macro, Mark, Sign, Move, Call, pick, within, asciiLower, digit, tags}
+use Rattle.macros.specs.Macro.{Mark, Sign, Move, Call, pick, within, asciiLower, digit, tags}
 use Rattle.macros.specs.Macro.Mark.{stack, counter}
 use Rattle.macros.specs.Macro.Move.{still, before, after}
 use Rattle.macros.specs.Macro.Call.{insert}
 use Rattle.macros.specs.Formed.{numberFits}
-use Rattle.macros.specs.Read.{Part, CallSite, Phase, Turn, callByte, isCommand}
-use Rattle.macros.specs.Read.{frontOf, behindCall, isSign, signOf, isStill, numberEnd as closing}
+use Rattle.macros.specs.Read.{Part, Prior, Site, CallSite, Phase, callByte, siteOf, piecesOf, mayInsert, mayStoreTag}
+use Rattle.macros.specs.ReadSoFar.Site.{beforePattern, inReplacement, asCommand}
+use Rattle.macros.specs.Read.{behindCall, isSign, signOf, isStill, numberEnd as closing}
 use Rattle.macros.specs.ReadSoFar.Part.{calling, callText}
 use Rattle.macros.specs.ReadSoFar.Phase.{begun, named, tagged, tagNamed, texted}
 use Rattle.macros.specs.ReadCalls.Turn.{into, textOf, closed, wrong}
@@ -29,6 +30,8 @@ use Rattle.read_scan.specs.declared.Next.{Next}
 use Rattle.read_scan.specs.declared.Next.the-variants.{Byte, Refused as NoByte}
 use Rattle.read_number.specs.declared.Number.{Number}
 use Rattle.read_number.specs.declared.Number.the-variants.{Got, Refused as NoNumber}
+use Rattle.read_call.specs.declared.Site.{Site as CodeSite}
+use Rattle.read_call.specs.declared.Site.the-variants.{BeforePattern, Replacement, Command}
 use Rattle.read_call.specs.declared.Name.{Name}
 use Rattle.read_call.specs.declared.Name.the-variants.{Got as GotName, Refused as NoName}
 use Rattle.read_call.specs.declared.Tail.{Tail}
@@ -41,6 +44,12 @@ abbrev pub markOf : Bool → Mark
 markOf true = counter
 markOf false = stack
 
+-- the place that each one of the code is
+abbrev pub siteIs : CodeSite → Site
+siteIs BeforePattern = beforePattern
+siteIs Replacement = inReplacement
+siteIs Command = asCommand
+
 -- LETTERS AND THEIR SIGNS
 
 -- a sign's part of its move's code
@@ -48,10 +57,10 @@ unfoldable pub signCode : ℕ → ℕ
 signCode b = pick (eqb b 43) 1 2
 
 -- phases that take a letter with at most one sign, where sg says whether one may stand: at the first byte b; behind a sign; behind a letter
-pub record Names (cmd sg : Bool) (b : ℕ) (start : Phase) (sgn : Sign → Phase) (nam : ℕ → Move → Phase) : Type 0 where
-  pub first : callByte cmd start b ≡ pick (isSign b && sg) (into (sgn (signOf b))) (pick (asciiLower b) (into (nam b still)) wrong)
-  pub second : (x : Sign) (c : ℕ) → callByte cmd (sgn x) c ≡ pick (asciiLower c) (into (nam c (before x))) wrong
-  pub third : (i c : ℕ) → (isSign c && sg) ≡ true → callByte cmd (nam i still) c ≡ into (nam i (after (signOf c)))
+pub record Names (si : Site) (sg : Bool) (b : ℕ) (start : Phase) (sgn : Sign → Phase) (nam : ℕ → Move → Phase) : Type 0 where
+  pub first : callByte si start b ≡ pick (isSign b && sg) (into (sgn (signOf b))) (pick (asciiLower b) (into (nam b still)) wrong)
+  pub second : (x : Sign) (c : ℕ) → callByte si (sgn x) c ≡ pick (asciiLower c) (into (nam c (before x))) wrong
+  pub third : (i c : ℕ) → (isSign c && sg) ≡ true → callByte si (nam i still) c ≡ into (nam i (after (signOf c)))
 
 -- the letter i with a move of the code m, read from b at p on, and the byte c behind them at q
 pub record Letter (s : List ℕ) (a p b : ℕ) (sg : Bool) (i m c q : ℕ) : Type 0 where
@@ -62,21 +71,21 @@ pub record Letter (s : List ℕ) (a p b : ℕ) (sg : Bool) (i m c q : ℕ) : Typ
   pub further : p < q
   -- no sign that could still join
   pub last : isStill move ≡ true → (isSign c && sg) ≡ false
-  pub answer : (pl : CallSite) (start : Phase) (sgn : Sign → Phase) (nam : ℕ → Move → Phase) → Names (isCommand pl) sg b start sgn nam
-      → (ms : List Macro)
-      → run s a ms false p (calling pl start) ≡ run s a ms false q (calling pl (nam i move))
+  pub answer : (pl : CallSite) (start : Phase) (sgn : Sign → Phase) (nam : ℕ → Move → Phase) → Names (siteOf pl) sg b start sgn nam
+      → (pr : Prior)
+      → run s a pr false p (calling pl start) ≡ run s a pr false q (calling pl (nam i move))
 
 -- what reading a letter says
 abbrev pub Naming : List ℕ → ℕ → ℕ → ℕ → Bool → Name → Type 0
 Naming s a p b sg (GotName i m c q) = Letter s a p b sg i m c q
 Naming s a p b sg (NoName f q) =
     (q ≤ length s) × ((pl : CallSite) (start : Phase) (sgn : Sign → Phase) (nam : ℕ → Move → Phase)
-    → Names (isCommand pl) sg b start sgn nam → (ms : List Macro) → run s a ms false p (calling pl start) ≡ refusedAt (faultOf f) q)
+    → Names (siteOf pl) sg b start sgn nam → (pr : Prior) → run s a pr false p (calling pl start) ≡ refusedAt (faultOf f) q)
 
--- whether a letter may have a sign: not as a command of a counter
-abbrev pub signsIn : Bool → Bool → Bool
-signsIn true cmd = not cmd
-signsIn false cmd = true
+-- whether a letter may have a sign: a counter's only where it may insert
+abbrev pub signsIn : Bool → Site → Bool
+signsIn true si = mayInsert si
+signsIn false si = true
 
 -- the letter i with a move of the code m behind a tag's number and its comma, read from the comma at p on, and the byte d behind them at q
 pub record TagLetter (s : List ℕ) (a p i m d q : ℕ) : Type 0 where
@@ -86,44 +95,44 @@ pub record TagLetter (s : List ℕ) (a p i m d q : ℕ) : Type 0 where
   pub solid : d ≡ 32 → ⊥
   pub further : p + 1 < q
   pub last : isStill move ≡ true → (isSign d && true) ≡ false
-  pub answer : (w : ℕ) (pl : CallSite) (ms : List Macro)
-      → run s a ms false p (calling pl (tagged w)) ≡ run s a ms false q (calling pl (tagNamed w i move))
+  pub answer : (w : ℕ) (pl : CallSite) (pr : Prior)
+      → run s a pr false p (calling pl (tagged w)) ≡ run s a pr false q (calling pl (tagNamed w i move))
 
 -- what reading them says
 abbrev pub TagNaming : List ℕ → ℕ → ℕ → Name → Type 0
 TagNaming s a p (GotName i m d q) = TagLetter s a p i m d q
 TagNaming s a p (NoName f q) =
-    (q ≤ length s) × ((w : ℕ) (pl : CallSite) (ms : List Macro) → run s a ms false p (calling pl (tagged w)) ≡ refusedAt (faultOf f) q)
+    (q ≤ length s) × ((w : ℕ) (pl : CallSite) (pr : Prior) → run s a pr false p (calling pl (tagged w)) ≡ refusedAt (faultOf f) q)
 
 -- THE ENDS OF CALLS
 
--- the machine comes from p in the state F to q in the state G, at every place of a replacement or, if cmd, of a command,
+-- the machine comes from p in the state F to q in the state G, at every place of this kind,
 -- behind a pattern of k tags
-abbrev pub Comes : List ℕ → ℕ → Bool → ℕ → (CallSite → Part) → ℕ → (CallSite → Part) → ℕ → Type 0
-Comes s a cmd k F p G q =
-    (pl : CallSite) → isCommand pl ≡ cmd → tags (frontOf pl .pieces) ≡ k → (ms : List Macro)
-    → run s a ms false p (F pl) ≡ run s a ms false q (G pl)
+abbrev pub Comes : List ℕ → ℕ → Site → ℕ → (CallSite → Part) → ℕ → (CallSite → Part) → ℕ → Type 0
+Comes s a si k F p G q =
+    (pl : CallSite) → siteOf pl ≡ si → tags (piecesOf pl) ≡ k → (pr : Prior)
+    → run s a pr false p (F pl) ≡ run s a pr false q (G pl)
 
 -- the call read from p up to q, from the state F on, and its items written from n up to e; x bytes of room come from what was read before p
-pub record Called (s : List ℕ) (a p : ℕ) (old out : List ℕ) (n x : ℕ) (cmd : Bool) (k : ℕ) (F : CallSite → Part) (q e : ℕ) : Type 0 where
+pub record Called (s : List ℕ) (a p : ℕ) (old out : List ℕ) (n x : ℕ) (si : Site) (k : ℕ) (F : CallSite → Part) (q e : ℕ) : Type 0 where
   pub call : Call
   pub wrote : Wrote old out n (callItems call)
   pub used : e ≡ n + length (callItems call)
   pub room : e ≤ n + x + 2 * (q - p)
   pub further : p < q
   pub reached : Reached s a q
-  pub answer : Comes s a cmd k F p (λ pl. behindCall pl call) q
+  pub answer : Comes s a si k F p (λ pl. behindCall pl call) q
 
 -- what reading to the end of a call says
-abbrev pub Ends : List ℕ → ℕ → ℕ → List ℕ → List ℕ → ℕ → ℕ → Bool → ℕ → (CallSite → Part) → Ended → Type 0
-Ends s a p old out n x cmd k F (Upto q e) = Called s a p old out n x cmd k F q e
-Ends s a p old out n x cmd k F (NoEnd f q) =
-    (q ≤ length s) × ((pl : CallSite) → isCommand pl ≡ cmd → tags (frontOf pl .pieces) ≡ k → (ms : List Macro)
-    → run s a ms false p (F pl) ≡ refusedAt (faultOf f) q)
+abbrev pub Ends : List ℕ → ℕ → ℕ → List ℕ → List ℕ → ℕ → ℕ → Site → ℕ → (CallSite → Part) → Ended → Type 0
+Ends s a p old out n x si k F (Upto q e) = Called s a p old out n x si k F q e
+Ends s a p old out n x si k F (NoEnd f q) =
+    (q ≤ length s) × ((pl : CallSite) → siteOf pl ≡ si → tags (piecesOf pl) ≡ k → (pr : Prior)
+    → run s a pr false p (F pl) ≡ refusedAt (faultOf f) q)
 
 -- a whole call, in a pattern of k tags
-abbrev pub CalledFrom : List ℕ → ℕ → ℕ → List ℕ → List ℕ → ℕ → Mark → Bool → ℕ → Ended → Type 0
-CalledFrom s a p old out n m cmd k r = Ends s a p old out n 0 cmd k (λ pl. calling pl (begun m)) r
+abbrev pub CalledFrom : List ℕ → ℕ → ℕ → List ℕ → List ℕ → ℕ → Mark → Site → ℕ → Ended → Type 0
+CalledFrom s a p old out n m si k r = Ends s a p old out n 0 si k (λ pl. calling pl (begun m)) r
 
 -- the lent bytes behind an answer: a refusal leaves zeros
 abbrev pub leftBy : List ℕ → Ended → List ℕ
@@ -136,42 +145,42 @@ Zeroed old out (Upto q e) = Unit {0}
 Zeroed old out (NoEnd f q) = out ≡ replicate (length old) 0
 
 -- what reading a whole call says of the answer and of all lent bytes
-pub record CallRead (s : List ℕ) (a p : ℕ) (old out : List ℕ) (n : ℕ) (m : Mark) (cmd : Bool) (k : ℕ) (r : Ended) : Type 0 where
-  pub from : CalledFrom s a p old out n m cmd k r
+pub record CallRead (s : List ℕ) (a p : ℕ) (old out : List ℕ) (n : ℕ) (m : Mark) (si : Site) (k : ℕ) (r : Ended) : Type 0 where
+  pub from : CalledFrom s a p old out n m si k r
   pub zeros : Zeroed old out r
 
 -- one that begins with a letter knows no tags
-abbrev pub NamedFrom : List ℕ → ℕ → ℕ → List ℕ → List ℕ → ℕ → Mark → Bool → Ended → Type 0
-NamedFrom s a p old out n m cmd r = (k : ℕ) → CalledFrom s a p old out n m cmd k r
+abbrev pub NamedFrom : List ℕ → ℕ → ℕ → List ℕ → List ℕ → ℕ → Mark → Site → Ended → Type 0
+NamedFrom s a p old out n m si r = (k : ℕ) → CalledFrom s a p old out n m si k r
 
--- that a byte is none that the number of a stack's tag could begin with
-abbrev pub Starts : Bool → ℕ → Type 0
-Starts c b = c ≡ false → digit b ≡ false
+-- that a byte is none that the number of a stack's tag could begin with, where one may be stored
+abbrev pub Starts : Bool → Site → ℕ → Type 0
+Starts c si b = c ≡ false → (digit b && mayStoreTag si) ≡ false
 
 -- phases that take a number of at most top and a `)`: their calls
 pub record Sets (code i top : ℕ) (ph : Option ℕ → Phase) (c : ℕ → Call) : Type 0 where
   pub eats : (pl : CallSite) → Eats true (λ o. calling pl (ph o))
-  pub others : (cmd : Bool) (o : Option ℕ) (b : ℕ) → digit b ≡ false → (b ≡ 41 → ⊥) → callByte cmd (ph o) b ≡ wrong
-  pub closes : (cmd : Bool) (o : Option ℕ) → callByte cmd (ph o) 41 ≡ closing c o
+  pub others : (si : Site) (o : Option ℕ) (b : ℕ) → digit b ≡ false → (b ≡ 41 → ⊥) → callByte si (ph o) b ≡ wrong
+  pub closes : (si : Site) (o : Option ℕ) → callByte si (ph o) 41 ≡ closing c o
   pub fits : (k v : ℕ) → numberFits k (c v) ≡ within 1 top v
   pub items : (v : ℕ) → callItems (c v) ≡ code ∷ i ∷ four v
 
 abbrev pub SetFrom : List ℕ → ℕ → ℕ → List ℕ → List ℕ → ℕ → ℕ → ℕ → ℕ → Ended → Type 0
 SetFrom s a p old out n code i top r =
-    (ph : Option ℕ → Phase) (c : ℕ → Call) → Sets code i top ph c → (cmd : Bool) (k : ℕ)
-    → Ends s a p old out n 4 cmd k (λ pl. calling pl (ph none)) r
+    (ph : Option ℕ → Phase) (c : ℕ → Call) → Sets code i top ph c → (si : Site) (k : ℕ)
+    → Ends s a p old out n 4 si k (λ pl. calling pl (ph none)) r
 
 -- what the byte c behind a letter with a move of the code m asks for, where sg says whether a sign may stand
-abbrev pub Asks : Mark → Bool → Bool → ℕ → ℕ → Tail → Type 0
-Asks mk cmd sg c m Text = (i : ℕ) (v : Move) → m ≡ moveCode v → callByte cmd (named mk i v) c ≡ textOf i v
-Asks mk cmd sg c m (Set code top) =
+abbrev pub Asks : Mark → Site → Bool → ℕ → ℕ → Tail → Type 0
+Asks mk si sg c m Text = (i : ℕ) (v : Move) → m ≡ moveCode v → callByte si (named mk i v) c ≡ textOf i v
+Asks mk si sg c m (Set code top) =
     (top ≤ 999999999) × ((i : ℕ) (v : Move) → m ≡ moveCode v → (ph : Option ℕ → Phase) × (d : ℕ → Call) × Sets code i top ph d
-    × (callByte cmd (named mk i v) c ≡ into (ph none)))
-Asks mk cmd sg c m (Insert code) =
-    (i : ℕ) (v : Move) → m ≡ moveCode v → (callByte cmd (named mk i v) c ≡ closed (insert mk i v))
+    × (callByte si (named mk i v) c ≡ into (ph none)))
+Asks mk si sg c m (Insert code) =
+    (i : ℕ) (v : Move) → m ≡ moveCode v → (callByte si (named mk i v) c ≡ closed (insert mk i v))
     × (callItems (insert mk i v) ≡ code ∷ i ∷ [])
-Asks mk cmd sg c m Wrong =
-    (i : ℕ) (v : Move) → m ≡ moveCode v → (isStill v ≡ true → (isSign c && sg) ≡ false) → callByte cmd (named mk i v) c ≡ wrong
+Asks mk si sg c m Wrong =
+    (i : ℕ) (v : Move) → m ≡ moveCode v → (isStill v ≡ true → (isSign c && sg) ≡ false) → callByte si (named mk i v) c ≡ wrong
 
 -- that a number, which has a digit if m, is not closed by z, or is none from 1 to top
 abbrev pub Unclosed : ℕ → ℕ → Bool → ℕ → ℕ → Bool → Type 0
@@ -180,7 +189,7 @@ Unclosed b z m v top false = (b ≡ z) × (m ≡ true) × (1 ≤ v) × (v ≤ to
 
 -- behind a tag's number w, of which v is kept
 abbrev pub TagFrom : List ℕ → ℕ → ℕ → List ℕ → List ℕ → ℕ → ℕ → ℕ → Ended → Type 0
-TagFrom s a p old out n v k r = (w : ℕ) → v ≡ most w → (cmd : Bool) → Ends s a p old out n 0 cmd k (λ pl. calling pl (tagged w)) r
+TagFrom s a p old out n v k r = (w : ℕ) → v ≡ most w → (si : Site) → Ends s a p old out n 0 si k (λ pl. calling pl (tagged w)) r
 
 -- TEXT
 
@@ -188,11 +197,11 @@ TagFrom s a p old out n v k r = (w : ℕ) → v ≡ most w → (cmd : Bool) → 
 abbrev pub Texting : List ℕ → ℕ → ℕ → ℕ → Next → Type 0
 Texting s a p k (Byte b q) =
     (p ≤ q) × (q < length s) × (q ≤ a + 512) × (k < 50)
-    × ((pl : CallSite) (i : ℕ) (v : Move) (t : List ℕ) → length t ≡ k → (ms : List Macro)
-    → run s a ms false p (callText pl i v t) ≡ run s a ms false (q + 1) (callText pl i v (b ∷ t)))
+    × ((pl : CallSite) (i : ℕ) (v : Move) (t : List ℕ) → length t ≡ k → (pr : Prior)
+    → run s a pr false p (callText pl i v t) ≡ run s a pr false (q + 1) (callText pl i v (b ∷ t)))
 Texting s a p k (NoByte f q) =
-    (q ≤ length s) × ((pl : CallSite) (i : ℕ) (v : Move) (t : List ℕ) → length t ≡ k → (ms : List Macro)
-    → run s a ms false p (callText pl i v t) ≡ refusedAt (faultOf f) q)
+    (q ≤ length s) × ((pl : CallSite) (i : ℕ) (v : Move) (t : List ℕ) → length t ≡ k → (pr : Prior)
+    → run s a pr false p (callText pl i v t) ≡ refusedAt (faultOf f) q)
 
 -- the text t, newest byte first, read from p up to q and written from n up to e
 pub record TextRead (s : List ℕ) (a p : ℕ) (old out : List ℕ) (n q e : ℕ) : Type 0 where
@@ -202,14 +211,14 @@ pub record TextRead (s : List ℕ) (a p : ℕ) (old out : List ℕ) (n q e : ℕ
   pub short : length text ≤ 50
   pub room : length text < q - p
   pub reached : Reached s a q
-  pub answer : (pl : CallSite) (i : ℕ) (v : Move) (ms : List Macro)
-      → run s a ms false p (callText pl i v []) ≡ run s a ms false q (calling pl (texted i v text))
+  pub answer : (pl : CallSite) (i : ℕ) (v : Move) (pr : Prior)
+      → run s a pr false p (callText pl i v []) ≡ run s a pr false q (calling pl (texted i v text))
 
 abbrev pub TextFrom : List ℕ → ℕ → ℕ → List ℕ → List ℕ → ℕ → Ended → Type 0
 TextFrom s a p old out n (Upto q e) = TextRead s a p old out n q e
 TextFrom s a p old out n (NoEnd f q) =
-    (q ≤ length s) × ((pl : CallSite) (i : ℕ) (v : Move) (ms : List Macro)
-    → run s a ms false p (callText pl i v []) ≡ refusedAt (faultOf f) q)
+    (q ≤ length s) × ((pl : CallSite) (i : ℕ) (v : Move) (pr : Prior)
+    → run s a pr false p (callText pl i v []) ≡ refusedAt (faultOf f) q)
 
 -- behind a text of k bytes
 unfoldable pub padding : ℕ → List ℕ
@@ -226,7 +235,7 @@ PutStore old out n e i m r =
 -- behind the `:` of the letter i, whose move has the code m
 abbrev pub StoreFrom : List ℕ → ℕ → ℕ → List ℕ → List ℕ → ℕ → ℕ → ℕ → Ended → Type 0
 StoreFrom s a p old out n i m r =
-    (v : Move) → m ≡ moveCode v → (cmd : Bool) (k : ℕ) → Ends s a p old out n 4 cmd k (λ pl. callText pl i v []) r
+    (v : Move) → m ≡ moveCode v → (si : Site) (k : ℕ) → Ends s a p old out n 4 si k (λ pl. callText pl i v []) r
 
 -- REFUSALS HANDED ON
 

@@ -1,9 +1,10 @@
-// Calls of a replacement and of commands, from behind their `&(` or `#(` to behind their `)`.
+// Calls before a pattern, of a replacement and of commands, from behind their `&(` or `#(` to behind their `)`.
 use crate::Ended;
 use crate::MOST_COUNTER;
 use crate::MOST_ENTRIES;
 use crate::MOST_ENTRY_BYTES;
 use crate::Name;
+use crate::Site;
 use crate::Tail;
 use crate::ends::next_end;
 use crate::ends::number_end;
@@ -43,10 +44,10 @@ ghost use Prim.Native.Nat.{_≤_, _<_, _*_, _+_, _-_};
 ghost use lib.ListN.{length};
 ghost use Rattle.macros.specs.Macro.{digit};
 ghost use Rattle.macros.specs.Macro.Mark.{stack};
-ghost use Rattle.macros.specs.Read.{isSign};
+ghost use Rattle.macros.specs.Read.{isSign, mayInsert, mayStoreTag};
 ghost use Rattle.read_scan.specs.Scan.{Reached, Here};
 ghost use Rattle.form_items.specs.Items.{Wrote};
-ghost use Rattle.read_call.specs.Call.{CallRead, CalledFrom, NamedFrom, Naming, TagNaming, Texting, TextFrom, SetFrom, TagFrom, StoreFrom, PutStore, Asks, Starts, signsIn, markOf, signCode, padding, nextName, nameEnd};
+ghost use Rattle.read_call.specs.Call.{CallRead, CalledFrom, NamedFrom, Naming, TagNaming, Texting, TextFrom, SetFrom, TagFrom, StoreFrom, PutStore, Asks, Starts, signsIn, siteIs, markOf, signCode, padding, nextName, nameEnd};
 
 // REFUSALS HANDED ON
 
@@ -299,12 +300,36 @@ fn text_call(s: &[u8], out: &mut [u8], a: usize, at: usize, n: usize, i: u8, m: 
     Ended::Upto(z + 1, end)
 }
 
+// WHAT A CALL MAY DO
+
+// Whether it may insert: in a replacement only.
+fn may_insert(site: Site) -> bool
+    ensures { λ r. ⌜ r ≡ mayInsert (siteIs site) ⌝ }
+{
+    match site {
+        Site::BeforePattern => false,
+        Site::Replacement => true,
+        Site::Command => false,
+    }
+}
+
+// Whether it may store a tag: not before a pattern (02, N2).
+fn may_store_tag(site: Site) -> bool
+    ensures { λ r. ⌜ r ≡ mayStoreTag (siteIs site) ⌝ }
+{
+    match site {
+        Site::BeforePattern => false, // 16 at the number's first digit
+        Site::Replacement => true,
+        Site::Command => true,
+    }
+}
+
 // CALLS
 
 // What the byte c behind a letter with the move m asks for in `&(..)`.
-fn stack_tail(c: u8, m: u8, cmd: bool) -> Tail
+fn stack_tail(c: u8, m: u8, site: Site) -> Tail
     requires { ⌜ m ≤ 4 ⌝ }
-    ensures { λ r. ⌜ Asks (markOf false) cmd (signsIn false cmd) c m r ⌝ }
+    ensures { λ r. ⌜ Asks (markOf false) (siteIs site) (signsIn false (siteIs site)) c m r ⌝ }
 {
     if c == b':' {
         return Tail::Text;
@@ -318,17 +343,18 @@ fn stack_tail(c: u8, m: u8, cmd: bool) -> Tail
     if c != b')' {
         return Tail::Wrong;
     }
-    if cmd {
-        return Tail::Wrong;
+    if may_insert(site) {
+        return Tail::Insert(INSERT_ENTRY + m);
     }
-    Tail::Insert(INSERT_ENTRY + m)
+    Tail::Wrong
 }
 
 // What the byte c behind a letter with the move m asks for in `#(..)`.
-fn counter_tail(c: u8, m: u8, cmd: bool) -> Tail
+fn counter_tail(c: u8, m: u8, site: Site) -> Tail
     requires { ⌜ m ≤ 4 ⌝ }
-    ensures { λ r. ⌜ Asks (markOf true) cmd (signsIn true cmd) c m r ⌝ }
+    ensures { λ r. ⌜ Asks (markOf true) (siteIs site) (signsIn true (siteIs site)) c m r ⌝ }
 {
+    let inserts = may_insert(site);
     if c == b',' {
         if 0 < m {
             return Tail::Wrong;
@@ -342,7 +368,7 @@ fn counter_tail(c: u8, m: u8, cmd: bool) -> Tail
         return Tail::Set(SET_VALUE, MOST_COUNTER);
     }
     if c == b':' {
-        if (0 < m) | cmd {
+        if (0 < m) | !inserts {
             return Tail::Wrong;
         }
         return Tail::Set(DIVIDE, MOST_COUNTER);
@@ -350,29 +376,29 @@ fn counter_tail(c: u8, m: u8, cmd: bool) -> Tail
     if c != b')' {
         return Tail::Wrong;
     }
-    if cmd {
-        return Tail::Wrong;
+    if inserts {
+        return Tail::Insert(INSERT_VALUE + m);
     }
-    Tail::Insert(INSERT_VALUE + m)
+    Tail::Wrong
 }
 
 // What the byte c behind a letter with the move m asks for, in `&(..)` or, if counter, in `#(..)`.
-fn tail(c: u8, m: u8, counter: bool, cmd: bool) -> Tail
+fn tail(c: u8, m: u8, counter: bool, site: Site) -> Tail
     requires { ⌜ m ≤ 4 ⌝ }
-    ensures { λ r. ⌜ Asks (markOf counter) cmd (signsIn counter cmd) c m r ⌝ }
+    ensures { λ r. ⌜ Asks (markOf counter) (siteIs site) (signsIn counter (siteIs site)) c m r ⌝ }
 {
     if counter {
-        return counter_tail(c, m, cmd);
+        return counter_tail(c, m, site);
     }
-    stack_tail(c, m, cmd)
+    stack_tail(c, m, site)
 }
 
-// Whether a letter may have a sign: not as a command of a counter.
-fn signs_in(counter: bool, cmd: bool) -> bool
-    ensures { λ r. ⌜ r ≡ signsIn counter cmd ⌝ }
+// Whether a letter may have a sign: a counter's only where it may insert.
+fn signs_in(counter: bool, site: Site) -> bool
+    ensures { λ r. ⌜ r ≡ signsIn counter (siteIs site) ⌝ }
 {
     if counter {
-        return !cmd;
+        return may_insert(site);
     }
     true
 }
@@ -386,16 +412,16 @@ fn named_call(
     b: u8,
     n: usize,
     counter: bool,
-    cmd: bool,
+    site: Site,
 ) -> Ended
-    requires { ⌜ Here (now s) a at b × (b ≡ 32 → ⊥) × Starts counter b × (n + 2 * (a + 513 - at) ≤ length (now out)) ⌝ }
-    ensures { λ r. ⌜ NamedFrom (now (s .entry)) a at (now (out .entry)) (now (out .exit)) n (markOf counter) cmd r ⌝ }
+    requires { ⌜ Here (now s) a at b × (b ≡ 32 → ⊥) × Starts counter (siteIs site) b × (n + 2 * (a + 513 - at) ≤ length (now out)) ⌝ }
+    ensures { λ r. ⌜ NamedFrom (now (s .entry)) a at (now (out .entry)) (now (out .exit)) n (markOf counter) (siteIs site) r ⌝ }
 {
-    let named = name(s, a, at, b, signs_in(counter, cmd));
+    let named = name(s, a, at, b, signs_in(counter, site));
     let Name::Got(i, m, c, z) = named else {
         return name_end(named);
     };
-    let asked = tail(c, m, counter, cmd);
+    let asked = tail(c, m, counter, site);
     match asked {
         Tail::Text => text_call(s, out, a, z + 1, n, i, m),
         Tail::Set(code, top) => set_call(s, out, a, z + 1, n, code, i, top),
@@ -407,6 +433,26 @@ fn named_call(
     }
 }
 
+// A call behind its `#(` or, where no tag may be stored, its `&(`: it begins with its letter.
+fn letter_call(
+    s: &[u8],
+    out: &mut [u8],
+    a: usize,
+    at: usize,
+    n: usize,
+    counter: bool,
+    site: Site,
+) -> Ended
+    requires { ⌜ Reached (now s) a at × (n + 2 * (a + 513 - at) ≤ length (now out)) × (counter ≡ false → mayStoreTag (siteIs site) ≡ false) ⌝ }
+    ensures { λ r. ⌜ NamedFrom (now (s .entry)) a at (now (out .entry)) (now (out .exit)) n (markOf counter) (siteIs site) r ⌝ }
+{
+    let next = call_byte(s, a, at);
+    let Next::Byte(b, q) = next else {
+        return next_end(next);
+    };
+    named_call(s, out, a, q, b, n, counter, site)
+}
+
 // A call behind its `&(`: a stored tag's begins with a number, any other with its letter.
 fn stack_call(
     s: &[u8],
@@ -414,12 +460,15 @@ fn stack_call(
     a: usize,
     at: usize,
     n: usize,
-    cmd: bool,
+    site: Site,
     tags: usize,
 ) -> Ended
     requires { ⌜ Reached (now s) a at × (n + 2 * (a + 513 - at) ≤ length (now out)) × (tags ≤ 99) ⌝ }
-    ensures { λ r. ⌜ CalledFrom (now (s .entry)) a at (now (out .entry)) (now (out .exit)) n stack cmd tags r ⌝ }
+    ensures { λ r. ⌜ CalledFrom (now (s .entry)) a at (now (out .entry)) (now (out .exit)) n stack (siteIs site) tags r ⌝ }
 {
+    if !may_store_tag(site) {
+        return letter_call(s, out, a, at, n, false, site);
+    }
     let number = digits(s, a, at, true);
     let Number::Got(v, some, b, q) = number else {
         return number_end(number);
@@ -427,22 +476,10 @@ fn stack_call(
     if some {
         return tag_call(s, out, a, q, b, n, v, tags);
     }
-    named_call(s, out, a, q, b, n, false, cmd)
+    named_call(s, out, a, q, b, n, false, site)
 }
 
-// A call behind its `#(`.
-fn counter_call(s: &[u8], out: &mut [u8], a: usize, at: usize, n: usize, cmd: bool) -> Ended
-    requires { ⌜ Reached (now s) a at × (n + 2 * (a + 513 - at) ≤ length (now out)) ⌝ }
-    ensures { λ r. ⌜ NamedFrom (now (s .entry)) a at (now (out .entry)) (now (out .exit)) n (markOf true) cmd r ⌝ }
-{
-    let next = call_byte(s, a, at);
-    let Next::Byte(b, q) = next else {
-        return next_end(next);
-    };
-    named_call(s, out, a, q, b, n, true, cmd)
-}
-
-// One call behind its `&(` or, if counter, `#(`, in a replacement or, if cmd, as a command.
+// One call behind its `&(` or, if counter, `#(`.
 fn one_call(
     s: &[u8],
     out: &mut [u8],
@@ -450,16 +487,16 @@ fn one_call(
     at: usize,
     n: usize,
     counter: bool,
-    cmd: bool,
+    site: Site,
     tags: usize,
 ) -> Ended
     requires { ⌜ Reached (now s) a at × (n + 2 * (a + 513 - at) ≤ length (now out)) × (tags ≤ 99) ⌝ }
-    ensures { λ r. ⌜ CalledFrom (now (s .entry)) a at (now (out .entry)) (now (out .exit)) n (markOf counter) cmd tags r ⌝ }
+    ensures { λ r. ⌜ CalledFrom (now (s .entry)) a at (now (out .entry)) (now (out .exit)) n (markOf counter) (siteIs site) tags r ⌝ }
 {
     if counter {
-        return counter_call(s, out, a, at, n, cmd);
+        return letter_call(s, out, a, at, n, true, site);
     }
-    stack_call(s, out, a, at, n, cmd, tags)
+    stack_call(s, out, a, at, n, site, tags)
 }
 
 // One call, as above; a refusal leaves zeros in the lent bytes.
@@ -470,12 +507,12 @@ pub fn call(
     at: usize,
     n: usize,
     counter: bool,
-    cmd: bool,
+    site: Site,
     tags: usize,
 ) -> Ended
     requires { ⌜ Reached (now s) a at × (n + 2 * (a + 513 - at) ≤ length (now out)) × (tags ≤ 99) ⌝ }
-    ensures { λ r. ⌜ CallRead (now (s .entry)) a at (now (out .entry)) (now (out .exit)) n (markOf counter) cmd tags r ⌝ }
+    ensures { λ r. ⌜ CallRead (now (s .entry)) a at (now (out .entry)) (now (out .exit)) n (markOf counter) (siteIs site) tags r ⌝ }
 {
-    let read = one_call(s, out, a, at, n, counter, cmd, tags);
+    let read = one_call(s, out, a, at, n, counter, site, tags);
     or_zeros(out, read)
 }

@@ -11,6 +11,13 @@ pub(crate) const MOST_ENTRY_BYTES: usize = 50;
 
 pub(crate) const MOST_COUNTER: u64 = 999_999_999;
 
+// The three places where a call other than a pattern's may stand.
+pub enum Site {
+    BeforePattern,
+    Replacement,
+    Command,
+}
+
 // A letter, its move's code, and the byte behind them with its place; or a refusal with its place.
 pub(crate) enum Name {
     Got(u8, u8, u8, usize),

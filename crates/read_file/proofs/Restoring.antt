@@ -13,6 +13,7 @@ use Rattle.macros.specs.Refusals.{FileRefusal}
 use Rattle.macros.specs.Refusals.FileRefusal.{fileTooLong, zeroByte}
 use Rattle.macros.specs.Macro.{Table, pick}
 use Rattle.macros.specs.Read.{readFrom, readOnto, firstZero}
+use Rattle.macros.specs.ReadFile.Pending.{clear}
 use Rattle.macros.specs.ReadFile.Reader.{between}
 use Rattle.macros.specs.ReadFile.Read.{refusedAt, table}
 use Rattle.macros.specs.Accepted.{Accepted}
@@ -40,7 +41,7 @@ zeroed : (ms : Table) (s : List ℕ) (p : ℕ) → length s ≤ 32768 → firstZ
 unfolding readOnto pick
 zeroed ms s p h e = rw (le-ltb _ _ h, e) refl
 
-fresh : (ms : Table) (s : List ℕ) → length s ≤ 32768 → firstZero 0 s ≡ none → readOnto ms s ≡ readFrom 0 (between false (reverse ms)) s
+fresh : (ms : Table) (s : List ℕ) → length s ≤ 32768 → firstZero 0 s ≡ none → readOnto ms s ≡ readFrom 0 (between false clear (reverse ms)) s
 unfolding readOnto pick
 fresh ms s h e = rw (le-ltb _ _ h, e) refl
 

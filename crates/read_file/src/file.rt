@@ -1,4 +1,4 @@
-// One macro from its first quote to its `;`, and a file of them.
+// One macro from where it begins to its `;`, and a file of them.
 use crate::Added;
 use crate::Built;
 use crate::Head;
@@ -9,6 +9,7 @@ use crate::SLOT_BYTES;
 use crate::Seek;
 use crate::slots::store;
 use form_items::clear;
+use read_action::actions::calls_before;
 use read_action::actions::commands;
 use read_action::actions::find_replacement;
 use read_action::actions::replacement;
@@ -20,12 +21,13 @@ use read_scan::MOST_MACRO_BYTES;
 use read_scan::Next;
 ghost use mathlib.Core.Path.{_≡_};
 ghost use Prim.Native.Nat.{_≤_, _<_, _*_, _+_, _-_};
-ghost use lib.ListN.{length, getD};
+ghost use lib.ListN.{length};
 ghost use Rattle.macros.specs.Bounds.{mostMacros, mostTags};
+ghost use Rattle.macros.specs.Macro.{pick};
 ghost use Rattle.form_table.specs.Form.{slotBytes, tableBytes, symbolCode};
 ghost use Rattle.read_scan.specs.Scan.{Reached};
 ghost use Rattle.read_action.specs.Action.{symbolOf};
-ghost use Rattle.read_file.specs.File.{MacroFrom, ReadsMacro, PartsFrom, noPattern, noNext, noEnd, opens, turned, Seeks, ZeroAt, AddsFrom, noQuote, noMacro, macrosBy, tableOf, Lent, Onto};
+ghost use Rattle.read_file.specs.File.{PrecededBy, MacroFrom, ReadsMacro, PartsFrom, noPattern, noNext, noEnd, over, opens, opensCall, turned, Seeks, ZeroAt, AddsFrom, noStart, noMacro, macrosBy, tableOf, Lent, Onto};
 
 // The code of the symbol `=` or `<` in a slot.
 fn symbol_code(b: u8) -> u8
@@ -37,10 +39,19 @@ fn symbol_code(b: u8) -> u8
     1
 }
 
-// The replacement and the commands from `at` on, behind a pattern of so many tags, whose items end at i, and the symbol b.
-fn parts(s: &[u8], out: &mut [u8], a: usize, at: usize, b: u8, i: usize, tags: usize) -> Built
-    requires { ⌜ Reached (now s) a at × (i + 2 * (a + 513 - at) ≤ length (now out)) × (tags ≤ mostTags) ⌝ }
-    ensures { λ r. ⌜ PartsFrom (now (s .entry)) a at (now (out .entry)) (now (out .exit)) b i tags r ⌝ }
+// The replacement and the commands from `at` on, behind a pattern of so many tags, whose items stand from n up to i, and the symbol b.
+fn parts(
+    s: &[u8],
+    out: &mut [u8],
+    a: usize,
+    at: usize,
+    b: u8,
+    n: usize,
+    i: usize,
+    tags: usize,
+) -> Built
+    requires { ⌜ Reached (now s) a at × (i + 2 * (a + 513 - at) ≤ length (now out)) × (tags ≤ mostTags) × (n ≤ i) ⌝ }
+    ensures { λ r. ⌜ PartsFrom (now (s .entry)) a at (now (out .entry)) (now (out .exit)) b n i tags r ⌝ }
 {
     let second = replacement(s, out, a, at, i, tags);
     let Ended::Upto(v, j) = second else {
@@ -56,19 +67,43 @@ fn parts(s: &[u8], out: &mut [u8], a: usize, at: usize, b: u8, i: usize, tags: u
     let head = Head {
         symbol: symbol_code(b),
         tags: tags,
-        pattern: i,
+        before: n,
+        pattern: i - n,
         replacement: j - i,
         commands: k - j,
     };
     Built::Made(q + 1, head)
 }
 
-// The macro whose first quote stands at a; its items are written from 0 on.
-fn one_macro(s: &[u8], out: &mut [u8], a: usize) -> Built
-    requires { ⌜ (a < length (now s)) × (getD (now s) a 0 ≡ 39) × (slotBytes ≤ length (now out)) ⌝ }
-    ensures { λ r. ⌜ MacroFrom (now (s .entry)) a (now (out .entry)) (now (out .exit)) r ⌝ }
+// The calls before the pattern of the macro that begins at a, from `at` on: the place behind its first quote, and the end of their items.
+fn calls_first(s: &[u8], out: &mut [u8], a: usize, at: usize) -> Ended
+    requires { ⌜ (a < at) × Reached (now s) a at × (slotBytes ≤ length (now out)) ⌝ }
+    ensures { λ r. ⌜ PrecededBy (now (s .entry)) a at (now (out .entry)) (now (out .exit)) r ⌝ }
 {
-    let first = whole(s, out, a);
+    let b = s[a];
+    if b == b'\'' {
+        return Ended::Upto(at, 0);
+    }
+    let read = calls_before(s, out, a, at, 0, b == b'#');
+    let Ended::Upto(q, n) = read else {
+        return read;
+    };
+    Ended::Upto(q + 1, n)
+}
+
+// The macro that begins at a, from `at` on, behind its first quote or the `(` of its first call; its items are written from 0 on.
+fn one_macro(s: &[u8], out: &mut [u8], a: usize, at: usize) -> Built
+    requires { ⌜ (a < at) × (at ≤ length (now s)) × (slotBytes ≤ length (now out)) ⌝ }
+    ensures { λ r. ⌜ MacroFrom (now (s .entry)) a at (now (out .entry)) (now (out .exit)) r ⌝ }
+{
+    if MOST_MACRO_BYTES < at - a {
+        return Built::Refused(FileFault::MacroTooLong, a + MOST_MACRO_BYTES);
+    }
+    let calls = calls_first(s, out, a, at);
+    let Ended::Upto(v, n) = calls else {
+        return no_end(calls);
+    };
+    let first = whole(s, out, a, v, n);
     let Whole::Pattern(p, tags, i) = first else {
         return no_pattern(first);
     };
@@ -76,15 +111,15 @@ fn one_macro(s: &[u8], out: &mut [u8], a: usize) -> Built
     let Next::Byte(b, z) = quote else {
         return no_next(quote);
     };
-    parts(s, out, a, z + 1, b, i, tags)
+    parts(s, out, a, z + 1, b, n, i, tags)
 }
 
-// Reads the macro whose first quote stands at a; a refusal leaves zeros in the lent bytes.
-pub fn read_macro(s: &[u8], out: &mut [u8], a: usize) -> Built
-    requires { ⌜ (a < length (now s)) × (getD (now s) a 0 ≡ 39) × (slotBytes ≤ length (now out)) ⌝ }
-    ensures { λ r. ⌜ ReadsMacro (now (s .entry)) a (now (out .entry)) (now (out .exit)) r ⌝ }
+// Reads the macro that begins at a, as one_macro; a refusal leaves zeros in the lent bytes.
+pub fn read_macro(s: &[u8], out: &mut [u8], a: usize, at: usize) -> Built
+    requires { ⌜ (a < at) × (at ≤ length (now s)) × (slotBytes ≤ length (now out)) ⌝ }
+    ensures { λ r. ⌜ ReadsMacro (now (s .entry)) a at (now (out .entry)) (now (out .exit)) r ⌝ }
 {
-    let built = one_macro(s, out, a);
+    let built = one_macro(s, out, a, at);
     let Built::Made(q, head) = built else {
         let size = out.len();
         clear(out, 0, size);
@@ -93,9 +128,9 @@ pub fn read_macro(s: &[u8], out: &mut [u8], a: usize) -> Built
     Built::Made(q, head)
 }
 
-// BETWEEN MACROS: "Before a pattern only `'` and `/` count."
+// BETWEEN MACROS: "Before a pattern only `'` and `/` count", and `&(` and `#(`.
 
-// Whether a byte begins a macro.
+// Whether a byte is the first quote of a macro.
 fn opens_macro(b: u8, skip: bool) -> bool
     ensures { λ r. ⌜ r ≡ opens b skip ⌝ }
 {
@@ -103,6 +138,16 @@ fn opens_macro(b: u8, skip: bool) -> bool
         return false;
     }
     b == b'\''
+}
+
+// Whether a byte is the `(` of a macro's first call, behind the last byte outside skips.
+fn opens_call(b: u8, skip: bool, last: u8) -> bool
+    ensures { λ r. ⌜ r ≡ opensCall b skip last ⌝ }
+{
+    if skip {
+        return false;
+    }
+    ((last == b'&') | (last == b'#')) & (b == b'(')
 }
 
 // Whether a skip is open behind a byte.
@@ -115,18 +160,56 @@ fn skip_behind(b: u8, skip: bool) -> bool
     skip
 }
 
-// The next macro's first quote, from `first` on.
-fn next_quote(s: &[u8], first: usize) -> Seek
+// Whether a byte is passed over: a slash, or any byte in a skip.
+fn is_over(b: u8, skip: bool) -> bool
+    ensures { λ r. ⌜ r ≡ over b skip ⌝ }
+{
+    if skip {
+        return true;
+    }
+    b == b'/'
+}
+
+// The last byte outside skips behind one more byte.
+fn latest_byte(b: u8, over: bool, last: u8) -> u8
+    ensures { λ r. ⌜ r ≡ pick over last b ⌝ }
+{
+    if over {
+        return last;
+    }
+    b
+}
+
+// Its place.
+fn latest_place(at: usize, over: bool, a: usize) -> usize
+    ensures { λ r. ⌜ r ≡ pick over a at ⌝ }
+{
+    if over {
+        return a;
+    }
+    at
+}
+
+// Where the next macro begins, from `first` on: at a quote or, with its `(` seen, at a `&` or `#`.
+fn next_start(s: &[u8], first: usize) -> Seek
     requires { ⌜ first ≤ length (now s) ⌝ }
     ensures { λ r. ⌜ Seeks (now (s .entry)) first r ⌝ }
 {
     let mut at = first;
     let mut skip = false;
+    let mut last = b' ';
+    let mut a = first;
     while at < s.len() {
         let b = s[at];
         if opens_macro(b, skip) {
-            return Seek::Quote(at);
+            return Seek::Start(at, at + 1);
         }
+        if opens_call(b, skip, last) {
+            return Seek::Start(a, at + 1);
+        }
+        let over = is_over(b, skip);
+        last = latest_byte(b, over, last);
+        a = latest_place(at, over, a);
         skip = skip_behind(b, skip);
         at = at + 1;
     }
@@ -160,14 +243,14 @@ fn add_macros(file: &[u8], table: &mut [u8], scratch: &mut [u8], count: usize) -
     let mut at = 0;
     let mut n = count;
     loop {
-        let seek = next_quote(file, at);
-        let Seek::Quote(q) = seek else {
-            return no_quote(seek, n, file.len());
+        let seek = next_start(file, at);
+        let Seek::Start(a, p) = seek else {
+            return no_start(seek, n, file.len());
         };
         if MOST_MACROS <= n {
-            return Added::Refused(FileFault::TooManyMacros, q, n);
+            return Added::Refused(FileFault::TooManyMacros, a, n);
         }
-        let built = read_macro(file, scratch, q);
+        let built = read_macro(file, scratch, a, p);
         let Built::Made(z, head) = built else {
             return no_macro(built, n);
         };
@@ -231,12 +314,12 @@ fn no_end(e: Ended) -> Built
     }
 }
 
-// What is no quote: the file's end.
-fn no_quote(seek: Seek, n: usize, size: usize) -> Added
-    ensures { λ r. ⌜ r ≡ noQuote seek n size ⌝ }
+// Where no macro begins: the file's end.
+fn no_start(seek: Seek, n: usize, size: usize) -> Added
+    ensures { λ r. ⌜ r ≡ noStart seek n size ⌝ }
 {
     match seek {
-        Seek::Quote(q) => Added::Refused(FileFault::Incomplete, q, n),
+        Seek::Start(_, q) => Added::Refused(FileFault::Incomplete, q, n),
         Seek::Done => Added::All(n),
         Seek::Skipping => Added::Refused(FileFault::Incomplete, size, n),
     }

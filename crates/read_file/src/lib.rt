@@ -12,10 +12,11 @@ pub(crate) const MOST_MACROS: usize = 96;
 
 pub(crate) const SLOT_BYTES: usize = 1024;
 
-// What a slot's first bytes say: the symbol's code, the tags, and the bytes of the three parts.
+// What a slot's first bytes say: the symbol's code, the tags, and the bytes of the four parts.
 pub struct Head {
     pub symbol: u8,
     pub tags: usize,
+    pub before: usize,
     pub pattern: usize,
     pub replacement: usize,
     pub commands: usize,
@@ -27,9 +28,9 @@ pub enum Built {
     Refused(FileFault, usize),
 }
 
-// Between macros: the next first quote; or the file's end, outside of a skip or in one.
+// Between macros: where the next begins, and the place behind its first quote or the `(` of its first call; or the file's end, in a skip or not.
 pub(crate) enum Seek {
-    Quote(usize),
+    Start(usize, usize),
     Done,
     Skipping,
 }

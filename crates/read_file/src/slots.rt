@@ -2,6 +2,11 @@
 use crate::Head;
 use crate::SLOT_BYTES;
 use form_items::clear;
+use form_items::layout::BEFORE_AT;
+use form_items::layout::COMMANDS_AT;
+use form_items::layout::HEADER_BYTES;
+use form_items::layout::PATTERN_AT;
+use form_items::layout::REPLACEMENT_AT;
 use form_items::put_item;
 ghost use Prim.Native.Nat.{_≤_, _<_, _+_};
 ghost use lib.ListN.{length, take};
@@ -36,9 +41,10 @@ fn put_head(table: &mut [u8], base: usize, head: Head)
     ensures { λ _. ⌜ Wrote (now (table .entry)) (now (table .exit)) base (headBytes head) ⌝ }
 {
     put_item(table, base, head.symbol, head.tags as u8);
-    put_two(table, base + 2, head.pattern);
-    put_two(table, base + 4, head.replacement);
-    put_two(table, base + 6, head.commands);
+    put_two(table, base + BEFORE_AT, head.before);
+    put_two(table, base + PATTERN_AT, head.pattern);
+    put_two(table, base + REPLACEMENT_AT, head.replacement);
+    put_two(table, base + COMMANDS_AT, head.commands);
 }
 
 // A slot: its head, the items of the macro, and zeros.
@@ -46,8 +52,12 @@ pub(crate) fn store(table: &mut [u8], base: usize, body: &[u8], head: Head)
     requires { ⌜ (base + slotBytes ≤ length (now table)) × (usedBytes head ≤ length (now body)) × (usedBytes head ≤ bodyBytes) × (head .tags ≤ mostTags) ⌝ }
     ensures { λ _. ⌜ Wrote (now (table .entry)) (now (table .exit)) base (slotOf head (now (body .entry))) ⌝ }
 {
-    let used = head.pattern + head.replacement + head.commands;
+    let used = head.before + head.pattern + head.replacement + head.commands;
     put_head(table, base, head);
-    copy_in(table, base + 8, body, used);
-    clear(table, base + 8 + used, SLOT_BYTES - 8 - used);
+    copy_in(table, base + HEADER_BYTES, body, used);
+    clear(
+        table,
+        base + HEADER_BYTES + used,
+        SLOT_BYTES - HEADER_BYTES - used,
+    );
 }

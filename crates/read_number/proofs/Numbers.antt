@@ -8,9 +8,9 @@ use Prim.Native.Nat.{ℕ, _+_, _-_, _*_, _≤_, _<_}
 use native.Mathlib.Omega.{arith}
 use lib.Dec.{ltb, leb}
 use borrow.Author.Tests.{ne-eqb, lt-ltb, le-ltb, ltb-true, ltb-false, leb-true}
-use Rattle.macros.specs.Macro.{Macro, Mark, Action, pick, within, asciiLower, digit}
+use Rattle.macros.specs.Macro.{Mark, Action, pick, within, asciiLower, digit}
 use Rattle.macros.specs.Macro.Mark.{stack}
-use Rattle.macros.specs.Read.{Part, Front, CallSite, partByte, skips, andDigit, tagByte, turned, callByte, otherwise, isSign}
+use Rattle.macros.specs.Read.{Part, Prior, Front, CallSite, partByte, skips, andDigit, tagByte, turned, callByte, siteOf, mayStoreTag, otherwise, isSign}
 use Rattle.macros.specs.ReadSoFar.Step.{on}
 use Rattle.macros.specs.ReadSoFar.Part.{tagNumber, calling}
 use Rattle.macros.specs.ReadSoFar.Phase.{equals, increment, divisor, begun, tagged}
@@ -82,21 +82,21 @@ pub eats-divisor : (pl : CallSite) (i : ℕ) → Eats true (λ o. calling pl (di
 unfolding partByte skips pick turned callByte otherwise digit within
 eats-divisor pl i = record { skipping = λ o. refl; digits = λ o b e. simp e; spaces = λ o e. refl; within = λ o u q r. refl }
 
--- behind `&(`, the number of a tag
+-- behind `&(`, the number of a tag, where one may be stored
 abbrev pub tagState : CallSite → Option ℕ → Part
 tagState pl none = calling pl (begun stack)
 tagState pl (some n) = calling pl (tagged n)
 
-pub eats-tagged : (pl : CallSite) → Eats true (tagState pl)
+pub eats-tagged : (pl : CallSite) → mayStoreTag (siteOf pl) ≡ true → Eats true (tagState pl)
 unfolding partByte skips pick turned callByte otherwise digit within isSign asciiLower andDigit
-eats-tagged pl = record { skipping = skipped; digits = took; spaces = spaced; within = inner }
+eats-tagged pl h = record { skipping = skipped; digits = took; spaces = spaced; within = inner }
   where
     skipped : (o : Option ℕ) → skips (tagState pl o) ≡ true
     skipped none = refl
     skipped (some n) = refl
 
     took : (o : Option ℕ) (b : ℕ) → digit b ≡ true → partByte (tagState pl o) b ≡ on (tagState pl (some (andDigit o b)))
-    took none b e = simp e
+    took none b e = simp (e, h)
     took (some n) b e = simp e
 
     spaced : (o : Option ℕ) → true ≡ true → partByte (tagState pl o) 32 ≡ on (tagState pl o)
@@ -135,7 +135,7 @@ pub record Sofar (s : List ℕ) (a p : ℕ) (sp : Bool) (v n : ℕ) (m : Bool) :
 pub digits-none : (s : List ℕ) (a p : ℕ) (sp : Bool) → Sofar s a p sp p 0 false
 digits-none s a p sp =
     record {
-      machine = record { value = none; kept = (refl, refl); answer = λ F x ms. refl };
+      machine = record { value = none; kept = (refl, refl); answer = λ F x pr. refl };
       value = 0;
       kept = sym (most-low 0 (omega arith));
       folded = refl;
@@ -155,14 +155,14 @@ module _ {s : List ℕ} {a p : ℕ} {sp : Bool} {v n : ℕ} {m : Bool} (g : Sofa
   counts-fault {f} {q} e i =
       let h : Passes s a v (NoByte f q) = rw e at z in
       rw (i ∙ ap numberFault e)
-      (h .found, λ F x ms. g .machine .answer F x ms ∙ h .answer _ ms (x .skipping (g .machine .value)), number-none (h .exact))
+      (h .found, λ F x pr. g .machine .answer F x pr ∙ h .answer _ pr (x .skipping (g .machine .value)), number-none (h .exact))
 
   module _ {b q : ℕ} (e : r ≡ Byte b q) where
     pub byte-found : Passes s a v (Byte b q)
     byte-found = rw e at z
 
-    there : (F : Option ℕ → Part) → Eats sp F → (ms : List Macro) → run s a ms false p (F none) ≡ run s a ms false q (F (g .machine .value))
-    there F x ms = g .machine .answer F x ms ∙ byte-found .answer _ ms (x .skipping (g .machine .value))
+    there : (F : Option ℕ → Part) → Eats sp F → (pr : Prior) → run s a pr false p (F none) ≡ run s a pr false q (F (g .machine .value))
+    there F x pr = g .machine .answer F x pr ∙ byte-found .answer _ pr (x .skipping (g .machine .value))
 
     -- the bytes that are left to be counted
     at-byte : (sp ≡ true → b ≡ 32 → ⊥) → counting sp (seen s a v) ≡ byteAt b q ∷ counting sp (seen s a (q + 1))
@@ -196,7 +196,7 @@ module _ {s : List ℕ} {a p : ℕ} {sp : Bool} {v n : ℕ} {m : Bool} (g : Sofa
           machine = record {
             value = g .machine .value;
             kept = g .machine .kept;
-            answer = λ F x ms. there F x ms ∙ here-on (byte-found .found .1) ms _ _ (x .within _ _) (rw f (x .spaces (g .machine .value) h));
+            answer = λ F x pr. there F x pr ∙ here-on (byte-found .found .1) pr _ _ (x .within _ _) (rw f (x .spaces (g .machine .value) h));
           };
           value = g .value;
           kept = g .kept;
@@ -213,7 +213,7 @@ module _ {s : List ℕ} {a p : ℕ} {sp : Bool} {v n : ℕ} {m : Bool} (g : Sofa
           machine = record {
             value = some (andDigit (g .machine .value) b);
             kept = rw h (kept-next (g .machine .value) n b m (g .machine .kept));
-            answer = λ F x ms. there F x ms ∙ here-on (byte-found .found .1) ms _ _ (x .within _ _) (x .digits (g .machine .value) b f);
+            answer = λ F x pr. there F x pr ∙ here-on (byte-found .found .1) pr _ _ (x .within _ _) (x .digits (g .machine .value) b f);
           };
           value = g .value * 10 + (b - 48);
           kept = h ∙ rw (g .kept) (most-next (g .value) (b - 48));

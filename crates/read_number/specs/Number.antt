@@ -7,8 +7,8 @@ use mathlib.Core.Option.{Option, none, some}
 use lib.Dec.{ltb}
 use lib.ListN.{length}
 use Rattle.macros.specs.Bounds.{mostCounter}
-use Rattle.macros.specs.Macro.{Macro, pick, digit}
-use Rattle.macros.specs.Read.{Part, partByte, skips, andDigit}
+use Rattle.macros.specs.Macro.{pick, digit}
+use Rattle.macros.specs.Read.{Part, Prior, partByte, skips, andDigit}
 use Rattle.macros.specs.ReadSoFar.Step.{on}
 use Rattle.read_scan.specs.Bytes.{Placed, seen, spaceless, unended}
 use Rattle.read_scan.specs.Bytes.Placed.{byteAt}
@@ -78,7 +78,7 @@ Kept (some v) n m = (n ≡ most v) × (m ≡ true)
 pub record Digits (s : List ℕ) (a p : ℕ) (sp : Bool) (q n : ℕ) (m : Bool) : Type 0 where
   pub value : Option ℕ
   pub kept : Kept value n m
-  pub answer : (F : Option ℕ → Part) → Eats sp F → (ms : List Macro) → run s a ms false p (F none) ≡ run s a ms false q (F value)
+  pub answer : (F : Option ℕ → Part) → Eats sp F → (pr : Prior) → run s a pr false p (F none) ≡ run s a pr false q (F value)
 
 -- the byte b behind the digits is no digit, and no space where spaces are passed over
 abbrev pub Behind : Bool → ℕ → Type 0
@@ -89,5 +89,5 @@ abbrev pub Counts : List ℕ → ℕ → ℕ → Bool → Number → Type 0
 Counts s a p sp (Got n m b q) =
     (p ≤ q) × Here s a q b × Behind sp b × (n ≤ mostCounter + 1) × Digits s a p sp q n m × (Got n m b q ≡ numberFrom s a p sp)
 Counts s a p sp (NoNumber f q) =
-    (q ≤ length s) × ((F : Option ℕ → Part) → Eats sp F → (ms : List Macro) → run s a ms false p (F none) ≡ refusedAt (faultOf f) q)
+    (q ≤ length s) × ((F : Option ℕ → Part) → Eats sp F → (pr : Prior) → run s a pr false p (F none) ≡ refusedAt (faultOf f) q)
     × (NoNumber f q ≡ numberFrom s a p sp)

@@ -10,10 +10,10 @@ use lib.Dec.{eqb}
 use borrow.Author.Tests.{ne-eqb}
 use Rattle.macros.specs.Refusals.{FileRefusal}
 use Rattle.macros.specs.Refusals.FileRefusal.{incomplete, badClass}
-use Rattle.macros.specs.Macro.{Member, Piece, Macro, pick, among, isRange}
+use Rattle.macros.specs.Macro.{Member, Piece, pick, among, isRange}
 use Rattle.macros.specs.Macro.Member.{single, range}
 use Rattle.macros.specs.Macro.PatternUnit.{class}
-use Rattle.macros.specs.Read.{Part, Last, partByte, skips, newMember, membersByte, breaks, escaped, dashes, dashed, membersAtEnd, classEnd}
+use Rattle.macros.specs.Read.{Part, Prior, Last, partByte, skips, newMember, membersByte, breaks, escaped, dashes, dashed, membersAtEnd, classEnd}
 use Rattle.macros.specs.ReadSoFar.Joinable.{unit}
 use Rattle.macros.specs.ReadSoFar.Last.{free, member, dash}
 use Rattle.macros.specs.ReadSoFar.Part.{pattern, members, membersEscape}
@@ -44,28 +44,28 @@ unfolding breaks among
 no-bracket f e = true≢false (sym f ∙ ap breaks e)
 
 -- the step of the members at the place p
-module _ {s : List ℕ} {a p b : ℕ} (x : At s a p b) (ps : List Piece) (neg : Bool) (l : Last) (xs : List Member) (ms : List Macro) where
-  pub member-on : (st : Part) → membersByte ps neg l xs b ≡ on st → run s a ms false p (members ps neg l xs) ≡ run s a ms false (p + 1) st
+module _ {s : List ℕ} {a p b : ℕ} (x : At s a p b) (ps : List Piece) (neg : Bool) (l : Last) (xs : List Member) (pr : Prior) where
+  pub member-on : (st : Part) → membersByte ps neg l xs b ≡ on st → run s a pr false p (members ps neg l xs) ≡ run s a pr false (p + 1) st
   unfolding partByte skips
-  member-on st e = at-on x ms (members ps neg l xs) st (λ q o. refl) refl e
+  member-on st e = at-on x pr (members ps neg l xs) st (λ q o. refl) refl e
 
-  pub member-stop : (k : FileRefusal) → membersByte ps neg l xs b ≡ stop k → run s a ms false p (members ps neg l xs) ≡ refusedAt k p
+  pub member-stop : (k : FileRefusal) → membersByte ps neg l xs b ≡ stop k → run s a pr false p (members ps neg l xs) ≡ refusedAt k p
   unfolding partByte skips
-  member-stop k e = at-stop x ms (members ps neg l xs) k refl e
+  member-stop k e = at-stop x pr (members ps neg l xs) k refl e
 
-  escaped-on : (st : Part) → newMember ps neg l xs (escaped b) ≡ on st → run s a ms false p (membersEscape ps neg l xs) ≡ run s a ms false (p + 1) st
+  escaped-on : (st : Part) → newMember ps neg l xs (escaped b) ≡ on st → run s a pr false p (membersEscape ps neg l xs) ≡ run s a pr false (p + 1) st
   unfolding partByte skips
-  escaped-on st e = at-on x ms (membersEscape ps neg l xs) st (λ q o. refl) refl e
+  escaped-on st e = at-on x pr (membersEscape ps neg l xs) st (λ q o. refl) refl e
 
-  escaped-stop : (k : FileRefusal) → newMember ps neg l xs (escaped b) ≡ stop k → run s a ms false p (membersEscape ps neg l xs) ≡ refusedAt k p
+  escaped-stop : (k : FileRefusal) → newMember ps neg l xs (escaped b) ≡ stop k → run s a pr false p (membersEscape ps neg l xs) ≡ refusedAt k p
   unfolding partByte skips
-  escaped-stop k e = at-stop x ms (membersEscape ps neg l xs) k refl e
+  escaped-stop k e = at-stop x pr (membersEscape ps neg l xs) k refl e
 
-  member-escape : b ≡ 92 → run s a ms false p (members ps neg l xs) ≡ run s a ms false (p + 1) (membersEscape ps neg l xs)
+  member-escape : b ≡ 92 → run s a pr false p (members ps neg l xs) ≡ run s a pr false (p + 1) (membersEscape ps neg l xs)
   unfolding membersByte pick breaks among
   member-escape e = member-on (membersEscape ps neg l xs) (rw e refl)
 
-  member-breaks : breaks b ≡ true → run s a ms false p (members ps neg l xs) ≡ refusedAt incomplete p
+  member-breaks : breaks b ≡ true → run s a pr false p (members ps neg l xs) ≡ refusedAt incomplete p
   unfolding membersByte pick
   member-breaks f = member-stop incomplete (simp (ne-eqb _ _ (no-bracket f), f))
 
@@ -73,7 +73,7 @@ module _ {s : List ℕ} {a p : ℕ} {r : Next} (x : Stays s a p r) where
   pub meets-fault : {f : FileFault} {q : ℕ} {o : ClassByte} → r ≡ NoByte f q → o ≡ byteFault r → Meeting s a p o
   meets-fault {f} {q} e g =
       let w : Stays s a p (NoByte f q) = rw e at x in
-      rw (g ∙ ap byteFault e) (w .found, λ ps neg l xs ms. w .answer (members ps neg l xs) ms)
+      rw (g ∙ ap byteFault e) (w .found, λ ps neg l xs pr. w .answer (members ps neg l xs) pr)
 
   module _ {b q : ℕ} (e : r ≡ Byte b q) where
     pub class-stays : Stays s a p (Byte b q)
@@ -83,7 +83,7 @@ module _ {s : List ℕ} {a p : ℕ} {r : Next} (x : Stays s a p r) where
     byte-at = class-stays .found .1
 
     pub meets-break : breaks b ≡ true → Meeting s a p (NoClassByte Incomplete q)
-    meets-break f = rw (class-stays .found .0) (omega (arith, byte-at .there), λ ps neg l xs ms. member-breaks byte-at ps neg l xs ms f)
+    meets-break f = rw (class-stays .found .0) (omega (arith, byte-at .there), λ ps neg l xs pr. member-breaks byte-at ps neg l xs pr f)
 
     pub meets-raw : breaks b ≡ false → (b ≡ 92 → ⊥) → Meeting s a p (GotByte b true q)
     meets-raw f g =
@@ -93,8 +93,8 @@ module _ {s : List ℕ} {a p : ℕ} {r : Next} (x : Stays s a p r) where
           there = byte-at .there;
           counted = byte-at .counted;
           plain = λ _. (f, g);
-          taken = λ ps neg l xs ms st i. member-on byte-at ps neg l xs ms st i;
-          refused = λ ps neg l xs ms k i. member-stop byte-at ps neg l xs ms k i;
+          taken = λ ps neg l xs pr st i. member-on byte-at ps neg l xs pr st i;
+          refused = λ ps neg l xs pr k i. member-stop byte-at ps neg l xs pr k i;
         })
 
     -- behind `\`
@@ -105,7 +105,7 @@ module _ {s : List ℕ} {a p : ℕ} {r : Next} (x : Stays s a p r) where
       pub meets-escape-fault : {g : FileFault} {v : ℕ} {o : ClassByte} → t ≡ NoByte g v → o ≡ byteFault t → Meeting s a p o
       meets-escape-fault {g} {v} i j =
           let w : Stays s a (p + 1) (NoByte g v) = rw i at behind-escape in
-          rw (j ∙ ap byteFault i) (w .found, λ ps neg l xs ms. member-escape byte-at ps neg l xs ms f ∙ w .answer (membersEscape ps neg l xs) ms)
+          rw (j ∙ ap byteFault i) (w .found, λ ps neg l xs pr. member-escape byte-at ps neg l xs pr f ∙ w .answer (membersEscape ps neg l xs) pr)
 
       pub meets-escaped : {d c v : ℕ} → t ≡ Byte d v → c ≡ escaped d → Meeting s a p (GotByte c false v)
       meets-escaped {d} {c} {v} i j =
@@ -117,8 +117,8 @@ module _ {s : List ℕ} {a p : ℕ} {r : Next} (x : Stays s a p r) where
             there = y .there;
             counted = y .counted;
             plain = λ k. absurd (true≢false (sym k));
-            taken = λ ps neg l xs ms st k. member-escape byte-at ps neg l xs ms f ∙ escaped-on y ps neg l xs ms st (rw j at k);
-            refused = λ ps neg l xs ms k m. member-escape byte-at ps neg l xs ms f ∙ escaped-stop y ps neg l xs ms k (rw j at m);
+            taken = λ ps neg l xs pr st k. member-escape byte-at ps neg l xs pr f ∙ escaped-on y ps neg l xs pr st (rw j at k);
+            refused = λ ps neg l xs pr k m. member-escape byte-at ps neg l xs pr f ∙ escaped-stop y ps neg l xs pr k (rw j at m);
           })
 
 -- A MEMBER TAKEN
@@ -239,13 +239,13 @@ bytes-append (x ∷ xs) ys = rw (bytes-append xs ys) (append-assoc (memberBytes 
 
 pub membered-none : (s : List ℕ) (a p : ℕ) (o : List ℕ) (i : ℕ) → Membered s a p p o o i i Free
 unfolding memberBytes
-membered-none s a p o i = record { xs = []; answer = λ ps neg ms. refl; wrote = wrote-none o i; used = omega arith; room = omega arith }
+membered-none s a p o i = record { xs = []; answer = λ ps neg pr. refl; wrote = wrote-none o i; used = omega arith; room = omega arith }
 
 module _ {s : List ℕ} {a p v : ℕ} {old y : List ℕ} {i j : ℕ} {l : CodeLast} (g : Membered s a p v old y i j l) (h : p ≤ v) {r : ClassByte} (x : Meeting s a v r) where
   pub classing-fault : (out : List ℕ) {f : FileFault} {q : ℕ} {o : Put} → r ≡ NoClassByte f q → o ≡ putFault r → Classing s a p old out i o
   classing-fault out {f} {q} e k =
       let w : Meeting s a v (NoClassByte f q) = rw e at x in
-      rw (k ∙ ap putFault e) (record { is = (w .0, λ ps neg ms. g .answer ps neg ms ∙ w .1 ps neg (lastOf l) (g .xs) ms) })
+      rw (k ∙ ap putFault e) (record { is = (w .0, λ ps neg pr. g .answer ps neg pr ∙ w .1 ps neg (lastOf l) (g .xs) pr) })
 
   module _ {c : ℕ} {raw : Bool} {q : ℕ} (e : r ≡ GotByte c raw q) where
     pub met : Meets s a v c raw q
@@ -257,13 +257,13 @@ module _ {s : List ℕ} {a p v : ℕ} {old y : List ℕ} {i j : ℕ} {l : CodeLa
     pub classing-bad : (out : List ℕ) → ((ps : List Piece) (neg : Bool) (xs : List Member) → classTurn raw ps neg (lastOf l) xs c ≡ stop badClass)
         → Classing s a p old out i (NoPut BadClass q)
     classing-bad out k =
-        record { is = (omega (arith, met .there), λ ps neg ms. g .answer ps neg ms ∙ met .refused ps neg (lastOf l) (g .xs) ms badClass (k ps neg (g .xs))) }
+        record { is = (omega (arith, met .there), λ ps neg pr. g .answer ps neg pr ∙ met .refused ps neg (lastOf l) (g .xs) pr badClass (k ps neg (g .xs))) }
 
     pub membered-more : {out : List ℕ} {k : CodeLast} {m : ℕ} → Takes l c raw k y out j m → Membered s a p (q + 1) old out i m k
     membered-more {out} {k} {m} w =
         record {
           xs = w .complete ++ g .xs;
-          answer = λ ps neg ms. g .answer ps neg ms ∙ met .taken ps neg (lastOf l) (g .xs) ms _ (w .turn ps neg (g .xs));
+          answer = λ ps neg pr. g .answer ps neg pr ∙ met .taken ps neg (lastOf l) (g .xs) pr _ (w .turn ps neg (g .xs));
           wrote = rw (bytes-append (w .complete) (g .xs)) (wrote-more (g .wrote) (rw (g .used) at (w .wrote)));
           used = rw (bytes-append (w .complete) (g .xs), length-append) (omega (arith, g .used, w .used));
           room = omega (arith, g .room, w .room, met .further);
@@ -286,8 +286,8 @@ module _ {s : List ℕ} {a p v : ℕ} {old y : List ℕ} {i j : ℕ} {l : CodeLa
           record {
             is = (
               omega (arith, met .there),
-              λ ps neg ms. g .answer ps neg ms
-                  ∙ met .refused ps neg (lastOf l) (g .xs) ms badClass (closes ps neg ∙ class-empty ps neg _ (omega (arith, counted))),
+              λ ps neg pr. g .answer ps neg pr
+                  ∙ met .refused ps neg (lastOf l) (g .xs) pr badClass (closes ps neg ∙ class-empty ps neg _ (omega (arith, counted))),
             );
           }
 
@@ -299,8 +299,8 @@ module _ {s : List ℕ} {a p v : ℕ} {old y : List ℕ} {i j : ℕ} {l : CodeLa
               further = omega (arith, met .further);
               reached = met-reached;
               room = omega (arith, g .room, met .further);
-              answer = λ ps neg ms. g .answer ps neg ms
-                  ∙ met .taken ps neg (lastOf l) (g .xs) ms _ (closes ps neg ∙ class-full ps neg _ (λ b. k (omega (arith, counted))));
+              answer = λ ps neg pr. g .answer ps neg pr
+                  ∙ met .taken ps neg (lastOf l) (g .xs) pr _ (closes ps neg ∙ class-full ps neg _ (λ b. k (omega (arith, counted))));
               wrote = rw (members-items (membersAtEnd (lastOf l) (g .xs))) (wrote-more wrote-all (rw counted at m));
               used = rw (members-items (membersAtEnd (lastOf l) (g .xs)), length-append) (omega (arith, counted));
             };

@@ -9,11 +9,11 @@ use native.Mathlib.Nat.{add-zero}
 use lib.ListN.{length}
 use lib.Dec.{eqb}
 use borrow.Author.Tests.{ne-eqb, leb-true}
-use Rattle.macros.specs.Macro.{Closure, Member, Mark, PatternUnit, Piece, Macro, pick, among, within, asciiLower, markByte}
+use Rattle.macros.specs.Macro.{Closure, Member, Mark, PatternUnit, Piece, pick, among, within, asciiLower, markByte}
 use Rattle.macros.specs.Macro.Closure.{once, oneOrMore, zeroOrMore}
 use Rattle.macros.specs.Macro.PatternUnit.{literal, kind, class, callOf}
 use Rattle.macros.specs.Macro.Piece.{element, start, end}
-use Rattle.macros.specs.Read.{Part, skips, breaks, escaped, signs, kindDigit}
+use Rattle.macros.specs.Read.{Part, Prior, skips, breaks, escaped, signs, kindDigit}
 use Rattle.macros.specs.ReadSoFar.Joinable.{unit, starred}
 use Rattle.macros.specs.ReadSoFar.Part.{pattern, patternEscape, opened, patternCalled}
 use Rattle.form_table.specs.Form.{unitRest, membersItems, pieceItems}
@@ -46,7 +46,7 @@ module _ (u : CodeUnit) (n : ℕ) {s : List ℕ} {a p : ℕ} {r : Next} (x : Pas
   unfolding skips
   joins-fault {f} {q} e g =
       let y : Passes s a p (NoByte f q) = rw e at x in
-      rw (g ∙ ap itemFault e) (record { is = (y .found, λ v ps ms. y .answer _ ms refl) })
+      rw (g ∙ ap itemFault e) (record { is = (y .found, λ v ps pr. y .answer _ pr refl) })
 
   module _ {b q : ℕ} (e : r ≡ Byte b q) where
     pub behind-unit : Passes s a p (Byte b q)
@@ -66,21 +66,21 @@ module _ (u : CodeUnit) (n : ℕ) {s : List ℕ} {a p : ℕ} {r : Next} (x : Pas
               reached = reached-at (here .stands);
               its = once;
               same = refl;
-              answer = λ v ps ms. behind-unit .answer _ ms refl ∙ unit-once here ms ps v f;
+              answer = λ v ps pr. behind-unit .answer _ pr refl ∙ unit-once here pr ps v f;
             },
           );
         }
 
     module _ (f : b ≡ 42) {t : Next} (z : Passes s a (q + 1) t) where
-      star : (w : PatternUnit) (ps : List Piece) (ms : List Macro) → run s a ms false p (pattern (unit w) ps) ≡ run s a ms false (q + 1) (pattern (starred w) ps)
+      star : (w : PatternUnit) (ps : List Piece) (pr : Prior) → run s a pr false p (pattern (unit w) ps) ≡ run s a pr false (q + 1) (pattern (starred w) ps)
       unfolding skips
-      star w ps ms = behind-unit .answer _ ms refl ∙ unit-star here ms ps w f
+      star w ps pr = behind-unit .answer _ pr refl ∙ unit-star here pr ps w f
 
       pub joins-star-fault : {g : FileFault} {v : ℕ} {o : Item} → t ≡ NoByte g v → o ≡ itemFault t → Joins s a p u n o
       unfolding skips
       joins-star-fault {g} {v} h i =
           let w : Passes s a (q + 1) (NoByte g v) = rw h at z in
-          rw (i ∙ ap itemFault h) (record { is = (w .found, λ x ps ms. star x ps ms ∙ w .answer _ ms refl) })
+          rw (i ∙ ap itemFault h) (record { is = (w .found, λ x ps pr. star x ps pr ∙ w .answer _ pr refl) })
 
       module _ {d v : ℕ} (h : t ≡ Byte d v) where
         pub behind-star : Passes s a (q + 1) (Byte d v)
@@ -97,7 +97,7 @@ module _ (u : CodeUnit) (n : ℕ) {s : List ℕ} {a p : ℕ} {r : Next} (x : Pas
                   reached = reached-behind (behind-star .found .1 .stands);
                   its = zeroOrMore;
                   same = refl;
-                  answer = λ w ps ms. star w ps ms ∙ (behind-star .answer _ ms refl ∙ star-dash (behind-star .found .1) ms ps w k);
+                  answer = λ w ps pr. star w ps pr ∙ (behind-star .answer _ pr refl ∙ star-dash (behind-star .found .1) pr ps w k);
                 },
               );
             }
@@ -113,7 +113,7 @@ module _ (u : CodeUnit) (n : ℕ) {s : List ℕ} {a p : ℕ} {r : Next} (x : Pas
                   reached = reached-at (behind-star .found .1 .stands);
                   its = oneOrMore;
                   same = refl;
-                  answer = λ w ps ms. star w ps ms ∙ (behind-star .answer _ ms refl ∙ star-more (behind-star .found .1) ms ps w k);
+                  answer = λ w ps pr. star w ps pr ∙ (behind-star .answer _ pr refl ∙ star-more (behind-star .found .1) pr ps w k);
                 },
               );
             }
@@ -123,7 +123,7 @@ module _ (u : CodeUnit) (n : ℕ) {s : List ℕ} {a p : ℕ} {r : Next} (x : Pas
 -- the unit x is read from v up to w, with its rest written, and then its closure
 pub made : {s : List ℕ} {a p v w : ℕ} {F : List Piece → Part} {old out : List ℕ} {i n : ℕ} {o : Item} (x : PatternUnit)
     → Joins s a w (unitOf x) n o → v ≤ w → n ≤ i + 2 * (w - v) → Wrote old out i (unitRest x) → n ≡ i + length (unitRest x)
-    → ((ps : List Piece) (ms : List Macro) → run s a ms false p (F ps) ≡ run s a ms false w (pattern (unit x) ps)) → Makes s a p v F old out i o
+    → ((ps : List Piece) (pr : Prior) → run s a pr false p (F ps) ≡ run s a pr false w (pattern (unit x) ps)) → Makes s a p v F old out i o
 made {o = Got e q m} x j h k w c f =
     record {
       is = record {
@@ -133,22 +133,22 @@ made {o = Got e q m} x j h k w c f =
         further = omega (arith, j .is .1 .further);
         reached = j .is .1 .reached;
         room = omega (arith, j .is .0, j .is .1 .further);
-        answer = λ ps ms. f ps ms ∙ j .is .1 .answer x ps ms;
+        answer = λ ps pr. f ps pr ∙ j .is .1 .answer x ps pr;
         wrote = w;
         used = omega (arith, j .is .0);
       };
     }
-made {o = NoItem g q} x j h k w c f = record { is = (j .is .0, λ ps ms. f ps ms ∙ j .is .1 x ps ms) }
+made {o = NoItem g q} x j h k w c f = record { is = (j .is .0, λ ps pr. f ps pr ∙ j .is .1 x ps pr) }
 
 -- a unit with nothing behind its item
 made-one : {s : List ℕ} {a p v w : ℕ} {F : List Piece → Part} {n : ℕ} {o : Item} (x : PatternUnit) → unitRest x ≡ []
-    → Joins s a w (unitOf x) n o → v ≤ w → ((ps : List Piece) (ms : List Macro) → run s a ms false p (F ps) ≡ run s a ms false w (pattern (unit x) ps))
+    → Joins s a w (unitOf x) n o → v ≤ w → ((ps : List Piece) (pr : Prior) → run s a pr false p (F ps) ≡ run s a pr false w (pattern (unit x) ps))
     → (out : List ℕ) → Makes s a p v F out out n o
 made-one {n = n} x e j h f out = made x j h (omega arith) (rw e (wrote-none out n)) (rw e (sym (add-zero n))) f
 
 -- the same, begun earlier in another state
 pub made-from : {s : List ℕ} {a p v w k : ℕ} {F G : List Piece → Part} {old out : List ℕ} {n : ℕ} {o : Item}
-    → Makes s a w k G old out n o → v ≤ k → ((ps : List Piece) (ms : List Macro) → run s a ms false p (F ps) ≡ run s a ms false w (G ps)) → Makes s a p v F old out n o
+    → Makes s a w k G old out n o → v ≤ k → ((ps : List Piece) (pr : Prior) → run s a pr false p (F ps) ≡ run s a pr false w (G ps)) → Makes s a p v F old out n o
 made-from {o = Got e q m} j h f =
     record {
       is = record {
@@ -158,12 +158,12 @@ made-from {o = Got e q m} j h f =
         further = omega (arith, j .is .further);
         reached = j .is .reached;
         room = omega (arith, j .is .room, j .is .further);
-        answer = λ ps ms. f ps ms ∙ j .is .answer ps ms;
+        answer = λ ps pr. f ps pr ∙ j .is .answer ps pr;
         wrote = j .is .wrote;
         used = j .is .used;
       };
     }
-made-from {o = NoItem g q} j h f = record { is = (j .is .0, λ ps ms. f ps ms ∙ j .is .1 ps ms) }
+made-from {o = NoItem g q} j h f = record { is = (j .is .0, λ ps pr. f ps pr ∙ j .is .1 ps pr) }
 
 literal-rest : (b : ℕ) → unitRest (literal b) ≡ []
 unfolding unitRest
@@ -187,7 +187,7 @@ module _ (n : ℕ) {s : List ℕ} {a p : ℕ} {r : Next} (x : Stays s a p r) whe
   pub escape-fault : {f : FileFault} {q : ℕ} {o : Item} → r ≡ NoByte f q → o ≡ itemFault r → MakesOne s a p patternEscape n o
   escape-fault {f} {q} e g out =
       let y : Stays s a p (NoByte f q) = rw e at x in
-      rw (g ∙ ap itemFault e) (record { is = (y .found, λ ps ms. y .answer _ ms) })
+      rw (g ∙ ap itemFault e) (record { is = (y .found, λ ps pr. y .answer _ pr) })
 
   module _ {b q : ℕ} (e : r ≡ Byte b q) where
     pub escape-stays : Stays s a p (Byte b q)
@@ -197,7 +197,7 @@ module _ (n : ℕ) {s : List ℕ} {a p : ℕ} {r : Next} (x : Stays s a p r) whe
     escape-made {l} {o} g j =
         let y = escape-stays .found in
         let i : Joins s a (p + 1) (Literal l) n o = rw (y .0) at j in
-        made-one (literal l) (literal-rest l) i (omega arith) (λ ps ms. escape-on (y .1) ms ps ∙ rw g refl)
+        made-one (literal l) (literal-rest l) i (omega arith) (λ ps pr. escape-on (y .1) pr ps ∙ rw g refl)
 
 -- BEHIND `?`
 
@@ -206,14 +206,14 @@ module _ (n : ℕ) {s : List ℕ} {a p : ℕ} {r : Next} (x : Passes s a p r) wh
   unfolding skips
   query-fault {f} {q} e g out =
       let y : Passes s a p (NoByte f q) = rw e at x in
-      rw (g ∙ ap itemFault e) (record { is = (y .found, λ ps ms. y .answer _ ms refl) })
+      rw (g ∙ ap itemFault e) (record { is = (y .found, λ ps pr. y .answer _ pr refl) })
 
   -- BEHIND `&` OR `#`
   pub mark-fault : (m : ℕ) {f : FileFault} {q : ℕ} {o : Item} → r ≡ NoByte f q → o ≡ itemFault r → MakesOne s a p (atMark m) n o
   unfolding skips
   mark-fault m {f} {q} e g out =
       let y : Passes s a p (NoByte f q) = rw e at x in
-      rw (g ∙ ap itemFault e) (record { is = (y .found, λ ps ms. y .answer _ ms refl) })
+      rw (g ∙ ap itemFault e) (record { is = (y .found, λ ps pr. y .answer _ pr refl) })
 
   module _ {b q : ℕ} (e : r ≡ Byte b q) where
     pub behind-sign : Passes s a p (Byte b q)
@@ -223,25 +223,25 @@ module _ (n : ℕ) {s : List ℕ} {a p : ℕ} {r : Next} (x : Passes s a p r) wh
     unfolding skips
     query-kind f j =
         made-one (kind (b - 48)) (kind-rest _) j (omega (arith, behind-sign .found .0))
-        (λ ps ms. behind-sign .answer _ ms refl ∙ query-digit (behind-sign .found .1) ms ps f)
+        (λ ps pr. behind-sign .answer _ pr refl ∙ query-digit (behind-sign .found .1) pr ps f)
 
     pub query-itself : {o : Item} → kindDigit b ≡ false → Joins s a q (Literal 63) n o → MakesOne s a p atQuery n o
     unfolding skips
     query-itself f j =
         made-one (literal 63) (literal-rest 63) j (behind-sign .found .0)
-        (λ ps ms. behind-sign .answer _ ms refl ∙ query-literal (behind-sign .found .1) ms ps f)
+        (λ ps pr. behind-sign .answer _ pr refl ∙ query-literal (behind-sign .found .1) pr ps f)
 
     pub mark-called : (m : ℕ) {o : Item} → b ≡ 40 → MakesOne s a (q + 1) (atCall m) n o → MakesOne s a p (atMark m) n o
     unfolding skips
     mark-called m f j out =
         made-from (j out) (omega (arith, behind-sign .found .0))
-        (λ ps ms. behind-sign .answer _ ms refl ∙ mark-call (behind-sign .found .1) ms ps (markAt m) f)
+        (λ ps pr. behind-sign .answer _ pr refl ∙ mark-call (behind-sign .found .1) pr ps (markAt m) f)
 
     pub mark-itself : (m : ℕ) {o : Item} → markByte (markAt m) ≡ m → (b ≡ 40 → ⊥) → Joins s a q (Literal m) n o → MakesOne s a p (atMark m) n o
     unfolding skips
     mark-itself m g f j =
         made-one (literal m) (literal-rest m) j (behind-sign .found .0)
-        (λ ps ms. behind-sign .answer _ ms refl ∙ (mark-literal (behind-sign .found .1) ms ps (markAt m) f ∙ rw g refl))
+        (λ ps pr. behind-sign .answer _ pr refl ∙ (mark-literal (behind-sign .found .1) pr ps (markAt m) f ∙ rw g refl))
 
 and-left : (x y : Bool) → (x && y) ≡ true → x ≡ true
 and-left true y e = refl
@@ -258,50 +258,50 @@ module _ (m n : ℕ) {s : List ℕ} {a p : ℕ} {r : Next} (x : Calls s a p r) w
   unfolding skips
   letter-fault {f} {q} e g out =
       let y : Calls s a p (NoByte f q) = rw e at x in
-      rw (g ∙ ap itemFault e) (record { is = (y .found, λ ps ms. y .answer _ ms refl (space-letter (markAt m) ps)) })
+      rw (g ∙ ap itemFault e) (record { is = (y .found, λ ps pr. y .answer _ pr refl (space-letter (markAt m) ps)) })
 
   module _ {i q : ℕ} (e : r ≡ Byte i q) where
     pub the-letter : Calls s a p (Byte i q)
     the-letter = rw e at x
 
-    to-letter : (ps : List Piece) (ms : List Macro) → run s a ms false p (atCall m ps) ≡ run s a ms false q (atCall m ps)
+    to-letter : (ps : List Piece) (pr : Prior) → run s a pr false p (atCall m ps) ≡ run s a pr false q (atCall m ps)
     unfolding skips
-    to-letter ps ms = the-letter .answer _ ms refl (space-letter (markAt m) ps)
+    to-letter ps pr = the-letter .answer _ pr refl (space-letter (markAt m) ps)
 
     pub letter-wrong : {k : FileFault} → asciiLower i ≡ false → faultOf k ≡ wrongCall i → MakesOne s a p (atCall m) n (NoItem k q)
     letter-wrong f g out =
         let y = the-letter .found in
-        record { is = (omega (arith, y .1 .stands .there), λ ps ms. to-letter ps ms ∙ rw g (call-wrong (y .1) ms ps (markAt m) f (y .2))) }
+        record { is = (omega (arith, y .1 .stands .there), λ ps pr. to-letter ps pr ∙ rw g (call-wrong (y .1) pr ps (markAt m) f (y .2))) }
 
     module _ (f : asciiLower i ≡ true) {t : Next} (z : Calls s a (q + 1) t) where
-      behind-letter : (ps : List Piece) (ms : List Macro) → run s a ms false p (atCall m ps) ≡ run s a ms false (q + 1) (patternCalled (markAt m) ps i)
-      behind-letter ps ms = to-letter ps ms ∙ call-letter (the-letter .found .1) ms ps (markAt m) f
+      behind-letter : (ps : List Piece) (pr : Prior) → run s a pr false p (atCall m ps) ≡ run s a pr false (q + 1) (patternCalled (markAt m) ps i)
+      behind-letter ps pr = to-letter ps pr ∙ call-letter (the-letter .found .1) pr ps (markAt m) f
 
       pub called-fault : {g : FileFault} {v : ℕ} {o : Item} → t ≡ NoByte g v → o ≡ itemFault t → MakesOne s a p (atCall m) n o
       unfolding skips
       called-fault {g} {v} h k out =
           let w : Calls s a (q + 1) (NoByte g v) = rw h at z in
-          rw (k ∙ ap itemFault h) (record { is = (w .found, λ ps ms. behind-letter ps ms ∙ w .answer _ ms refl (space-called (markAt m) ps i)) })
+          rw (k ∙ ap itemFault h) (record { is = (w .found, λ ps pr. behind-letter ps pr ∙ w .answer _ pr refl (space-called (markAt m) ps i)) })
 
       module _ {b v : ℕ} (h : t ≡ Byte b v) where
         pub the-end : Calls s a (q + 1) (Byte b v)
         the-end = rw h at z
 
-        to-end : (ps : List Piece) (ms : List Macro) → run s a ms false p (atCall m ps) ≡ run s a ms false v (patternCalled (markAt m) ps i)
+        to-end : (ps : List Piece) (pr : Prior) → run s a pr false p (atCall m ps) ≡ run s a pr false v (patternCalled (markAt m) ps i)
         unfolding skips
-        to-end ps ms = behind-letter ps ms ∙ the-end .answer _ ms refl (space-called (markAt m) ps i)
+        to-end ps pr = behind-letter ps pr ∙ the-end .answer _ pr refl (space-called (markAt m) ps i)
 
         pub end-wrong : {k : FileFault} → (b ≡ 41 → ⊥) → faultOf k ≡ wrongCall b → MakesOne s a p (atCall m) n (NoItem k v)
         end-wrong g k out =
             let y = the-end .found in
-            record { is = (omega (arith, y .1 .stands .there), λ ps ms. to-end ps ms ∙ rw k (called-wrong (y .1) ms ps (markAt m) i g (y .2))) }
+            record { is = (omega (arith, y .1 .stands .there), λ ps pr. to-end ps pr ∙ rw k (called-wrong (y .1) pr ps (markAt m) i g (y .2))) }
 
         pub called-made : (u : CodeUnit) {o : Item} → b ≡ 41 → u ≡ unitOf (callOf (markAt m) i) → Joins s a (v + 1) u n o → MakesOne s a p (atCall m) n o
         called-made u {o} g k j =
             let y = the-end .found in
             let w : Joins s a (v + 1) (unitOf (callOf (markAt m) i)) n o = rw (sym k) j in
             made-one (callOf (markAt m) i) (call-rest (markAt m) i) w (omega (arith, y .0, the-letter .found .0))
-            (λ ps ms. to-end ps ms ∙ called-end (y .1) ms ps (markAt m) i g)
+            (λ ps pr. to-end ps pr ∙ called-end (y .1) pr ps (markAt m) i g)
 
 -- BEHIND `[`
 
@@ -309,7 +309,7 @@ module _ (u : CodeUnit) {s : List ℕ} {a p : ℕ} {old out : List ℕ} {n : ℕ
   pub class-fault : {f : FileFault} {q : ℕ} {o : Item} → r ≡ NoPut f q → o ≡ classFault r → Makes s a p p (atClass (negOf u)) old out n o
   class-fault {f} {q} e g =
       let y : Classing s a p old out n (NoPut f q) = rw e at x in
-      rw (g ∙ ap classFault e) (record { is = (y .is .0, λ ps ms. y .is .1 ps (negOf u) ms) })
+      rw (g ∙ ap classFault e) (record { is = (y .is .0, λ ps pr. y .is .1 ps (negOf u) pr) })
 
   module _ {q j : ℕ} (e : r ≡ PutAt q j) where
     pub classed : Classed s a p q old out n j
@@ -320,13 +320,13 @@ module _ (u : CodeUnit) {s : List ℕ} {a p : ℕ} {old out : List ℕ} {n : ℕ
         let y = classed in
         let w : Joins s a q (unitOf (class (negOf u) (y .xs))) j o = rw (f (y .xs)) k in
         made (class (negOf u) (y .xs)) w (y .further) (y .room) (rw (class-rest (negOf u) (y .xs)) (y .wrote)) (rw (class-rest (negOf u) (y .xs)) (y .used))
-        (λ ps ms. y .answer ps (negOf u) ms)
+        (λ ps pr. y .answer ps (negOf u) pr)
 
 module _ {s : List ℕ} {a p : ℕ} {r : Next} (x : Stays s a p r) where
   pub opened-fault : (n : ℕ) (old out : List ℕ) {f : FileFault} {q : ℕ} {o : Item} → r ≡ NoByte f q → o ≡ itemFault r → Makes s a p p opened old out n o
   opened-fault n old out {f} {q} e g =
       let y : Stays s a p (NoByte f q) = rw e at x in
-      rw (g ∙ ap itemFault e) (record { is = (y .found, λ ps ms. y .answer _ ms) })
+      rw (g ∙ ap itemFault e) (record { is = (y .found, λ ps pr. y .answer _ pr) })
 
   module _ {b q : ℕ} (e : r ≡ Byte b q) where
     pub behind-bracket : Stays s a p (Byte b q)
@@ -335,12 +335,12 @@ module _ {s : List ℕ} {a p : ℕ} {r : Next} (x : Stays s a p r) where
     pub opened-complement : {n : ℕ} {old out : List ℕ} {o : Item} → b ≡ 126 → Makes s a (q + 1) (q + 1) (atClass true) old out n o → Makes s a p p opened old out n o
     opened-complement f j =
         let y = behind-bracket .found in
-        made-from j (omega (arith, y .0)) (λ ps ms. opened-not (y .1) ms ps f ∙ rw (y .0) refl)
+        made-from j (omega (arith, y .0)) (λ ps pr. opened-not (y .1) pr ps f ∙ rw (y .0) refl)
 
     pub opened-members : {n : ℕ} {old out : List ℕ} {o : Item} → (b ≡ 126 → ⊥) → Makes s a q q (atClass false) old out n o → Makes s a p p opened old out n o
     opened-members f j =
         let y = behind-bracket .found in
-        made-from j (omega (arith, y .0)) (λ ps ms. opened-plain (y .1) ms ps f ∙ rw (y .0) refl)
+        made-from j (omega (arith, y .0)) (λ ps pr. opened-plain (y .1) pr ps f ∙ rw (y .0) refl)
 
 -- AN ELEMENT BY ITS FIRST BYTE
 
@@ -354,25 +354,25 @@ counter-known e = simp e
 
 module _ {s : List ℕ} {a p b : ℕ} (x : Here s a p b) (n : ℕ) (old out : List ℕ) where
   pub element-star : b ≡ 42 → Makes s a p (p + 1) atFresh old out n (NoItem NoUnit p)
-  element-star e = record { is = (omega (arith, x .stands .there), λ ps ms. at-star x ms ps e) }
+  element-star e = record { is = (omega (arith, x .stands .there), λ ps pr. at-star x pr ps e) }
 
   pub element-break : breaks b ≡ true → (b ≡ 39 → ⊥) → Makes s a p (p + 1) atFresh old out n (NoItem Incomplete p)
-  element-break e f = record { is = (omega (arith, x .stands .there), λ ps ms. at-break x ms ps e f) }
+  element-break e f = record { is = (omega (arith, x .stands .there), λ ps pr. at-break x pr ps e f) }
 
   pub element-escape : {o : Item} → b ≡ 92 → Makes s a (p + 1) (p + 1) patternEscape old out n o → Makes s a p (p + 1) atFresh old out n o
-  element-escape e j = made-from j (omega arith) (λ ps ms. at-escape x ms ps e)
+  element-escape e j = made-from j (omega arith) (λ ps pr. at-escape x pr ps e)
 
   pub element-class : {o : Item} → b ≡ 91 → Makes s a (p + 1) (p + 1) opened old out n o → Makes s a p (p + 1) atFresh old out n o
-  element-class e j = made-from j (omega arith) (λ ps ms. at-bracket x ms ps e)
+  element-class e j = made-from j (omega arith) (λ ps pr. at-bracket x pr ps e)
 
   pub element-query : {o : Item} → b ≡ 63 → Makes s a (p + 1) (p + 1) atQuery old out n o → Makes s a p (p + 1) atFresh old out n o
-  element-query e j = made-from j (omega arith) (λ ps ms. at-query x ms ps e)
+  element-query e j = made-from j (omega arith) (λ ps pr. at-query x pr ps e)
 
   pub element-stack : {o : Item} → b ≡ 38 → Makes s a (p + 1) (p + 1) (atMark b) old out n o → Makes s a p (p + 1) atFresh old out n o
-  element-stack e j = made-from j (omega arith) (λ ps ms. at-stack x ms ps e)
+  element-stack e j = made-from j (omega arith) (λ ps pr. at-stack x pr ps e)
 
   pub element-counter : {o : Item} → b ≡ 35 → Makes s a (p + 1) (p + 1) (atMark b) old out n o → Makes s a p (p + 1) atFresh old out n o
-  element-counter e j = made-from j (omega arith) (λ ps ms. at-counter x ms ps e)
+  element-counter e j = made-from j (omega arith) (λ ps pr. at-counter x pr ps e)
 
 or-false-l : (x y : Bool) → (x || y) ≡ false → x ≡ false
 or-false-l true y e = e
@@ -391,7 +391,7 @@ element-literal {b = b} x n out i c d e f g h k l m j =
     let f3 = or-false-l (eqb b 59) _ f2 in
     let f4 = or-false-l (eqb b 10) _ (or-false-r (eqb b 59) _ f2) in
     made-one (literal b) (literal-rest b) j (omega arith)
-    (λ ps ms. at-literal x ms ps (simp (ne-eqb _ _ (i .0), f3, f4, ne-eqb _ _ e, ne-eqb _ _ g, ne-eqb _ _ h, ne-eqb _ _ c, ne-eqb _ _ d, ne-eqb _ _ (i .1), ne-eqb _ _ (i .2))) k l m) out
+    (λ ps pr. at-literal x pr ps (simp (ne-eqb _ _ (i .0), f3, f4, ne-eqb _ _ e, ne-eqb _ _ g, ne-eqb _ _ h, ne-eqb _ _ c, ne-eqb _ _ d, ne-eqb _ _ (i .1), ne-eqb _ _ (i .2))) k l m) out
 
 -- ITS ITEMS
 
@@ -416,7 +416,7 @@ module _ {s : List ℕ} {a p b : ℕ} (x : Here s a p b) (n : ℕ) {old : List �
           further = omega arith;
           reached = reached-behind (x .stands);
           room = omega arith;
-          answer = λ ps ms. at-start x ms ps e;
+          answer = λ ps pr. at-start x pr ps e;
           wrote = w;
           used = refl;
         };
@@ -432,7 +432,7 @@ module _ {s : List ℕ} {a p b : ℕ} (x : Here s a p b) (n : ℕ) {old : List �
           further = omega arith;
           reached = reached-behind (x .stands);
           room = omega arith;
-          answer = λ ps ms. at-end x ms ps e;
+          answer = λ ps pr. at-end x pr ps e;
           wrote = w;
           used = refl;
         };
@@ -442,7 +442,7 @@ module _ {s : List ℕ} {a p b : ℕ} (x : Here s a p b) (n : ℕ) {old : List �
     pub piece-fault : (out : List ℕ) {f : FileFault} {q : ℕ} {o : Put} → r ≡ NoItem f q → o ≡ elementFault r → Pieces s a p old out n o
     piece-fault out {f} {q} e g =
         let w : Makes s a p (p + 1) atFresh old mid (n + 2) (NoItem f q) = rw e at y in
-        rw (g ∙ ap elementFault e) (record { is = (w .is .0, λ ps ms. w .is .1 ps ms) })
+        rw (g ∙ ap elementFault e) (record { is = (w .is .0, λ ps pr. w .is .1 ps pr) })
 
     module _ {e : Element} {q m : ℕ} (f : r ≡ Got e q m) where
       pub its-element : Made s a p (p + 1) atFresh old mid (n + 2) e q m

@@ -5,18 +5,15 @@ use mathlib.Core.Bool.{true, false}
 use mathlib.Core.List.{List, [], _∷_, _++_, reverse, reverse-cons, append-assoc, append-nil}
 use Prim.Native.Nat.{ℕ, suc, _+_, _-_, _*_, _≤_, _<_}
 use native.Mathlib.Omega.{arith}
-use native.Mathlib.Numerals.{add-one}
-use lib.ListN.{length, getD, drop, replicate, length-append, length-replicate}
-use lib.Seq.{drop-cons}
+use lib.ListN.{length, replicate, length-append, length-replicate}
 use borrow.Author.Tests.{lt-ltb}
-use Rattle.macros.specs.Macro.{Piece, Macro, pick, tags, depth, elements}
+use Rattle.macros.specs.Macro.{Piece, tags, depth, elements}
 use Rattle.macros.specs.Macro.Piece.{element, start, end, left, right}
-use Rattle.macros.specs.Read.{Part, readFrom, step, skips}
+use Rattle.macros.specs.Read.{Part, Prior, skips}
 use Rattle.macros.specs.ReadSoFar.Joinable.{nothing}
 use Rattle.macros.specs.ReadSoFar.Part.{pattern}
-use Rattle.macros.specs.ReadFile.Reader.{between, inside}
 use Rattle.form_table.specs.Form.{pieceItems, patternItems}
-use Rattle.read_scan.specs.Scan.{after, run, Here, Passes}
+use Rattle.read_scan.specs.Scan.{run, Here, Passes}
 use Rattle.form_items.specs.Items.{Wrote, itemsOf}
 use Rattle.read_pattern.specs.Pattern.{IsElement, Pieced, Pieces, Fits, Grown, Ends, Reads, Begins, Starts, behindLeft, behindRight, behindElement, insideFault, pieceFault, innerFault, wholeFault}
 use Rattle.read_scan.specs.declared.FileFault.{FileFault}
@@ -30,7 +27,7 @@ use Rattle.read_pattern.specs.declared.Inside.{Inside}
 use Rattle.read_pattern.specs.declared.Inside.the-variants.{Closed, Quote, Refused as NoInside}
 use Rattle.read_pattern.specs.declared.Whole.{Whole}
 use Rattle.read_pattern.specs.declared.Whole.the-variants.{Pattern, Refused as NoWhole}
-use Rattle.read_scan.proofs.Laws.{read-go, read-after, run-now, reached-behind}
+use Rattle.read_scan.proofs.Laws.{reached-behind}
 use Rattle.form_items.proofs.Writing.{wrote-none, wrote-more, wrote-all}
 use Rattle.read_pattern.proofs.Signs.{at-left, at-full, at-right, at-unmatched, at-unclosed, at-empty, at-quote, at-late-quote}
 
@@ -78,18 +75,18 @@ module _ {s : List ℕ} {a : ℕ} where
   pub grown-none : (p : ℕ) (f : PatternSoFar) (o : List ℕ) → Grown s a p f p f o o
   unfolding itemsOf
   grown-none p f o =
-      record { pieces = []; fits = λ ps h. h; level = λ ps. refl; answer = λ ps h ms. refl; wrote = wrote-none o (f .used); used = omega arith }
+      record { pieces = []; fits = λ ps h. h; level = λ ps. refl; answer = λ ps h pr. refl; wrote = wrote-none o (f .used); used = omega arith }
 
   -- the machine is further on, with no piece more
   grown-to : {p q : ℕ} {f g : PatternSoFar} {x y : List ℕ} → Grown s a p f q g x y → (r : ℕ)
-      → ((st : Part) (ms : List Macro) → skips st ≡ true → run s a ms false q st ≡ run s a ms false r st) → Grown s a p f r g x y
+      → ((st : Part) (pr : Prior) → skips st ≡ true → run s a pr false q st ≡ run s a pr false r st) → Grown s a p f r g x y
   unfolding skips
   grown-to k r e =
       record {
         pieces = k .pieces;
         fits = k .fits;
         level = k .level;
-        answer = λ ps h ms. k .answer ps h ms ∙ e (pattern nothing (k .pieces ++ ps)) ms refl;
+        answer = λ ps h pr. k .answer ps h pr ∙ e (pattern nothing (k .pieces ++ ps)) pr refl;
         wrote = k .wrote;
         used = k .used;
       }
@@ -100,7 +97,7 @@ module _ {s : List ℕ} {a : ℕ} where
         pieces = l .pieces ++ k .pieces;
         fits = λ ps c. rw (append-assoc (l .pieces) (k .pieces) ps) (l .fits (k .pieces ++ ps) (k .fits ps c));
         level = λ ps. rw (append-assoc (l .pieces) (k .pieces) ps) (l .level (k .pieces ++ ps) ∙ k .level ps);
-        answer = λ ps c ms. rw (append-assoc (l .pieces) (k .pieces) ps) (k .answer ps c ms ∙ l .answer (k .pieces ++ ps) (k .fits ps c) ms);
+        answer = λ ps c pr. rw (append-assoc (l .pieces) (k .pieces) ps) (k .answer ps c pr ∙ l .answer (k .pieces ++ ps) (k .fits ps c) pr);
         wrote = rw (items-append (l .pieces) (k .pieces)) (wrote-more (k .wrote) (rw (k .used) at (l .wrote)));
         used = rw (items-append (l .pieces) (k .pieces), length-append) (omega (arith, k .used, l .used));
       }
@@ -113,7 +110,7 @@ module _ {s : List ℕ} {a : ℕ} where
         pieces = k .piece ∷ [];
         fits = λ ps h. element-fits (k .piece) (k .counts) ps f n h;
         level = λ ps. element-level (k .piece) (k .counts) ps;
-        answer = λ ps h ms. k .answer ps ms;
+        answer = λ ps h pr. k .answer ps pr;
         wrote = k .wrote;
         used = k .used;
       }
@@ -127,10 +124,10 @@ module _ {s : List ℕ} {a : ℕ} where
         pieces = right ∷ (k .pieces ++ (left ∷ []));
         fits = λ ps c. rw (append-assoc (k .pieces) (left ∷ []) ps) (k .fits (left ∷ ps) (left-fits ps f c));
         level = λ ps. rw (append-assoc (k .pieces) (left ∷ []) ps, k .level (left ∷ ps)) (omega arith);
-        answer = λ ps c ms. rw (append-assoc (k .pieces) (left ∷ []) ps)
-            (at-left b ms ps refl (omega (arith, c .0))
-            ∙ (k .answer (left ∷ ps) (left-fits ps f c) ms
-            ∙ at-right d ms (k .pieces ++ (left ∷ ps)) refl (rw (k .level (left ∷ ps)) (omega arith))));
+        answer = λ ps c pr. rw (append-assoc (k .pieces) (left ∷ []) ps)
+            (at-left b pr ps refl (omega (arith, c .0))
+            ∙ (k .answer (left ∷ ps) (left-fits ps f c) pr
+            ∙ at-right d pr (k .pieces ++ (left ∷ ps)) refl (rw (k .level (left ∷ ps)) (omega arith))));
         wrote = rw (items-append (k .pieces) (left ∷ [])) (wrote-more {l = 1 ∷ 0 ∷ itemsOf (k .pieces)} (wrote-more {l = 1 ∷ 0 ∷ []} w (k .wrote)) (rw len at v));
         used = rw (items-append (k .pieces) (left ∷ []), length-append) (omega (arith, len));
       }
@@ -157,7 +154,7 @@ module _ {s : List ℕ} {a p v : ℕ} {f g : PatternSoFar} {x y : List ℕ} (k :
   unfolding skips
   reads-fault out {h} {q} e i =
       let w : Passes s a v (NoByte h q) = rw e at z in
-      rw (i ∙ ap insideFault e) (record { is = (w .found, λ ps c ms. k .answer ps c ms ∙ w .answer _ ms refl) })
+      rw (i ∙ ap insideFault e) (record { is = (w .found, λ ps c pr. k .answer ps c pr ∙ w .answer _ pr refl) })
 
   module _ {b q : ℕ} (e : r ≡ Byte b q) where
     pub found : Passes s a v (Byte b q)
@@ -187,14 +184,14 @@ module _ {s : List ℕ} {a p v : ℕ} {f g : PatternSoFar} {x y : List ℕ} (k :
 
     pub reads-full : (out : List ℕ) → b ≡ 123 → 99 ≤ g .tags → Reads s a p f x out (NoInside BadBrace q)
     reads-full out h t =
-        record { is = (omega (arith, near .stands .there), λ ps c ms. there .answer ps c ms ∙ at-full near ms (there .pieces ++ ps) h (omega (arith, there .fits ps c .0))) }
+        record { is = (omega (arith, near .stands .there), λ ps c pr. there .answer ps c pr ∙ at-full near pr (there .pieces ++ ps) h (omega (arith, there .fits ps c .0))) }
 
     -- an element
     module _ {out : List ℕ} {o : Put} (w : Pieces s a q y out (g .used) o) where
       pub reads-no-piece : (fin : List ℕ) {h : FileFault} {n : ℕ} {i : Inside} → o ≡ NoPut h n → i ≡ pieceFault o → Reads s a p f x fin i
       reads-no-piece fin {h} {n} j c =
           let u : Pieces s a q y out (g .used) (NoPut h n) = rw j at w in
-          rw (c ∙ ap pieceFault j) (record { is = (u .is .0, λ ps d ms. there .answer ps d ms ∙ u .is .1 (there .pieces ++ ps) ms) })
+          rw (c ∙ ap pieceFault j) (record { is = (u .is .0, λ ps d pr. there .answer ps d pr ∙ u .is .1 (there .pieces ++ ps) pr) })
 
       module _ {m n : ℕ} (j : o ≡ PutAt m n) where
         pub its-piece : Pieced s a q y out (g .used) m n
@@ -208,8 +205,8 @@ module _ {s : List ℕ} {a p v : ℕ} {f g : PatternSoFar} {x y : List ℕ} (k :
       brace : Here s a q 123
       brace = rw h at near
 
-      into : (ps : List Piece) → Fits ps f → (ms : List Macro) → run s a ms false p (pattern nothing ps) ≡ run s a ms false (q + 1) (pattern nothing (left ∷ (there .pieces ++ ps)))
-      into ps c ms = there .answer ps c ms ∙ at-left brace ms (there .pieces ++ ps) refl (omega (arith, there .fits ps c .0))
+      into : (ps : List Piece) → Fits ps f → (pr : Prior) → run s a pr false p (pattern nothing ps) ≡ run s a pr false (q + 1) (pattern nothing (left ∷ (there .pieces ++ ps)))
+      into ps c pr = there .answer ps c pr ∙ at-left brace pr (there .pieces ++ ps) refl (omega (arith, there .fits ps c .0))
 
       fit : (ps : List Piece) → Fits ps f → Fits (left ∷ (there .pieces ++ ps)) (behindLeft g)
       fit ps c = left-fits (there .pieces ++ ps) g (there .fits ps c)
@@ -234,73 +231,64 @@ module _ {s : List ℕ} {a p v : ℕ} {f g : PatternSoFar} {x y : List ℕ} (k :
                 record {
                   is = (
                     omega (arith, c .is .here .stands .there),
-                    λ ps z ms. into ps z ms ∙ (c .is .grown .answer _ (fit ps z) ms
-                        ∙ at-unclosed (c .is .here) ms _ refl (rw (c .is .grown .level (left ∷ (there .pieces ++ ps))) (omega arith))),
+                    λ ps z pr. into ps z pr ∙ (c .is .grown .answer _ (fit ps z) pr
+                        ∙ at-unclosed (c .is .here) pr _ refl (rw (c .is .grown .level (left ∷ (there .pieces ++ ps))) (omega arith))),
                   );
                 }
-            by (NoInside j m) c n = record { is = (c .is .0, λ ps z ms. into ps z ms ∙ c .is .1 _ (fit ps z) ms) }
+            by (NoInside j m) c n = record { is = (c .is .0, λ ps z pr. into ps z pr ∙ c .is .1 _ (fit ps z) pr) }
 
 -- A WHOLE PATTERN
 
--- the first quote of a macro
-pub macro-begins : (s : List ℕ) (a : ℕ) (ms : List Macro) → a < length s → getD s a 0 ≡ 39 → length ms < 96
-    → readFrom a (between false ms) (drop a s) ≡ after s ms (run s a ms false (a + 1) (pattern nothing []))
-unfolding step pick
-macro-begins s a ms h e l =
-    let n : a + 1 - a ≡ 1 = omega arith in
-    rw (drop-cons s a 0 h) (read-go a (between false ms) (inside false 1 (pattern nothing []) ms) (getD s a 0) (drop (suc a) s) (simp (e, lt-ltb _ _ l))
-    ∙ (read-after s ms (suc a) false 1 (pattern nothing []) (drop (suc a) s) refl
-    ∙ ap (after s ms) (sym (run-now s a ms false (a + 1) (pattern nothing []) (omega arith) ∙ rw (n, add-one) refl))))
+abbrev pub noneYet : ℕ → PatternSoFar
+noneYet n = record { tags = 0; some = false; used = n }
 
-abbrev pub noneYet : PatternSoFar
-noneYet = record { tags = 0; some = false; used = 0 }
+module _ {s : List ℕ} {a p : ℕ} {x y : List ℕ} {n : ℕ} {r : Inside} (z : Reads s a p (noneYet n) x y r) where
+  blank : Fits [] (noneYet n)
+  unfolding tags elements
+  blank = (refl, refl)
 
-blank : Fits [] noneYet
-unfolding tags elements
-blank = (refl, refl)
-
-module _ {s : List ℕ} {a : ℕ} {x y : List ℕ} {r : Inside} (z : Reads s a (a + 1) noneYet x y r) where
-  pub whole-fault : Unquoted r → Begins s a x y (wholeFault r)
+  pub whole-fault : Unquoted r → Begins s a p x y n (wholeFault r)
   unfolding depth
   whole-fault = by r z
     where
-      by : (o : Inside) → Reads s a (a + 1) noneYet x y o → Unquoted o → Begins s a x y (wholeFault o)
+      by : (o : Inside) → Reads s a p (noneYet n) x y o → Unquoted o → Begins s a p x y n (wholeFault o)
       by (Closed q g) d u =
-          (omega (arith, d .is .here .stands .there), λ ms. d .is .grown .answer [] blank ms ∙ at-unmatched (d .is .here) ms _ refl (d .is .grown .level []))
+          (omega (arith, d .is .here .stands .there), λ pr. d .is .grown .answer [] blank pr ∙ at-unmatched (d .is .here) pr _ refl (d .is .grown .level []))
       by (Quote q g) d u = absurd u
-      by (NoInside f q) d u = (d .is .0, λ ms. d .is .1 [] blank ms)
+      by (NoInside f q) d u = (d .is .0, λ pr. d .is .1 [] blank pr)
 
   module _ {q : ℕ} {g : PatternSoFar} (e : r ≡ Quote q g) where
-    pub at-its-quote : Ends s a (a + 1) noneYet q g x y 39
-    at-its-quote = let d : Reads s a (a + 1) noneYet x y (Quote q g) = rw e at z in d .is
+    pub at-its-quote : Ends s a p (noneYet n) q g x y 39
+    at-its-quote = let d : Reads s a p (noneYet n) x y (Quote q g) = rw e at z in d .is
 
-    pub whole-empty : g .some ≡ false → Begins s a x y (NoWhole NoElement q)
+    pub whole-empty : g .some ≡ false → Begins s a p x y n (NoWhole NoElement q)
     unfolding depth
     whole-empty f =
         let d = at-its-quote in (
           omega (arith, d .here .stands .there),
-          λ ms. d .grown .answer [] blank ms ∙ at-empty (d .here) ms _ refl (d .grown .level []) (d .grown .fits [] blank .1 ∙ f),
+          λ pr. d .grown .answer [] blank pr ∙ at-empty (d .here) pr _ refl (d .grown .level []) (d .grown .fits [] blank .1 ∙ f),
         )
 
-    pub whole-late : g .some ≡ true → 512 ≤ q - a → Begins s a x y (NoWhole MacroTooLong q)
+    pub whole-late : g .some ≡ true → 512 ≤ q - a → Begins s a p x y n (NoWhole MacroTooLong q)
     unfolding depth
     whole-late f l =
         let d = at-its-quote in (
           omega (arith, d .here .stands .there),
-          λ ms. d .grown .answer [] blank ms ∙ at-late-quote (d .here) ms _ l refl (d .grown .level []) (d .grown .fits [] blank .1 ∙ f),
+          λ pr. d .grown .answer [] blank pr ∙ at-late-quote (d .here) pr _ l refl (d .grown .level []) (d .grown .fits [] blank .1 ∙ f),
         )
 
-    pub whole-pattern : g .some ≡ true → q - a < 512 → Begins s a x y (Pattern (q + 1) (g .tags) (g .used))
+    pub whole-pattern : g .some ≡ true → q - a < 512 → Begins s a p x y n (Pattern (q + 1) (g .tags) (g .used))
     unfolding depth
     whole-pattern f l =
         let d = at-its-quote in
         let e = append-nil (d .grown .pieces) in
         record {
           pieces = d .grown .pieces ++ [];
+          further = omega (arith, d .further);
           reached = reached-behind (d .here .stands);
           tagged = d .grown .fits [] blank .0;
           few = d .tagged;
-          answer = λ ms. d .grown .answer [] blank ms ∙ at-quote (d .here) ms _ l refl (d .grown .level []) (d .grown .fits [] blank .1 ∙ f);
+          answer = λ pr. d .grown .answer [] blank pr ∙ at-quote (d .here) pr _ l refl (d .grown .level []) (d .grown .fits [] blank .1 ∙ f);
           wrote = rw (e, form-items (d .grown .pieces)) (d .grown .wrote);
           used = rw (e, form-items (d .grown .pieces)) (omega (arith, d .grown .used));
           room = omega (arith, d .room, d .further);
@@ -308,9 +296,9 @@ module _ {s : List ℕ} {a : ℕ} {x y : List ℕ} {r : Inside} (z : Reads s a (
 
 -- ALL LENT BYTES
 
-module _ {s : List ℕ} {a : ℕ} {old out : List ℕ} {r : Whole} (x : Begins s a old out r) where
-  pub starts-pattern : {q t j : ℕ} → r ≡ Pattern q t j → Starts s a old out (Pattern q t j)
+module _ {s : List ℕ} {a p : ℕ} {old out : List ℕ} {n : ℕ} {r : Whole} (x : Begins s a p old out n r) where
+  pub starts-pattern : {q t j : ℕ} → r ≡ Pattern q t j → Starts s a p old out n (Pattern q t j)
   starts-pattern e = record { begins = rw e at x; zeros = tt }
 
-  pub starts-fault : {f : FileFault} {q : ℕ} → r ≡ NoWhole f q → {fin : List ℕ} {k : ℕ} → Wrote out fin 0 (replicate k 0) → k ≡ length fin → length fin ≡ length old → Starts s a old fin (NoWhole f q)
-  starts-fault e {fin} {k} w g h = record { begins = rw e at x; zeros = wrote-all w (length-replicate {A = ℕ} k 0 ∙ g) ∙ ap (λ (n : ℕ). replicate {A = ℕ} n 0) (g ∙ h) }
+  pub starts-fault : {f : FileFault} {q : ℕ} → r ≡ NoWhole f q → {fin : List ℕ} {k : ℕ} → Wrote out fin 0 (replicate k 0) → k ≡ length fin → length fin ≡ length old → Starts s a p old fin n (NoWhole f q)
+  starts-fault e {fin} {k} w g h = record { begins = rw e at x; zeros = wrote-all w (length-replicate {A = ℕ} k 0 ∙ g) ∙ ap (λ (i : ℕ). replicate {A = ℕ} i 0) (g ∙ h) }

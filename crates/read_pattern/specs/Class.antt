@@ -7,9 +7,9 @@ use lib.ListN.{length}
 use Rattle.macros.specs.Bounds.{mostMacroBytes}
 use Rattle.macros.specs.Refusals.{FileRefusal}
 use Rattle.macros.specs.Refusals.FileRefusal.{badClass}
-use Rattle.macros.specs.Macro.{Member, Piece, Macro}
+use Rattle.macros.specs.Macro.{Member, Piece}
 use Rattle.macros.specs.Macro.PatternUnit.{class}
-use Rattle.macros.specs.Read.{Part, Step, Last, newMember, membersByte, breaks}
+use Rattle.macros.specs.Read.{Part, Prior, Step, Last, newMember, membersByte, breaks}
 use Rattle.macros.specs.ReadSoFar.Joinable.{unit}
 use Rattle.macros.specs.ReadSoFar.Last.{free, member, dash}
 use Rattle.macros.specs.ReadSoFar.Part.{pattern, members}
@@ -46,17 +46,17 @@ pub record Meets (s : List ℕ) (a p c : ℕ) (raw : Bool) (q : ℕ) : Type 0 wh
   pub there : q < length s
   pub counted : q ≤ a + mostMacroBytes
   pub plain : raw ≡ true → Plain c
-  pub taken : (ps : List Piece) (neg : Bool) (l : Last) (xs : List Member) (ms : List Macro) (st : Part)
-      → classTurn raw ps neg l xs c ≡ on st → run s a ms false p (members ps neg l xs) ≡ run s a ms false (q + 1) st
-  pub refused : (ps : List Piece) (neg : Bool) (l : Last) (xs : List Member) (ms : List Macro) (k : FileRefusal)
-      → classTurn raw ps neg l xs c ≡ stop k → run s a ms false p (members ps neg l xs) ≡ refusedAt k q
+  pub taken : (ps : List Piece) (neg : Bool) (l : Last) (xs : List Member) (pr : Prior) (st : Part)
+      → classTurn raw ps neg l xs c ≡ on st → run s a pr false p (members ps neg l xs) ≡ run s a pr false (q + 1) st
+  pub refused : (ps : List Piece) (neg : Bool) (l : Last) (xs : List Member) (pr : Prior) (k : FileRefusal)
+      → classTurn raw ps neg l xs c ≡ stop k → run s a pr false p (members ps neg l xs) ≡ refusedAt k q
 
 -- what reading the next byte of a class says, by the answer, whatever was read of the class
 abbrev pub Meeting : List ℕ → ℕ → ℕ → ClassByte → Type 0
 Meeting s a p (GotByte c raw q) = Meets s a p c raw q
 Meeting s a p (NoClassByte f q) =
-    (q ≤ length s) × ((ps : List Piece) (neg : Bool) (l : Last) (xs : List Member) (ms : List Macro)
-    → run s a ms false p (members ps neg l xs) ≡ refusedAt (faultOf f) q)
+    (q ≤ length s) × ((ps : List Piece) (neg : Bool) (l : Last) (xs : List Member) (pr : Prior)
+    → run s a pr false p (members ps neg l xs) ≡ refusedAt (faultOf f) q)
 
 -- what is last, as the machine has it
 abbrev pub lastOf : CodeLast → Last
@@ -94,8 +94,8 @@ Taking l c raw old out n BadRange =
 -- from the first member's place p up to q, members read and written from i up to j, and what is last not written
 pub record Membered (s : List ℕ) (a p q : ℕ) (old out : List ℕ) (i j : ℕ) (l : CodeLast) : Type 0 where
   pub xs : List Member
-  pub answer : (ps : List Piece) (neg : Bool) (ms : List Macro)
-      → run s a ms false p (members ps neg free []) ≡ run s a ms false q (members ps neg (lastOf l) xs)
+  pub answer : (ps : List Piece) (neg : Bool) (pr : Prior)
+      → run s a pr false p (members ps neg free []) ≡ run s a pr false q (members ps neg (lastOf l) xs)
   pub wrote : Wrote old out i (memberBytes xs)
   pub used : j ≡ i + length (memberBytes xs)
   pub room : j + pending l ≤ i + 2 * (q - p)
@@ -106,8 +106,8 @@ pub record Classed (s : List ℕ) (a p q : ℕ) (old out : List ℕ) (i j : ℕ)
   pub further : p ≤ q
   pub reached : Reached s a q
   pub room : j ≤ i + 2 * (q - p)
-  pub answer : (ps : List Piece) (neg : Bool) (ms : List Macro)
-      → run s a ms false p (members ps neg free []) ≡ run s a ms false q (pattern (unit (class neg xs)) ps)
+  pub answer : (ps : List Piece) (neg : Bool) (pr : Prior)
+      → run s a pr false p (members ps neg free []) ≡ run s a pr false q (pattern (unit (class neg xs)) ps)
   pub wrote : Wrote old out i (membersItems xs)
   pub used : j ≡ i + length (membersItems xs)
 
@@ -115,8 +115,8 @@ pub record Classed (s : List ℕ) (a p q : ℕ) (old out : List ℕ) (i j : ℕ)
 abbrev pub ClassingBy : List ℕ → ℕ → ℕ → List ℕ → List ℕ → ℕ → Put → Type 0
 ClassingBy s a p old out i (PutAt q j) = Classed s a p q old out i j
 ClassingBy s a p old out i (NoPut f q) =
-    (q ≤ length s) × ((ps : List Piece) (neg : Bool) (ms : List Macro)
-    → run s a ms false p (members ps neg free []) ≡ refusedAt (faultOf f) q)
+    (q ≤ length s) × ((ps : List Piece) (neg : Bool) (pr : Prior)
+    → run s a pr false p (members ps neg free []) ≡ refusedAt (faultOf f) q)
 
 -- what reading a class's members from p on says, by the answer
 pub record Classing (s : List ℕ) (a p : ℕ) (old out : List ℕ) (i : ℕ) (r : Put) : Type 0 where

@@ -6,11 +6,11 @@ use mathlib.Core.List.{List, [], _∷_, _++_, reverse}
 use lib.Dec.{ltb, eqb}
 use lib.ListN.{length, replicate}
 use Rattle.macros.specs.Bounds.{mostMacroBytes, mostTags}
-use Rattle.macros.specs.Macro.{Closure, Member, Mark, PatternUnit, Piece, Macro, pick, tags, elements, depth}
+use Rattle.macros.specs.Macro.{Closure, Member, Mark, PatternUnit, Piece, pick, tags, elements, depth}
 use Rattle.macros.specs.Macro.Mark.{stack, counter}
 use Rattle.macros.specs.Macro.PatternUnit.{class}
 use Rattle.macros.specs.Macro.Piece.{element, start, end, left, right}
-use Rattle.macros.specs.Read.{Part}
+use Rattle.macros.specs.Read.{Part, Prior}
 use Rattle.macros.specs.ReadSoFar.Joinable.{nothing, unit, query, marked}
 use Rattle.macros.specs.ReadSoFar.Last.{free}
 use Rattle.macros.specs.ReadSoFar.Part.{pattern, members, patternCall, awaitSymbol}
@@ -50,15 +50,15 @@ pub record Joined (s : List ℕ) (a p : ℕ) (u : CodeUnit) (e : Element) (q : �
   pub reached : Reached s a q
   pub its : Closure
   pub same : e ≡ record { unit = u; closure = codeClosure its }
-  pub answer : (v : PatternUnit) (ps : List Piece) (ms : List Macro)
-      → run s a ms false p (pattern (unit v) ps) ≡ run s a ms false q (pattern nothing (element v its ∷ ps))
+  pub answer : (v : PatternUnit) (ps : List Piece) (pr : Prior)
+      → run s a pr false p (pattern (unit v) ps) ≡ run s a pr false q (pattern nothing (element v its ∷ ps))
 
 -- the element with its closure, or the refusal
 abbrev pub JoinsBy : List ℕ → ℕ → ℕ → CodeUnit → ℕ → Item → Type 0
 JoinsBy s a p u n (Got e q m) = (m ≡ n) × Joined s a p u e q
 JoinsBy s a p u n (NoItem f q) =
-    (q ≤ length s) × ((v : PatternUnit) (ps : List Piece) (ms : List Macro)
-    → run s a ms false p (pattern (unit v) ps) ≡ refusedAt (faultOf f) q)
+    (q ≤ length s) × ((v : PatternUnit) (ps : List Piece) (pr : Prior)
+    → run s a pr false p (pattern (unit v) ps) ≡ refusedAt (faultOf f) q)
 
 -- what reading a closure from p on says, by the answer
 pub record Joins (s : List ℕ) (a p : ℕ) (u : CodeUnit) (n : ℕ) (r : Item) : Type 0 where
@@ -72,8 +72,8 @@ pub record Made (s : List ℕ) (a p v : ℕ) (F : List Piece → Part) (old out 
   pub further : v ≤ q
   pub reached : Reached s a q
   pub room : m ≤ n + 2 * (q - v)
-  pub answer : (ps : List Piece) (ms : List Macro)
-      → run s a ms false p (F ps) ≡ run s a ms false q (pattern nothing (element itsUnit itsClosure ∷ ps))
+  pub answer : (ps : List Piece) (pr : Prior)
+      → run s a pr false p (F ps) ≡ run s a pr false q (pattern nothing (element itsUnit itsClosure ∷ ps))
   pub wrote : Wrote old out n (unitRest itsUnit)
   pub used : m ≡ n + length (unitRest itsUnit)
 
@@ -81,7 +81,7 @@ pub record Made (s : List ℕ) (a p v : ℕ) (F : List Piece → Part) (old out 
 abbrev pub MakesBy : List ℕ → ℕ → ℕ → ℕ → (List Piece → Part) → List ℕ → List ℕ → ℕ → Item → Type 0
 MakesBy s a p v F old out n (Got e q m) = Made s a p v F old out n e q m
 MakesBy s a p v F old out n (NoItem f q) =
-    (q ≤ length s) × ((ps : List Piece) (ms : List Macro) → run s a ms false p (F ps) ≡ refusedAt (faultOf f) q)
+    (q ≤ length s) × ((ps : List Piece) (pr : Prior) → run s a pr false p (F ps) ≡ refusedAt (faultOf f) q)
 
 -- what reading an element from the state F at p on says, by the answer
 pub record Makes (s : List ℕ) (a p v : ℕ) (F : List Piece → Part) (old out : List ℕ) (n : ℕ) (r : Item) : Type 0 where
@@ -151,8 +151,8 @@ pub record Pieced (s : List ℕ) (a p : ℕ) (old out : List ℕ) (n q m : ℕ) 
   pub further : p < q
   pub reached : Reached s a q
   pub room : m ≤ n + 2 * (q - p)
-  pub answer : (ps : List Piece) (ms : List Macro)
-      → run s a ms false p (pattern nothing ps) ≡ run s a ms false q (pattern nothing (piece ∷ ps))
+  pub answer : (ps : List Piece) (pr : Prior)
+      → run s a pr false p (pattern nothing ps) ≡ run s a pr false q (pattern nothing (piece ∷ ps))
   pub wrote : Wrote old out n (pieceItems piece)
   pub used : m ≡ n + length (pieceItems piece)
 
@@ -160,7 +160,7 @@ pub record Pieced (s : List ℕ) (a p : ℕ) (old out : List ℕ) (n q m : ℕ) 
 abbrev pub PiecesBy : List ℕ → ℕ → ℕ → List ℕ → List ℕ → ℕ → Put → Type 0
 PiecesBy s a p old out n (PutAt q m) = Pieced s a p old out n q m
 PiecesBy s a p old out n (NoPut f q) =
-    (q ≤ length s) × ((ps : List Piece) (ms : List Macro) → run s a ms false p (pattern nothing ps) ≡ refusedAt (faultOf f) q)
+    (q ≤ length s) × ((ps : List Piece) (pr : Prior) → run s a pr false p (pattern nothing ps) ≡ refusedAt (faultOf f) q)
 
 -- what reading one piece from p on says, by the answer
 pub record Pieces (s : List ℕ) (a p : ℕ) (old out : List ℕ) (n : ℕ) (r : Put) : Type 0 where
@@ -175,8 +175,8 @@ pub record Grown (s : List ℕ) (a p : ℕ) (f : PatternSoFar) (q : ℕ) (g : Pa
   pub pieces : List Piece
   pub fits : (ps : List Piece) → Fits ps f → Fits (pieces ++ ps) g
   pub level : (ps : List Piece) → depth (pieces ++ ps) ≡ depth ps
-  pub answer : (ps : List Piece) → Fits ps f → (ms : List Macro)
-      → run s a ms false p (pattern nothing ps) ≡ run s a ms false q (pattern nothing (pieces ++ ps))
+  pub answer : (ps : List Piece) → Fits ps f → (pr : Prior)
+      → run s a pr false p (pattern nothing ps) ≡ run s a pr false q (pattern nothing (pieces ++ ps))
   pub wrote : Wrote old out (f .used) (itemsOf pieces)
   pub used : g .used ≡ f .used + length (itemsOf pieces)
 
@@ -193,30 +193,30 @@ abbrev pub ReadsBy : List ℕ → ℕ → ℕ → PatternSoFar → List ℕ → 
 ReadsBy s a p f old out (Closed q g) = Ends s a p f q g old out 125
 ReadsBy s a p f old out (Quote q g) = Ends s a p f q g old out 39
 ReadsBy s a p f old out (NoInside k q) =
-    (q ≤ length s) × ((ps : List Piece) → Fits ps f → (ms : List Macro) → run s a ms false p (pattern nothing ps) ≡ refusedAt (faultOf k) q)
+    (q ≤ length s) × ((ps : List Piece) → Fits ps f → (pr : Prior) → run s a pr false p (pattern nothing ps) ≡ refusedAt (faultOf k) q)
 
 -- what reading from p up to a right brace or the quote says, behind any pieces that fit f, by the answer
 pub record Reads (s : List ℕ) (a p : ℕ) (f : PatternSoFar) (old out : List ℕ) (r : Inside) : Type 0 where
   pub is : ReadsBy s a p f old out r
 
--- the pieces of the pattern of the macro that began at a, newest first, as the machine has them behind the closing quote, at q;
--- their items are written from 0 up to j
-pub record Patterned (s : List ℕ) (a q t : ℕ) (old out : List ℕ) (j : ℕ) : Type 0 where
+-- the pieces of the pattern that begins at p, in the macro that began at a, newest first, as the machine has them behind the closing
+-- quote, at q; their items are written from n up to j
+pub record Patterned (s : List ℕ) (a p q t : ℕ) (old out : List ℕ) (n j : ℕ) : Type 0 where
   pub pieces : List Piece
+  pub further : p < q
   pub reached : Reached s a q
   pub tagged : tags pieces ≡ t
   pub few : t ≤ mostTags
-  pub answer : (ms : List Macro) → run s a ms false (a + 1) (pattern nothing [])
-      ≡ patternTo q pieces (run s a ms false q (awaitSymbol pieces))
-  pub wrote : Wrote old out 0 (patternItems (reverse pieces))
-  pub used : j ≡ length (patternItems (reverse pieces))
-  pub room : j + 4 ≤ 2 * (q - a)
+  pub answer : (pr : Prior) → run s a pr false p (pattern nothing []) ≡ patternTo q pieces (run s a pr false q (awaitSymbol pieces))
+  pub wrote : Wrote old out n (patternItems (reverse pieces))
+  pub used : j ≡ n + length (patternItems (reverse pieces))
+  pub room : j + 2 ≤ n + 2 * (q - p)
 
--- what reading a whole pattern says, by the answer
-abbrev pub Begins : List ℕ → ℕ → List ℕ → List ℕ → Whole → Type 0
-Begins s a old out (Pattern q t j) = Patterned s a q t old out j
-Begins s a old out (NoWhole f q) =
-    (q ≤ length s) × ((ms : List Macro) → run s a ms false (a + 1) (pattern nothing []) ≡ refusedAt (faultOf f) q)
+-- what reading a whole pattern from p on says, by the answer
+abbrev pub Begins : List ℕ → ℕ → ℕ → List ℕ → List ℕ → ℕ → Whole → Type 0
+Begins s a p old out n (Pattern q t j) = Patterned s a p q t old out n j
+Begins s a p old out n (NoWhole f q) =
+    (q ≤ length s) × ((pr : Prior) → run s a pr false p (pattern nothing []) ≡ refusedAt (faultOf f) q)
 
 -- that a refusal leaves zeros
 abbrev pub Zeroed : List ℕ → List ℕ → Whole → Type 0
@@ -224,8 +224,8 @@ Zeroed old out (Pattern q t j) = Unit {0}
 Zeroed old out (NoWhole f q) = out ≡ replicate (length old) 0
 
 -- what reading a whole pattern says of the answer and of all lent bytes
-pub record Starts (s : List ℕ) (a : ℕ) (old out : List ℕ) (r : Whole) : Type 0 where
-  pub begins : Begins s a old out r
+pub record Starts (s : List ℕ) (a p : ℕ) (old out : List ℕ) (n : ℕ) (r : Whole) : Type 0 where
+  pub begins : Begins s a p old out n r
   pub zeros : Zeroed old out r
 
 -- how far a pattern is behind a left brace

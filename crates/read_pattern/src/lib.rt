@@ -52,7 +52,7 @@ pub(crate) enum Inside {
     Refused(FileFault, usize),
 }
 
-// The place behind a pattern's closing quote, its tags and the bytes written.
+// The place behind a pattern's closing quote, its tags, and the end of what is written.
 pub enum Whole {
     Pattern(usize, usize, usize),
     Refused(FileFault, usize),

@@ -1,4 +1,4 @@
-// Reads a pattern and writes its items. Everywhere s is the file, a the place of the macro's first quote, and out the lent bytes.
+// Reads a pattern and writes its items. Everywhere s is the file, a the place where the macro begins, and out the lent bytes.
 use crate::ClassByte;
 use crate::Inside;
 use crate::Item;
@@ -39,7 +39,7 @@ ghost use Rattle.macros.specs.Macro.PatternUnit.{callOf};
 ghost use Rattle.macros.specs.Macro.Piece.{left, right};
 ghost use Rattle.macros.specs.Read.{kindDigit};
 ghost use Rattle.macros.specs.ReadSoFar.Part.{patternEscape, opened};
-ghost use Rattle.form_table.specs.Form.{slotBytes, pieceItems};
+ghost use Rattle.form_table.specs.Form.{pieceItems};
 ghost use Rattle.form_element.specs.Element.{unitOf};
 ghost use Rattle.form_element.specs.declared.Closure.the-variants.{Once};
 ghost use Rattle.read_scan.specs.Scan.{Reached, Here};
@@ -436,17 +436,17 @@ fn inside(s: &[u8], out: &mut [u8], a: usize, first: usize, from: PatternSoFar) 
     }
 }
 
-// The pieces of a whole pattern, of the macro whose first quote stands at a.
-fn pieces(s: &[u8], out: &mut [u8], a: usize) -> Whole
-    requires { ⌜ (a < length (now s)) × (slotBytes ≤ length (now out)) ⌝ }
-    ensures { λ r. ⌜ Begins (now (s .entry)) a (now (out .entry)) (now (out .exit)) r ⌝ }
+// The pieces of a whole pattern from `at` on, which is behind its first quote; their items are written from n on.
+fn pieces(s: &[u8], out: &mut [u8], a: usize, at: usize, n: usize) -> Whole
+    requires { ⌜ Reached (now s) a at × Room (now out) a at n ⌝ }
+    ensures { λ r. ⌜ Begins (now (s .entry)) a at (now (out .entry)) (now (out .exit)) n r ⌝ }
 {
     let none = PatternSoFar {
         tags: 0,
         some: false,
-        used: 0,
+        used: n,
     };
-    let read = inside(s, out, a, a + 1, none);
+    let read = inside(s, out, a, at, none);
     let Inside::Quote(q, far) = read else {
         return whole_fault(read);
     };
@@ -459,12 +459,12 @@ fn pieces(s: &[u8], out: &mut [u8], a: usize) -> Whole
     Whole::Refused(FileFault::NoElement, q)
 }
 
-// The pattern of the macro whose first quote stands at a; a refusal leaves zeros in the lent bytes.
-pub fn whole(s: &[u8], out: &mut [u8], a: usize) -> Whole
-    requires { ⌜ (a < length (now s)) × (slotBytes ≤ length (now out)) ⌝ }
-    ensures { λ r. ⌜ Starts (now (s .entry)) a (now (out .entry)) (now (out .exit)) r ⌝ }
+// The pattern from `at` on, as in `pieces`; a refusal leaves zeros in the lent bytes.
+pub fn whole(s: &[u8], out: &mut [u8], a: usize, at: usize, n: usize) -> Whole
+    requires { ⌜ Reached (now s) a at × Room (now out) a at n ⌝ }
+    ensures { λ r. ⌜ Starts (now (s .entry)) a at (now (out .entry)) (now (out .exit)) n r ⌝ }
 {
-    let read = pieces(s, out, a);
+    let read = pieces(s, out, a, at, n);
     let Whole::Pattern(q, tags, used) = read else {
         let size = out.len();
         clear(out, 0, size);

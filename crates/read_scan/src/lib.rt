@@ -2,7 +2,7 @@
 // Each answer is defined in specs/, from the file's bytes alone; there also stands what it says of the machine of the definitions.
 pub mod scan;
 
-// The bytes from a macro's first quote to its `;`, both counted.
+// The bytes of a macro from where it begins, at its first quote or at the sign of its first call, to its `;`, both counted.
 pub const MOST_MACRO_BYTES: usize = 512;
 
 // A refusal of the table writer, in the order of their numbers: 10 to 19.

@@ -1,7 +1,6 @@
 pub mod Putting
 pub mod Steps
 pub mod Decoded
-pub mod Room
 pub mod Slotted
 pub mod Tabled
 pub mod Files

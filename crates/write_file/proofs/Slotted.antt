@@ -1,24 +1,29 @@
 -- A slot holds the parts of its macro.
 -- Assumes nothing.
 use Prim.Native.Nat.{ℕ, _+_, _-_, _%_, _≤_}
-use mathlib.Core.Path.{_≡_, refl, ap, _∙_}
+use mathlib.Core.Path.{_≡_, refl, sym, ap, _∙_}
 use mathlib.Core.List.{List, [], _∷_, _++_, append-assoc, map}
 use native.Mathlib.Omega.{arith}
-use lib.ListN.{length, getD, take, drop, replicate, length-append, length-drop}
-use lib.Seq.{take-at, drop-at, length-take-le}
-use Rattle.macros.specs.Macro.{Member, Piece, Symbol, Macro, pick}
+use lib.ListN.{length, getD, take, drop, length-append, length-drop}
+use lib.Seq.{length-take-le}
+use Rattle.macros.specs.Macro.{Member, Piece, Call, Symbol, Macro, pick}
 use Rattle.macros.specs.Macro.Member.{single, range}
 use Rattle.macros.specs.Macro.PatternUnit.{literal, kind, class, callOf}
 use Rattle.macros.specs.Macro.Piece.{element, start, end, left, right}
 use Rattle.macros.specs.Macro.Action.{call}
 use Rattle.macros.specs.Macro.Symbol.{equal, less}
 use Rattle.macros.specs.Formed.{Formed}
-use Rattle.macros.specs.Write.{writePattern, symbolSign, written}
-use Rattle.form_table.specs.Check.{twoAt}
-use Rattle.form_table.specs.Form.{memberItems, membersItems, unitRest, pieceItems, patternItems, callsItems, replacementItems, two, symbolCode, header, body, bodyBytes, slot, slotBytes}
-use Rattle.write_file.specs.Slots.{patternEnd, replacementEnd, commandsEnd, symbolByte, part, leftText, rightText, slotText, Parts}
+use Rattle.macros.specs.Write.{writePattern, writeText, commandsBytes, symbolSign, written}
+use Rattle.form_table.specs.Check.{twoAt, itemsAt}
+use Rattle.form_table.specs.Form.{memberItems, membersItems, unitRest, pieceItems, patternItems, callsItems, replacementItems, symbolCode, body}
+use Rattle.form_table.specs.Form.{headerBytes, bodyBytes, slot, slotBytes}
+use Rattle.write_file.specs.Items.{actionsText, Whole}
+use Rattle.write_file.specs.Slots.{beforeEnd, patternEnd, replacementEnd, commandsEnd, symbolByte, part}
+use Rattle.write_file.specs.Slots.{beforeText, leftText, rightText, slotText, Parts}
+use Rattle.form_table.proofs.Sizes.{body-length}
 use Rattle.form_table.proofs.Actions.{slot-length, calls-items}
-use Rattle.form_table.proofs.Slots.{pattern-at, replacement-at, commands-at}
+use Rattle.form_table.proofs.Slots.{before-part, pattern-part, replacement-part, commands-part}
+use Rattle.form_table.proofs.Slots.{before-at, pattern-at, replacement-at, commands-at, symbol-at}
 use Rattle.write_file.proofs.Decoded.{pattern-kinds, pattern-text, actions-text, actions-whole, calls-text}
 
 -- the items of a pattern are two bytes each
@@ -44,16 +49,27 @@ unfolding patternItems
 pattern-even [] = refl
 pattern-even (p ∷ ps) = let a = length-append (pieceItems p) (patternItems ps) in let x = piece-even p in let y = pattern-even ps in omega arith
 
-part-at : (a b c : List ℕ) (i e : ℕ) → length a ≡ i → e ≡ i + length b → part i e (a ++ (b ++ c)) ≡ b
-unfolding part
-part-at a b c i e p q = rw (drop-at a (b ++ c) i p) (take-at b c (e - i) (omega arith))
+-- a part that begins and ends where items do
+part-items : (s : List ℕ) (a e n k : ℕ) → a ≡ headerBytes + n → e ≡ a + k → part a e s ≡ itemsAt s n k
+unfolding part itemsAt
+part-items s a e n k p q = let l : e - a ≡ k = omega arith in rw (l, p)
 
 sign : (s : Symbol) → symbolByte (symbolCode s) ≡ symbolSign s
 unfolding symbolByte symbolCode symbolSign pick
 sign equal = refl
 sign less = refl
 
+-- calls are written as the actions that they are
+calls-written : (cs : List Call) → actionsText 0 (callsItems cs) ≡ commandsBytes writeText cs
+calls-written cs = rw (calls-items cs) (actions-text (map call cs) ∙ sym (calls-text cs))
+
+calls-whole : (cs : List Call) → Whole (callsItems cs)
+calls-whole cs = rw (calls-items cs) (actions-whole (map call cs))
+
 module _ (m : Macro) where
+  abbrev B : List ℕ
+  B = callsItems (m .before)
+
   abbrev P : List ℕ
   P = patternItems (m .pattern)
 
@@ -63,72 +79,53 @@ module _ (m : Macro) where
   abbrev C : List ℕ
   C = callsItems (m .commands)
 
-  abbrev rest : List ℕ
-  rest = replicate (bodyBytes - length (body m)) 0
+  slot-before : part headerBytes (beforeEnd (slot m)) (slot m) ≡ B
+  unfolding beforeEnd
+  slot-before =
+      part-items (slot m) headerBytes (headerBytes + twoAt (slot m) 2) 0 (length B) refl (omega (arith, before-at m)) ∙ before-part m
 
-  header-length : length (header m) ≡ 8
-  unfolding header two
-  header-length = refl
-
-  slot-pattern : part 8 (patternEnd (slot m)) (slot m) ≡ P
-  unfolding patternEnd slot body
+  slot-pattern : part (beforeEnd (slot m)) (patternEnd (slot m)) (slot m) ≡ P
+  unfolding beforeEnd patternEnd
   slot-pattern =
-      ap (λ (x : List ℕ). part 8 (8 + twoAt (slot m) 2) (header m ++ x)) (append-assoc P (R ++ C) rest)
-      ∙ part-at (header m) P ((R ++ C) ++ rest) 8 (8 + twoAt (slot m) 2) header-length (ap (λ (n : ℕ). 8 + n) (pattern-at m))
+      part-items (slot m) (beforeEnd (slot m)) (patternEnd (slot m)) (length B) (length P) (omega (arith, before-at m)) (omega (arith, pattern-at m))
+      ∙ pattern-part m
 
   slot-replacement : part (patternEnd (slot m)) (replacementEnd (slot m)) (slot m) ≡ R
-  unfolding patternEnd replacementEnd slot body
+  unfolding beforeEnd patternEnd replacementEnd
   slot-replacement =
-      let e : header m ++ ((P ++ (R ++ C)) ++ rest) ≡ (header m ++ P) ++ (R ++ (C ++ rest)) = simp append-assoc in
-      let l = length-append (header m) P in
-      let h = header-length in
-      let p = pattern-at m in
-      let r = replacement-at m in
-      ap (part (8 + twoAt (slot m) 2) (8 + twoAt (slot m) 2 + twoAt (slot m) 4)) e
-      ∙ part-at (header m ++ P) R (C ++ rest) (8 + twoAt (slot m) 2) (8 + twoAt (slot m) 2 + twoAt (slot m) 4) (omega arith) (omega arith)
+      part-items (slot m) (patternEnd (slot m)) (replacementEnd (slot m)) (length B + length P) (length R) (omega (arith, before-at m, pattern-at m))
+      (omega (arith, replacement-at m))
+      ∙ replacement-part m
 
   slot-commands : part (replacementEnd (slot m)) (commandsEnd (slot m)) (slot m) ≡ C
-  unfolding patternEnd replacementEnd commandsEnd slot body
+  unfolding beforeEnd patternEnd replacementEnd commandsEnd
   slot-commands =
-      let e : header m ++ ((P ++ (R ++ C)) ++ rest) ≡ (header m ++ (P ++ R)) ++ (C ++ rest) = simp append-assoc in
-      let l = length-append (header m) (P ++ R) in
-      let k = length-append P R in
-      let h = header-length in
-      let p = pattern-at m in
-      let r = replacement-at m in
-      let c = commands-at m in
-      ap (part (8 + twoAt (slot m) 2 + twoAt (slot m) 4) (8 + twoAt (slot m) 2 + twoAt (slot m) 4 + twoAt (slot m) 6)) e
-      ∙ part-at (header m ++ (P ++ R)) C rest (8 + twoAt (slot m) 2 + twoAt (slot m) 4) (8 + twoAt (slot m) 2 + twoAt (slot m) 4 + twoAt (slot m) 6) (omega arith) (omega arith)
+      part-items (slot m) (replacementEnd (slot m)) (commandsEnd (slot m)) (length B + length P + length R) (length C)
+      (omega (arith, before-at m, pattern-at m, replacement-at m)) (omega (arith, commands-at m))
+      ∙ commands-part m
 
   ends-within : length (body m) ≤ bodyBytes → commandsEnd (slot m) ≤ slotBytes
-  unfolding patternEnd replacementEnd commandsEnd body
-  ends-within h =
-      let l = length-append P (R ++ C) in
-      let k = length-append R C in
-      let p = pattern-at m in
-      let r = replacement-at m in
-      let c = commands-at m in
-      omega arith
+  unfolding beforeEnd patternEnd replacementEnd commandsEnd
+  ends-within h = omega (arith, body-length m, before-at m, pattern-at m, replacement-at m, commands-at m)
 
   symbol-text : symbolByte (getD (slot m) 0 0) ≡ symbolSign (m .symbol)
-  unfolding slot header
-  symbol-text = sign (m .symbol)
+  symbol-text = rw (symbol-at m) (sign (m .symbol))
 
   pub slot-text : Formed m → slotText (slot m) ≡ written m
-  unfolding slotText leftText rightText written
+  unfolding slotText beforeText leftText rightText written
   slot-text f =
       rw (
+        slot-before,
         slot-pattern,
         slot-replacement,
         slot-commands,
         symbol-text,
+        calls-written (m .before),
+        calls-written (m .commands),
         pattern-text (m .pattern) (pattern-kinds (m .pattern) (f .pattern .pieces)) 0,
         actions-text,
-        calls-items,
-        calls-text,
-        actions-text,
       )
-      (append-assoc (39 ∷ writePattern (m .pattern)) (39 ∷ symbolSign (m .symbol) ∷ []) _)
+      (ap (λ (l : List ℕ). commandsBytes writeText (m .before) ++ l) (append-assoc (39 ∷ writePattern (m .pattern)) (39 ∷ symbolSign (m .symbol) ∷ []) _))
 
   pub slot-parts : length (body m) ≤ bodyBytes → Parts (slot m)
   slot-parts h =
@@ -136,34 +133,44 @@ module _ (m : Macro) where
         size = slot-length m h;
         fits = ends-within h;
         even = rw (pattern-at m) (pattern-even (m .pattern));
+        before = rw slot-before (calls-whole (m .before));
         replacement = rw slot-replacement (actions-whole (m .replacement));
-        commands = rw (slot-commands, calls-items) (actions-whole (map call (m .commands)));
+        commands = rw slot-commands (calls-whole (m .commands));
       }
 
--- the parts end within the slot
-pub parts-fit : (s : List ℕ) → Parts s → 8 + twoAt s 2 + twoAt s 4 + twoAt s 6 ≤ length s
-unfolding patternEnd replacementEnd commandsEnd
-parts-fit s h = let f = h .fits in let l = h .size in omega arith
+-- the parts end one behind the other, within the slot
+pub record Ordered (s : List ℕ) : Type 0 where
+  pub before : headerBytes ≤ beforeEnd s
+  pub pattern : patternEnd s ≡ beforeEnd s + twoAt s 4
+  pub replacement : replacementEnd s ≡ patternEnd s + twoAt s 6
+  pub commands : commandsEnd s ≡ replacementEnd s + twoAt s 8
+  pub last : commandsEnd s ≤ length s
+  pub size : length s ≡ slotBytes
+
+pub ordered : (s : List ℕ) → Parts s → Ordered s
+unfolding beforeEnd patternEnd replacementEnd commandsEnd
+ordered s h =
+    record { before = omega arith; pattern = refl; replacement = refl; commands = refl; last = omega (arith, h .fits, h .size); size = h .size }
 
 -- what the code takes for the parts of a slot
-module _ (s : List ℕ) {x : ℕ} (p : x ≡ twoAt s 2) where
-  pub pattern-here : take (8 + x - 8) (drop 8 s) ≡ part 8 (patternEnd s) s
-  unfolding part patternEnd
-  pattern-here = rw p
+module _ (s : List ℕ) where
+  pub part-here : {a e i j : ℕ} → a ≡ i → e ≡ j → take (e - a) (drop a s) ≡ part i j s
+  unfolding part
+  part-here p q = rw (p, q)
 
-  pub pattern-fits : Parts s → (length (take (8 + x - 8) (drop 8 s)) % 2 ≡ 0) × (length (take (8 + x - 8) (drop 8 s)) ≤ slotBytes)
-  pattern-fits h =
-      let e = h .even in
-      let f = parts-fit s h in
-      let d = length-drop 8 s in
-      let l : length (take (8 + x - 8) (drop 8 s)) ≡ 8 + x - 8 = length-take-le (8 + x - 8) (drop 8 s) (omega arith) in
-      omega arith
-
-  module _ {y : ℕ} (q : y ≡ twoAt s 4) where
-    pub replacement-here : take (8 + x + y - (8 + x)) (drop (8 + x) s) ≡ part (patternEnd s) (replacementEnd s) s
-    unfolding part patternEnd replacementEnd
+  module _ {a y : ℕ} (p : a ≡ patternEnd s) (q : y ≡ twoAt s 6) where
+    pub replacement-here : take (a + y - a) (drop a s) ≡ part (patternEnd s) (replacementEnd s) s
+    unfolding part replacementEnd
     replacement-here = rw (p, q)
 
-    pub commands-here : {z : ℕ} → z ≡ twoAt s 6 → take (8 + x + y + z - (8 + x + y)) (drop (8 + x + y) s) ≡ part (replacementEnd s) (commandsEnd s) s
-    unfolding part patternEnd replacementEnd commandsEnd
+    pub commands-here : {z : ℕ} → z ≡ twoAt s 8 → take (a + y + z - (a + y)) (drop (a + y) s) ≡ part (replacementEnd s) (commandsEnd s) s
+    unfolding part replacementEnd commandsEnd
     commands-here r = rw (p, q, r)
+
+  pub pattern-fits : {a e : ℕ} → a ≡ beforeEnd s → e ≡ patternEnd s → Parts s
+      → (length (take (e - a) (drop a s)) % 2 ≡ 0) × (length (take (e - a) (drop a s)) ≤ slotBytes)
+  pattern-fits {a} {e} p q h =
+      let o = ordered s h in
+      let l : length (take (e - a) (drop a s)) ≡ e - a =
+      length-take-le (e - a) (drop a s) (omega (arith, length-drop a s, o .pattern, o .replacement, o .commands, o .last)) in
+      omega (arith, l, h .even, o .pattern, o .replacement, o .commands, o .last, o .size)

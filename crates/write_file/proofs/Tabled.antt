@@ -13,14 +13,17 @@ use Rattle.macros.specs.Macro.Symbol.{equal, less}
 use Rattle.macros.specs.Write.{written}
 use Rattle.macros.specs.Accepted.{Spellable, Each}
 use Rattle.macros.proofs.Laws.{each-spellable}
-use Rattle.form_table.specs.Form.{symbolCode, header, slot, slots, slotBytes, form, tableBytes}
+use Rattle.form_table.specs.Form.{symbolCode, header, body, bodyBytes, slot, slots, slotBytes, form, tableBytes}
 use Rattle.write_file.specs.Slots.{slotText, Parts, Holds}
-use Rattle.write_file.proofs.Room.{body-room}
+use Rattle.form_table.proofs.Sizes.{bodySize}
 use Rattle.form_table.proofs.Actions.{slot-length}
 use Rattle.write_file.proofs.Slotted.{slot-text, slot-parts}
 
+body-room : (m : Macro) → Spellable m → length (body m) ≤ bodyBytes
+body-room m s = omega (arith, bodySize m, s .1)
+
 spelled-length : (m : Macro) → Spellable m → length (slot m) ≡ slotBytes
-spelled-length m s = slot-length m (body-room m (s .1))
+spelled-length m s = slot-length m (body-room m s)
 
 -- behind the first k slots
 slots-drop : (ms : Table) → Each Spellable ms → (k : ℕ) → k ≤ length ms → (z : List ℕ) → drop (slotBytes * k) (slots ms ++ z) ≡ slots (drop k ms) ++ z
@@ -116,7 +119,7 @@ module _ (t : List ℕ) (ms : Table) (h : Holds t ms) (k : ℕ) (l : k ≤ lengt
         more = omega arith;
         next = sym (drop-drop 1 k ms) ∙ ap (drop 1) q;
         text = sym (ap slotText s ∙ slot-text m (a .0 .0));
-        parts = subst Parts (sym s) (slot-parts m (body-room m (a .0 .1)));
+        parts = subst Parts (sym s) (slot-parts m (body-room m (a .0)));
       }
 
   -- an unused slot is behind the last macro

@@ -12,22 +12,25 @@ use Rattle.macros.specs.Write.{Written, written, writeFrom, writeOut}
 use Rattle.macros.specs.Write.Written.{refused, file}
 use Rattle.macros.specs.Accepted.{Accepted}
 use Rattle.form_table.specs.Check.{twoAt}
-use Rattle.form_table.specs.Form.{form, slotBytes}
+use Rattle.form_table.specs.Form.{form, headerBytes, slotBytes}
 use Rattle.write_file.specs.Items.{patternText, actionsText, Whole}
 use Rattle.write_file.specs.declared.WritingFault.{WritingFault}
 use Rattle.write_file.specs.declared.WritingFault.the-variants.{MacroTooLong, FileTooLong}
 use Rattle.write_file.specs.declared.Answer.{Answer}
 use Rattle.write_file.specs.declared.Answer.the-variants.{Written as WrittenOut, Refused}
 
--- where the pattern, the replacement and the commands end
+-- where the calls before the pattern, the pattern, the replacement and the commands end
+unfoldable pub beforeEnd : List ℕ → ℕ
+beforeEnd s = headerBytes + twoAt s 2
+
 unfoldable pub patternEnd : List ℕ → ℕ
-patternEnd s = 8 + twoAt s 2
+patternEnd s = beforeEnd s + twoAt s 4
 
 unfoldable pub replacementEnd : List ℕ → ℕ
-replacementEnd s = patternEnd s + twoAt s 4
+replacementEnd s = patternEnd s + twoAt s 6
 
 unfoldable pub commandsEnd : List ℕ → ℕ
-commandsEnd s = replacementEnd s + twoAt s 6
+commandsEnd s = replacementEnd s + twoAt s 8
 
 unfoldable pub symbolByte : ℕ → ℕ
 symbolByte c = pick (eqb c 1) 60 61
@@ -36,9 +39,13 @@ symbolByte c = pick (eqb c 1) 60 61
 unfoldable pub part : ℕ → ℕ → List ℕ → List ℕ
 part a e s = take (e - a) (drop a s)
 
+-- the calls before the pattern
+unfoldable pub beforeText : List ℕ → List ℕ
+beforeText s = actionsText 0 (part headerBytes (beforeEnd s) s)
+
 -- the pattern in quotes, and the symbol
 unfoldable pub leftText : List ℕ → List ℕ
-leftText s = 39 ∷ (patternText 0 (part 8 (patternEnd s) s) ++ (39 ∷ symbolByte (getD s 0 0) ∷ []))
+leftText s = 39 ∷ (patternText 0 (part (beforeEnd s) (patternEnd s) s) ++ (39 ∷ symbolByte (getD s 0 0) ∷ []))
 
 -- the replacement in quotes, the commands and `;`
 unfoldable pub rightText : List ℕ → List ℕ
@@ -46,15 +53,16 @@ rightText s =
     39 ∷ (actionsText 0 (part (patternEnd s) (replacementEnd s) s)
     ++ (39 ∷ (actionsText 0 (part (replacementEnd s) (commandsEnd s) s) ++ (59 ∷ []))))
 
--- the macro of a slot, from its first quote to its `;`
+-- the macro of a slot, from its first call or quote to its `;`
 unfoldable pub slotText : List ℕ → List ℕ
-slotText s = leftText s ++ rightText s
+slotText s = beforeText s ++ (leftText s ++ rightText s)
 
 -- the parts of a slot are whole
 pub record Parts (s : List ℕ) : Type 0 where
   pub size : length s ≡ slotBytes
   pub fits : commandsEnd s ≤ slotBytes
-  pub even : twoAt s 2 % 2 ≡ 0
+  pub even : twoAt s 4 % 2 ≡ 0
+  pub before : Whole (part headerBytes (beforeEnd s) s)
   pub replacement : Whole (part (patternEnd s) (replacementEnd s) s)
   pub commands : Whole (part (replacementEnd s) (commandsEnd s) s)
 

@@ -1,4 +1,4 @@
-// A replacement or the commands, from their items.
+// A replacement, the commands or the calls before a pattern, from their items.
 use crate::put::Short;
 use crate::put::decimal;
 use crate::put::in_list;
@@ -181,12 +181,12 @@ fn put_action(file: &mut [u8], n: usize, t: &[u8]) -> usize
     put_call(file, m, t)
 }
 
-// A quote and the actions of a replacement, or the commands.
+// The actions of a replacement, the commands, or the calls before a pattern.
 pub(crate) fn put_actions(file: &mut [u8], start: usize, items: &[u8]) -> usize
     requires { ⌜ (length (now file) ≤ 32768) × Whole (now items) ⌝ }
-    ensures { λ r. ⌜ Puts start (39 ∷ actionsText 0 (now (items .entry))) (now (file .entry)) (now (file .exit)) r ⌝ }
+    ensures { λ r. ⌜ Puts start (actionsText 0 (now (items .entry))) (now (file .entry)) (now (file .exit)) r ⌝ }
 {
-    let mut n = put(file, start, Short::One(b'\''));
+    let mut n = start;
     let mut at = 0;
     while at < items.len() {
         let t = &items[at..];
@@ -194,4 +194,13 @@ pub(crate) fn put_actions(file: &mut [u8], start: usize, items: &[u8]) -> usize
         at += action_size(t);
     }
     n
+}
+
+// A quote and the actions behind it.
+pub(crate) fn put_quoted(file: &mut [u8], start: usize, items: &[u8]) -> usize
+    requires { ⌜ (length (now file) ≤ 32768) × Whole (now items) ⌝ }
+    ensures { λ r. ⌜ Puts start (39 ∷ actionsText 0 (now (items .entry))) (now (file .entry)) (now (file .exit)) r ⌝ }
+{
+    let n = put(file, start, Short::One(b'\''));
+    put_actions(file, n, items)
 }

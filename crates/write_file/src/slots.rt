@@ -2,15 +2,22 @@
 use crate::Answer;
 use crate::WritingFault;
 use crate::actions::put_actions;
+use crate::actions::put_quoted;
 use crate::pattern::put_pattern;
 use crate::put::Short;
 use crate::put::put;
+use form_items::layout::BEFORE_AT;
+use form_items::layout::COMMANDS_AT;
+use form_items::layout::HEADER_BYTES;
+use form_items::layout::PATTERN_AT;
+use form_items::layout::REPLACEMENT_AT;
 use form_items::two_at;
 ghost use mathlib.Core.Path.{_≡_};
 ghost use Prim.Native.Nat.{_≤_};
 ghost use lib.ListN.{length};
 ghost use Rattle.write_file.specs.Puts.{Puts};
-ghost use Rattle.write_file.specs.Slots.{symbolByte, leftText, rightText, slotText, limitOf, faultOf, answerOf, Parts, Adds, Lists};
+ghost use Rattle.write_file.specs.Slots.{beforeEnd, patternEnd, symbolByte, beforeText, leftText, rightText, slotText};
+ghost use Rattle.write_file.specs.Slots.{limitOf, faultOf, answerOf, Parts, Adds, Lists};
 ghost use Rattle.write_file.specs.Contract.{SomeTable};
 
 fn symbol(code: u8) -> u8
@@ -22,14 +29,40 @@ fn symbol(code: u8) -> u8
     b'='
 }
 
+// Where the calls before the pattern end.
+fn before_end(slot: &[u8]) -> usize
+    requires { ⌜ Parts (now slot) ⌝ }
+    ensures { λ r. ⌜ r ≡ beforeEnd (now (slot .entry)) ⌝ }
+{
+    HEADER_BYTES + two_at(slot, BEFORE_AT)
+}
+
+// Where the pattern ends.
+fn pattern_end(slot: &[u8]) -> usize
+    requires { ⌜ Parts (now slot) ⌝ }
+    ensures { λ r. ⌜ r ≡ patternEnd (now (slot .entry)) ⌝ }
+{
+    before_end(slot) + two_at(slot, PATTERN_AT)
+}
+
+// The calls before the pattern.
+fn put_before(file: &mut [u8], n: usize, slot: &[u8]) -> usize
+    requires { ⌜ (length (now file) ≤ 32768) × Parts (now slot) ⌝ }
+    ensures { λ r. ⌜ Puts n (beforeText (now (slot .entry))) (now (file .entry)) (now (file .exit)) r ⌝ }
+{
+    let e = before_end(slot);
+    put_actions(file, n, &slot[HEADER_BYTES..e])
+}
+
 // The pattern in quotes, and the symbol.
 fn put_left(file: &mut [u8], n: usize, slot: &[u8]) -> usize
     requires { ⌜ (length (now file) ≤ 32768) × Parts (now slot) ⌝ }
     ensures { λ r. ⌜ Puts n (leftText (now (slot .entry))) (now (file .entry)) (now (file .exit)) r ⌝ }
 {
-    let e = 8 + two_at(slot, 2);
+    let a = before_end(slot);
+    let e = pattern_end(slot);
     let sign = symbol(slot[0]);
-    let m = put_pattern(file, n, &slot[8..e]);
+    let m = put_pattern(file, n, &slot[a..e]);
     put(file, m, Short::Two(b'\'', sign))
 }
 
@@ -38,21 +71,22 @@ fn put_right(file: &mut [u8], n: usize, slot: &[u8]) -> usize
     requires { ⌜ (length (now file) ≤ 32768) × Parts (now slot) ⌝ }
     ensures { λ r. ⌜ Puts n (rightText (now (slot .entry))) (now (file .entry)) (now (file .exit)) r ⌝ }
 {
-    let p = 8 + two_at(slot, 2);
-    let r = p + two_at(slot, 4);
-    let e = r + two_at(slot, 6);
-    let a = put_actions(file, n, &slot[p..r]);
-    let b = put_actions(file, a, &slot[r..e]);
+    let p = pattern_end(slot);
+    let r = p + two_at(slot, REPLACEMENT_AT);
+    let e = r + two_at(slot, COMMANDS_AT);
+    let a = put_quoted(file, n, &slot[p..r]);
+    let b = put_quoted(file, a, &slot[r..e]);
     put(file, b, Short::One(b';'))
 }
 
-// The macro of a slot, from its first quote to its `;`.
+// The macro of a slot, from its first call or quote to its `;`.
 fn put_macro(file: &mut [u8], n: usize, slot: &[u8]) -> usize
     requires { ⌜ (length (now file) ≤ 32768) × Parts (now slot) ⌝ }
     ensures { λ r. ⌜ Puts n (slotText (now (slot .entry))) (now (file .entry)) (now (file .exit)) r ⌝ }
 {
-    let m = put_left(file, n, slot);
-    put_right(file, m, slot)
+    let a = put_before(file, n, slot);
+    let b = put_left(file, a, slot);
+    put_right(file, b, slot)
 }
 
 // The limit of a macro that begins at `start`: its 513th byte or the file's 32,769th.

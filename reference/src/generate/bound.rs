@@ -31,12 +31,15 @@ pub fn bound_case(random: &mut Random) -> Case {
 /// A macro of about 512 bytes, its length in one of its parts.
 fn macro_bytes(random: &mut Random) -> Case {
     let fill = |text: &str, count: usize| text.repeat(count);
-    let file = match random.below(6) {
+    let file = match random.below(9) {
         0 => format!("'a'='{}';", fill("x", near(random, 505))),
         1 => format!("'{}'='';", fill("a", near(random, 506))),
         2 => format!("'a/{}/'='';", fill("'", near(random, 503))),
         3 => format!("'a'='b'{};", fill("\n", near(random, 504))),
         4 => format!("'a'='{}';", fill(":", near(random, 505))),
+        6 => format!("#(v=2){}'a'='#(v)';", fill("\n", near(random, 494))),
+        7 => format!("&/{}/(s=2)'a'='b';", fill("x", near(random, 496))),
+        8 => format!("{}'a'='b';", fill("&(s:x:)", 68 + random.below(5))),
         _ => format!("'[{}]'='b'", fill("c", near(random, 504))),
     };
     let before = *random.pick(&["", "; ", "'q'='';"]);
@@ -46,8 +49,13 @@ fn macro_bytes(random: &mut Random) -> Case {
 
 /// About 96 macros, and more of them by control lines.
 fn macros(random: &mut Random) -> Case {
-    let file = "'q'='';".repeat(near(random, 95));
-    let added = "$MACRO 'a'='b';".to_string();
+    let count = near(random, 95);
+    let file = match random.below(3) {
+        0 => format!("{}{}", "'q'='';".repeat(count), random.pick(&["& #", "#(v=1)", "&/x/(s"])),
+        1 => "#(v=1)'q'='';".repeat(count),
+        _ => "'q'='';".repeat(count),
+    };
+    let added = random.pick(&["$MACRO 'a'='b';", "$MACRO #(v=3)'a'='b';"]).to_string();
     let two = "$MACRO'a'='b';'c'='d';".to_string();
     let budget = near(random, 96) as u64;
     case(file, vec![(9, two), (9, added.clone()), (9, added), (budget, "x".to_string())])

@@ -1,6 +1,6 @@
 //! Macro files: good ones, damaged ones, and tokens in any order.
 
-use super::{any_macro, Random, HIGH, SPECIAL};
+use super::{any_table, Random, HIGH, SPECIAL};
 use crate::macros::{Action, Class, Item, Macro};
 use crate::spell::{shortest_spelling, Shortest};
 use crate::spelling::{spell_macro, Rule};
@@ -60,10 +60,9 @@ pub fn padded_spelling(random: &mut Random, spelled: &Macro) -> Vec<u8> {
 /// A file that reading takes, of `count` macros.
 pub fn good_file(random: &mut Random, odd: bool, count: usize) -> Vec<u8> {
     let mut file = Vec::new();
-    for _ in 0..count {
-        let made = any_macro(random, odd);
+    for made in any_table(random, odd, count) {
         if random.one_in(6) {
-            file.extend_from_slice(random.pick(&["\n", " x ", "/'/", ";", "&(a)"]).as_bytes());
+            file.extend_from_slice(random.pick(&["\n", " x ", "/'/", ";", "& (a)"]).as_bytes());
         }
         file.extend(match random.below(3) {
             0 => written_macro(&made),
@@ -108,7 +107,8 @@ const HIGH_TOKENS: &[&[u8]] = &[b"[\xe9]", b"[a-\xe9]", b"[\xc0-\xd6]", b"\xe9"]
 
 /// Tokens in any order, sometimes after the start of a good macro.
 pub fn shuffled_file(random: &mut Random) -> Vec<u8> {
-    let starts = ["", "", "'", "'a'='", "'{a}'='", "'a'=''", "'{a}'<'{1}'", "'['", "'a'='b';"];
+    let starts =
+        ["", "", "'", "'a'='", "'{a}'='", "'a'=''", "'{a}'<'{1}'", "'['", "'a'='b';", "#(a=5)"];
     let mut file = random.pick(&starts).as_bytes().to_vec();
     for _ in 0..1 + random.below(12) {
         if random.one_in(20) {

@@ -17,7 +17,44 @@ pub fn any_macro(random: &mut Random, odd: bool) -> Macro {
     let length = if random.one_in(3) { 1 + random.below(2) } else { 0 };
     let commands = (0..length).map(|_| any_command(random, odd, tags)).collect();
     let symbol = if random.one_in(2) { Symbol::Equals } else { Symbol::Less };
-    Macro { pattern, symbol, replacement, commands }
+    let length = if random.one_in(5) { 1 + random.below(2) } else { 0 };
+    let before = (0..length).map(|_| any_command(random, odd, 0)).collect();
+    Macro { before, pattern, symbol, replacement, commands }
+}
+
+/// So many macros, in one of 8 tables short ones that meet each other's calls.
+pub fn any_table(random: &mut Random, odd: bool, count: usize) -> Vec<Macro> {
+    let meeting = random.one_in(8);
+    let one = |random: &mut Random| match meeting {
+        true => meeting_macro(random),
+        false => any_macro(random, odd),
+    };
+    (0..count).map(|_| one(random)).collect()
+}
+
+/// A short macro about stack or counter `a`: what one sets before its pattern
+/// another has in its pattern, so that it matters when each is tried.
+fn meeting_macro(random: &mut Random) -> Macro {
+    let literal = |random: &mut Random| Unit::Literal(*random.pick(b"aab1"));
+    let called = if random.one_in(4) { Unit::Value(b'a') } else { Unit::Entry(b'a') };
+    let units = match random.below(4) {
+        0 => vec![literal(random)],
+        1 => vec![literal(random), called],
+        _ => vec![called],
+    };
+    let element = |unit| Item::Element(Element::Unit(unit, Closure::None));
+    let pattern = units.into_iter().map(element).collect();
+    let call = |random: &mut Random| match random.below(4) {
+        0 => Action::SetCounter(b'a', 1 + random.below(2) as u64),
+        _ => Action::StoreText(b'a', vec![*random.pick(b"ab1-")], None),
+    };
+    let length = if random.one_in(4) { 0 } else { 1 + random.below(2) };
+    let before = (0..length).map(|_| call(random)).collect();
+    let actions = [Action::Literal(b'b'), Action::Literal(b'-'), Action::Value(b'a', None)];
+    let length = random.below(3);
+    let replacement = (0..length).map(|_| random.pick(&actions).clone()).collect();
+    let symbol = if random.one_in(2) { Symbol::Equals } else { Symbol::Less };
+    Macro { before, pattern, symbol, replacement, commands: Vec::new() }
 }
 
 /// A pattern of 1 to 5 elements, with braces put between them.

@@ -9,7 +9,7 @@ mod words;
 pub use bound::bound_case;
 pub use files::{any_file, damaged_file, good_file, padded_spelling, shuffled_file};
 pub use lines::{any_budget, any_case, any_line};
-pub use macros::{any_macro, any_pattern};
+pub use macros::{any_macro, any_pattern, any_table};
 pub use words::any_look;
 
 /// A file, and lines to feed in turn, each with its budget.

@@ -9,6 +9,7 @@ use crate::refusal::{Refusal, CALL};
 /// Where a call that acts stands. A call in a pattern has a form of its own.
 #[derive(Clone, Copy, PartialEq, Eq)]
 pub enum Site {
+    Before,
     Replacement,
     Command,
 }
@@ -90,7 +91,7 @@ pub fn read_pattern_call(cursor: &mut Cursor, sign: u8) -> Read<Unit> {
     Ok(if sign == b'&' { Unit::Entry(letter) } else { Unit::Value(letter) })
 }
 
-/// A call in a replacement or a command; `sign` is its `&` or `#`.
+/// A call before a pattern, in a replacement or a command; `sign` is its `&` or `#`.
 pub fn read_call(cursor: &mut Cursor, sign: u8, site: Site, tags: usize) -> Read<Action> {
     if sign == b'&' {
         stack_call(cursor, site, tags)
@@ -101,7 +102,7 @@ pub fn read_call(cursor: &mut Cursor, sign: u8, site: Site, tags: usize) -> Read
 
 fn stack_call(cursor: &mut Cursor, site: Site, tags: usize) -> Read<Action> {
     let (place, byte) = call_byte(cursor)?;
-    if byte.is_ascii_digit() {
+    if byte.is_ascii_digit() && site != Site::Before {
         return store_tag(cursor, byte, tags);
     }
     if let Some(sign) = sign_of(byte) {
@@ -216,7 +217,7 @@ fn after_counter_letter(cursor: &mut Cursor, site: Site, letter: u8) -> Read<Act
         let (number, place) = number(cursor, Number::default(), b')')?;
         return Ok(numbered(letter, number.within(COUNTER_END, place)?));
     }
-    if site == Site::Command {
+    if site != Site::Replacement {
         return wrong(place);
     }
     if byte == b')' {

@@ -26,7 +26,7 @@ pub fn read_after(file: &[u8], before: usize) -> Read<Table> {
     let mut macros = Vec::new();
     while let Some(start) = next_macro(&mut cursor)? {
         if before + macros.len() == MACROS {
-            return Err(Refusal::at(TOO_MANY_MACROS, start));
+            return Err(Refusal::at(TOO_MANY_MACROS, start.place));
         }
         macros.push(bounded_macro(file, &mut cursor, start)?);
     }
@@ -44,12 +44,25 @@ fn whole_file(file: &[u8]) -> Read<()> {
     }
 }
 
-/// Takes the next macro's first quote. Before it only `'` and `/` count.
-fn next_macro(cursor: &mut Cursor) -> Read<Option<usize>> {
+/// What a macro begins with: its first quote, or the `&(` or `#(` of a call
+/// before its pattern. The place is that of the quote, the `&` or the `#`.
+struct Start {
+    place: usize,
+    byte: u8,
+}
+
+/// Takes the start of the next macro. Before it only `'`, `/`, `&(` and `#(`
+/// count.
+fn next_macro(cursor: &mut Cursor) -> Read<Option<Start>> {
     while cursor.peek()?.is_some() {
         let (place, byte) = cursor.take_raw()?;
-        if byte == b'\'' {
-            return Ok(Some(place));
+        let begins = match byte {
+            b'\'' => true,
+            b'&' | b'#' => cursor.take_if(b'(')?,
+            _ => false,
+        };
+        if begins {
+            return Ok(Some(Start { place, byte }));
         }
     }
     Ok(None)
@@ -57,9 +70,9 @@ fn next_macro(cursor: &mut Cursor) -> Read<Option<usize>> {
 
 /// Reads a macro and then looks at its 513th byte, if the file has one:
 /// 18 there, unless the macro ended or another fault showed by then.
-fn bounded_macro(file: &[u8], cursor: &mut Cursor, start: usize) -> Read<Macro> {
-    let too_long = start + MACRO_BYTES;
-    let answer = read_macro(cursor);
+fn bounded_macro(file: &[u8], cursor: &mut Cursor, start: Start) -> Read<Macro> {
+    let too_long = start.place + MACRO_BYTES;
+    let answer = read_macro(cursor, start.byte);
     let shown_by_then = match &answer {
         Ok(_) => cursor.place() <= too_long,
         Err(refusal) => refusal.place <= too_long,
@@ -70,15 +83,21 @@ fn bounded_macro(file: &[u8], cursor: &mut Cursor, start: usize) -> Read<Macro> 
     Err(Refusal::at(MACRO_TOO_LONG, too_long))
 }
 
-/// Reads a macro from after its first quote to after its `;`.
-fn read_macro(cursor: &mut Cursor) -> Read<Macro> {
+/// Reads a macro from after its start, which has this byte, to after its `;`.
+fn read_macro(cursor: &mut Cursor, start: u8) -> Read<Macro> {
+    let mut before = Vec::new();
+    if start != b'\'' {
+        before.push(call::read_call(cursor, start, Site::Before, 0)?);
+        read_calls(cursor, Site::Before, 0, &mut before)?;
+    }
     let pattern = pattern::read_pattern(cursor)?;
     let tags = tags(&pattern);
     let symbol = read_symbol(cursor)?;
     find_replacement(cursor)?;
     let replacement = replacement::read_replacement(cursor, tags)?;
-    let commands = read_commands(cursor, tags)?;
-    Ok(Macro { pattern, symbol, replacement, commands })
+    let mut commands = Vec::new();
+    read_calls(cursor, Site::Command, tags, &mut commands)?;
+    Ok(Macro { before, pattern, symbol, replacement, commands })
 }
 
 fn read_symbol(cursor: &mut Cursor) -> Read<Symbol> {
@@ -103,15 +122,16 @@ fn find_replacement(cursor: &mut Cursor) -> Read<()> {
     }
 }
 
-/// Reads the commands and the `;` that ends the macro.
-fn read_commands(cursor: &mut Cursor, tags: usize) -> Read<Vec<Action>> {
-    let mut commands = Vec::new();
+/// Reads calls up to and with what ends them: before a pattern its quote, of
+/// commands the `;`. The other of the two is 12.
+fn read_calls(cursor: &mut Cursor, site: Site, tags: usize, calls: &mut Vec<Action>) -> Read<()> {
+    let end = if site == Site::Before { b'\'' } else { b';' };
     loop {
         match cursor.take()? {
-            (_, b';') => return Ok(commands),
-            (place, b'\'') => return Err(Refusal::at(INCOMPLETE, place)),
+            (_, byte) if byte == end => return Ok(()),
+            (place, b'\'' | b';') => return Err(Refusal::at(INCOMPLETE, place)),
             (_, sign @ (b'&' | b'#')) if cursor.take_if(b'(')? => {
-                commands.push(call::read_call(cursor, sign, Site::Command, tags)?);
+                calls.push(call::read_call(cursor, sign, site, tags)?);
             }
             _ => {}
         }

@@ -5,7 +5,7 @@
 pub mod letters;
 
 use letters::is_kind;
-use m7_reference::macros::{Closure, Element, Item, Macro, Unit};
+use m7_reference::macros::{Action, Closure, Element, Item, Macro, Move, Sign, Unit};
 use m7_reference::matching::Division;
 use m7_reference::refusal::Refusal;
 use m7_reference::replace::{NewLine, Occurrence};
@@ -178,4 +178,33 @@ pub fn pass(by: &Macro, line: &[u8], state: &mut State) -> Result<(Vec<u8>, usiz
     }
     new.append(&line[from..])?;
     Ok((new.bytes, occurrences))
+}
+
+/// The calls before a pattern, each by what it does to the state's fields.
+pub fn run_before(by: &Macro, state: &mut State) -> Result<(), Refusal> {
+    for call in &by.before {
+        match call {
+            Action::SetPointer(i, n) => state.stacks[(i - b'a') as usize].pointer = *n,
+            Action::SetCounter(i, n) => state.counters[(i - b'a') as usize].value = *n,
+            Action::SetIncrement(i, n) => state.counters[(i - b'a') as usize].increment = *n,
+            Action::StoreText(i, text, step) => {
+                let stack = &mut state.stacks[(i - b'a') as usize];
+                let moved = |pointer: usize, sign: Sign| match (sign, pointer) {
+                    (Sign::Plus, 20) => Err(Refusal::plain(34)),
+                    (Sign::Plus, pointer) => Ok(pointer + 1),
+                    (Sign::Minus, 1) => Ok(1),
+                    (Sign::Minus, pointer) => Ok(pointer - 1),
+                };
+                if let Some(Move::Before(sign)) = step {
+                    stack.pointer = moved(stack.pointer, *sign)?;
+                }
+                stack.entries[stack.pointer - 1] = text.clone();
+                if let Some(Move::After(sign)) = step {
+                    stack.pointer = moved(stack.pointer, *sign)?;
+                }
+            }
+            other => panic!("{other:?} before a pattern"),
+        }
+    }
+    Ok(())
 }

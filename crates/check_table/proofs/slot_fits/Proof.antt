@@ -21,23 +21,29 @@ returns c = rw (sym (c .before .is-within .ensures) ∙ not-true _ (c .if1 .take
 two-at-requires : tie.Need-two-at-requires
 two-at-requires c κs = search needs
 
-add-replacement : tie.Need-add-replacement
-add-replacement c = omega arith
+add-pattern : tie.Need-add-pattern
+add-pattern c = omega arith
 
 two-at-requires-2 : tie.Need-two-at-requires-2
 two-at-requires-2 c κs = search needs
 
-add-commands : tie.Need-add-commands
-add-commands c = omega arith
+add-replacement : tie.Need-add-replacement
+add-replacement c = omega arith
 
 two-at-requires-3 : tie.Need-two-at-requires-3
 two-at-requires-3 c κs = search needs
+
+add-commands : tie.Need-add-commands
+add-commands c = omega arith
+
+two-at-requires-4 : tie.Need-two-at-requires-4
+two-at-requires-4 c κs = search needs
 
 add-end : tie.Need-add-end
 add-end c = omega arith
 
 returns-2 : tie.Need-returns-2
-returns-2 c = sym (slot-long _ _ _ _ (c .before .before .before .two-at .ensures .0) (c .before .before .two-at2 .ensures .0) (c .before .two-at3 .ensures .0) (sym (c .before .before .before .before .before .is-within .ensures) ∙ not-false _ (c .before .before .before .before .if1 .left)) (c .if2 .taken))
+returns-2 c = sym (slot-long _ _ _ _ _ (c .before .before .before .before .two-at .ensures .0) (c .before .before .before .two-at2 .ensures .0) (c .before .before .two-at3 .ensures .0) (c .before .two-at4 .ensures .0) (sym (c .before .before .before .before .before .before .is-within .ensures) ∙ not-false _ (c .before .before .before .before .before .if1 .left)) (c .if2 .taken))
 
 sub-all-zero : tie.Need-sub-all-zero
 sub-all-zero c = search needs
@@ -52,7 +58,7 @@ all-zero-requires : tie.Need-all-zero-requires
 all-zero-requires c κs = search needs
 
 returns-3 : tie.Need-returns-3
-returns-3 c = sym (slot-tail _ _ _ _ (c .before .before .before .before .before .before .two-at .ensures .0) (c .before .before .before .before .before .two-at2 .ensures .0) (c .before .before .before .before .two-at3 .ensures .0) (sym (c .before .before .before .before .before .before .before .before .is-within .ensures) ∙ not-false _ (c .before .before .before .before .before .before .before .if1 .left)) (c .before .before .before .if2 .left) (sym (c .before .all-zero .ensures) ∙ not-true _ (c .if3 .taken)))
+returns-3 c = sym (slot-tail _ _ _ _ _ (c .before .before .before .before .before .before .before .two-at .ensures .0) (c .before .before .before .before .before .before .two-at2 .ensures .0) (c .before .before .before .before .before .two-at3 .ensures .0) (c .before .before .before .before .two-at4 .ensures .0) (sym (c .before .before .before .before .before .before .before .before .before .is-within .ensures) ∙ not-false _ (c .before .before .before .before .before .before .before .before .if1 .left)) (c .before .before .before .if2 .left) (sym (c .before .all-zero .ensures) ∙ not-true _ (c .if3 .taken)))
 
 shared-slice-read-items-fit : tie.Need-shared-slice-read-items-fit
 shared-slice-read-items-fit c = search needs
@@ -84,11 +90,20 @@ part-items-fit-start-3 c = search needs
 part-items-fit-end-3 : tie.Need-part-items-fit-end-3
 part-items-fit-end-3 c = search needs
 
+sub-items-fit-4 : tie.Need-sub-items-fit-4
+sub-items-fit-4 c = search needs
+
+part-items-fit-start-4 : tie.Need-part-items-fit-start-4
+part-items-fit-start-4 c = search needs
+
+part-items-fit-end-4 : tie.Need-part-items-fit-end-4
+part-items-fit-end-4 c = search needs
+
 items-fit-requires : tie.Need-items-fit-requires
 items-fit-requires c κs = search needs
 
 returns-4 : tie.Need-returns-4
-returns-4 c = c .items-fit .ensures ∙ slot-items _ _ _ _ (c .before .before .before .before .before .before .before .before .before .before .before .two-at .ensures .0) (c .before .before .before .before .before .before .before .before .before .before .two-at2 .ensures .0) (c .before .before .before .before .before .before .before .before .before .two-at3 .ensures .0) (sym (c .before .before .before .before .before .before .before .before .before .before .before .before .before .is-within .ensures) ∙ not-false _ (c .before .before .before .before .before .before .before .before .before .before .before .before .if1 .left)) (c .before .before .before .before .before .before .before .before .if2 .left) (sym (c .before .before .before .before .before .before .all-zero .ensures) ∙ not-false _ (c .before .before .before .before .before .if3 .left))
+returns-4 c = c .items-fit .ensures ∙ slot-items _ _ _ _ _ (c .before .before .before .before .before .before .before .before .before .before .before .before .before .two-at .ensures .0) (c .before .before .before .before .before .before .before .before .before .before .before .before .two-at2 .ensures .0) (c .before .before .before .before .before .before .before .before .before .before .before .two-at3 .ensures .0) (c .before .before .before .before .before .before .before .before .before .before .two-at4 .ensures .0) (sym (c .before .before .before .before .before .before .before .before .before .before .before .before .before .before .before .is-within .ensures) ∙ not-false _ (c .before .before .before .before .before .before .before .before .before .before .before .before .before .before .if1 .left)) (c .before .before .before .before .before .before .before .before .before .if2 .left) (sym (c .before .before .before .before .before .before .before .all-zero .ensures) ∙ not-false _ (c .before .before .before .before .before .before .if3 .left))
 
 pub slot-fits-spec : {M : Type 1} → statement M
 slot-fits-spec =
@@ -98,10 +113,12 @@ slot-fits-spec =
     is-within-requires
     returns
     two-at-requires
-    add-replacement
+    add-pattern
     two-at-requires-2
-    add-commands
+    add-replacement
     two-at-requires-3
+    add-commands
+    two-at-requires-4
     add-end
     returns-2
     sub-all-zero
@@ -119,5 +136,8 @@ slot-fits-spec =
     sub-items-fit-3
     part-items-fit-start-3
     part-items-fit-end-3
+    sub-items-fit-4
+    part-items-fit-start-4
+    part-items-fit-end-4
     items-fit-requires
     returns-4)

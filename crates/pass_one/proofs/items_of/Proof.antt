@@ -1,11 +1,21 @@
 use native.Mathlib.Omega.{arith}
-use Rattle.pass_one.proofs.SlotLaws.{slot-long, items-few, items-are, items-length}
 use borrow.Author.Needs.{needs}
+use Rattle.pass_replace.proofs.Parts.{slot-long, parts-short}
+use Rattle.pass_one.proofs.SlotLaws.{items-are, items-few}
 use Rattle.pass_one.proofs.items_of.Statement.{statement}
 use Rattle.pass_one.proofs.items_of.Tie as tie
 
-pattern-end-requires : tie.Need-pattern-end-requires
-pattern-end-requires c κs = omega (arith, slot-long _ (c .before .pre .0) (c .before .pre .1))
+two-at-requires : tie.Need-two-at-requires
+two-at-requires c κs = omega (arith, slot-long _ (c .before .pre .0) (c .before .pre .1))
+
+add-pattern : tie.Need-add-pattern
+add-pattern c = search needs
+
+two-at-requires-2 : tie.Need-two-at-requires-2
+two-at-requires-2 c κs = omega (arith, slot-long _ (c .before .before .pre .0) (c .before .before .pre .1))
+
+add-replacement : tie.Need-add-replacement
+add-replacement c = search needs
 
 sub-result : tie.Need-sub-result
 sub-result c = search needs
@@ -14,11 +24,26 @@ part-result-start : tie.Need-part-result-start
 part-result-start c = search needs
 
 part-result-end : tie.Need-part-result-end
-part-result-end c = let a = c .before .before .pre in omega (arith, slot-long _ (a .0) (a .1), items-few _ (a .0) (a .1), c .pattern-end .ensures)
+part-result-end c =
+    let a = c .before .before .before .pre in
+    omega (arith, slot-long _ (a .0) (a .1), parts-short _ (a .0) (a .1), c .before .two-at .ensures .0, c .two-at2 .ensures .0)
 
 returns : tie.Need-returns
-returns c = let a = c .before .before .before .pre in let e = c .before .pattern-end .ensures in record { pattern = λ m i. items-are _ m i _ e; fits = omega (arith, items-length _ (a .0) (a .1) _ e, items-few _ (a .0) (a .1), e) }
+returns c =
+    let a = c .before .before .before .before .pre in
+    let p = c .before .before .two-at .ensures .0 in
+    let q = c .before .two-at2 .ensures .0 in
+    record { pattern = λ m i. items-are _ m i p q; fits = items-few _ (a .0) (a .1) p q }
 
 pub items-of-spec : {M : Type 1} → statement M
 items-of-spec =
-    tie.close (tie.spec pattern-end-requires sub-result part-result-start part-result-end returns)
+    tie.close
+    (tie.spec
+    two-at-requires
+    add-pattern
+    two-at-requires-2
+    add-replacement
+    sub-result
+    part-result-start
+    part-result-end
+    returns)

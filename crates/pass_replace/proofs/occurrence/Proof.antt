@@ -22,6 +22,12 @@ two-at-requires-3 c κs = omega (arith, slot-size (c .before .before .before .be
 add-commands : tie.Need-add-commands
 add-commands c = search needs
 
+two-at-requires-4 : tie.Need-two-at-requires-4
+two-at-requires-4 c κs = omega (arith, slot-size (c .before .before .before .before .before .before .before .before .pre))
+
+add-end : tie.Need-add-end
+add-end c = search needs
+
 sub-act : tie.Need-sub-act
 sub-act c = search needs
 
@@ -29,7 +35,9 @@ part-act-start : tie.Need-part-act-start
 part-act-start c = search needs
 
 part-act-end : tie.Need-part-act-end
-part-act-end c = let pre = c .before .before .before .before .before .before .before .before .pre in omega (arith, parts-fit pre, slot-size pre)
+part-act-end c =
+    let pre = c .before .before .before .before .before .before .before .before .before .pre in
+    omega (arith, parts-fit pre, slot-size pre, c .before .before .before .two-at .ensures .0, c .before .before .two-at2 .ensures .0)
 
 sub-act-2 : tie.Need-sub-act-2
 sub-act-2 c = search needs
@@ -38,14 +46,16 @@ part-act-start-2 : tie.Need-part-act-start-2
 part-act-start-2 c = search needs
 
 part-act-end-2 : tie.Need-part-act-end-2
-part-act-end-2 c = let pre = c .before .before .before .before .before .before .before .before .before .pre in omega (arith, parts-fit pre, slot-size pre)
+part-act-end-2 c =
+    let pre = c .before .before .before .before .before .before .before .before .before .before .pre in
+    omega (arith, parts-fit pre, slot-size pre, c .before .before .before .before .two-at .ensures .0, c .before .before .before .two-at2 .ensures .0, c .before .before .two-at3 .ensures .0, c .before .two-at4 .ensures .0)
 
 act-requires : tie.Need-act-requires
 act-requires c κs =
-    let third = c .before .before .before .before in
-    let pre = third .before .before .before .before .before .before .before .before .pre in
-    let p = third .before .before .two-at .ensures .0 in
-    (is-divided pre p, are-fit pre p (third .before .two-at2 .ensures .0) (third .two-at3 .ensures .0), pre .state, record { room = pre .room; fits = pre .sized })
+    let pre = c .before .before .before .before .before .before .before .before .before .before .before .before .before .pre in
+    let p = c .before .before .before .before .before .before .before .two-at .ensures .0 in
+    let q = c .before .before .before .before .before .before .two-at2 .ensures .0 in
+    (is-divided pre p q, are-fit pre p q (c .before .before .before .before .before .two-at3 .ensures .0) (c .before .before .before .before .two-at4 .ensures .0), pre .state, record { room = pre .room; fits = pre .sized })
 
 same-length : tie.Need-same-length
 same-length c = search needs
@@ -55,9 +65,7 @@ same-length-2 c = search needs
 
 returns : tie.Need-returns
 returns c =
-    let called = c .before .before .before .before in
-    let third = called .before .before .before .before .before in
-    occurs (third .before .before .before .before .before .before .before .before .pre) (third .before .before .two-at .ensures .0) (third .before .two-at2 .ensures .0) (third .two-at3 .ensures .0) (called .act .ensures)
+    occurs (c .before .before .before .before .before .before .before .before .before .before .before .before .before .before .before .before .before .before .pre) (c .before .before .before .before .before .before .before .before .before .before .before .before .two-at .ensures .0) (c .before .before .before .before .before .before .before .before .before .before .before .two-at2 .ensures .0) (c .before .before .before .before .before .before .before .before .before .before .two-at3 .ensures .0) (c .before .before .before .before .before .before .before .before .before .two-at4 .ensures .0) (c .before .before .before .before .act .ensures)
 
 pub occurrence-spec : {M : Type 1} → statement M
 occurrence-spec =
@@ -69,6 +77,8 @@ occurrence-spec =
     add-replacement
     two-at-requires-3
     add-commands
+    two-at-requires-4
+    add-end
     sub-act
     part-act-start
     part-act-end

@@ -4,17 +4,17 @@ use borrow.Author.Needs.{needs}
 use Rattle.line_passes.proofs.slots.close.Statement.{statement}
 use Rattle.line_passes.proofs.slots.close.Tie as tie
 
-slice-write-closed : tie.Need-slice-write-closed
-slice-write-closed c = search needs
+slice-write-flags : tie.Need-slice-write-flags
+slice-write-flags c = search needs
 
 same-length : tie.Need-same-length
 same-length c = search needs
 
 returns : tie.Need-returns
-returns c = closes-one (now (c .before .args .closed)) (c .before .args .symbol) (c .before .args .k) (c .if1 .taken)
+returns c = closes-one (now (c .before .args .flags)) (c .before .args .symbol) (c .before .args .k) (c .if1 .taken)
 
 returns-2 : tie.Need-returns-2
-returns-2 c = leaves (now (c .before .args .closed)) (c .before .args .symbol) (c .before .args .k) (c .if1 .left)
+returns-2 c = leaves (now (c .before .args .flags)) (c .before .args .symbol) (c .before .args .k) (c .if1 .left)
 
 pub close-spec : {M : Type 1} → statement M
-close-spec = tie.close (tie.spec slice-write-closed same-length returns returns-2)
+close-spec = tie.close (tie.spec slice-write-flags same-length returns returns-2)

@@ -9,7 +9,7 @@ use Rattle.pass_replace.proofs.tags.close_of.Statement.{statement}
 use Rattle.pass_replace.proofs.tags.close_of.Tie as tie
 
 abbrev Inv-loop : tie.InvT-loop
-Inv-loop pat ends first n₀ i₀ n i = (i ≤ 1016) × (n ≤ i) × (closeIn 0 (drop first pat) (drop first ends) ≡ closeIn n (drop i pat) (drop i ends))
+Inv-loop pat ends first n₀ i₀ n i = (i ≤ 1014) × (n ≤ i) × (closeIn 0 (drop first pat) (drop first ends) ≡ closeIn n (drop i pat) (drop i ends))
 
 abbrev μ-loop : tie.MeasureT-loop
 μ-loop pat ends first n₀ i₀ n i = length pat - i

@@ -10,7 +10,7 @@ use Rattle.pass_replace.proofs.tags.tag_of.Statement.{statement}
 use Rattle.pass_replace.proofs.tags.tag_of.Tie as tie
 
 abbrev Inv-loop : tie.InvT-loop
-Inv-loop pat ends n left₀ i₀ left i = (i ≤ 1016) × ((t : List ℕ) → tagIn t (n - 1) pat ends ≡ tagIn t (left - 1) (drop i pat) (drop i ends))
+Inv-loop pat ends n left₀ i₀ left i = (i ≤ 1014) × ((t : List ℕ) → tagIn t (n - 1) pat ends ≡ tagIn t (left - 1) (drop i pat) (drop i ends))
 
 abbrev μ-loop : tie.MeasureT-loop
 μ-loop pat ends n left₀ i₀ left i = length pat - i

@@ -1,5 +1,5 @@
 use Rattle.read_scan.proofs.Laws.{reached-behind}
-use Rattle.read_call.specs.Call.{markOf, signsIn}
+use Rattle.read_call.specs.Call.{siteIs, markOf, signsIn}
 use Rattle.read_call.proofs.Naming.{code-most}
 use Rattle.read_call.proofs.Marks.{signed-at, letter-at, names-of, mark-noname, mark-wrong, mark-top, mark-set, mark-text, mark-insert}
 use native.Mathlib.Omega.{arith}
@@ -33,7 +33,7 @@ returns c =
     let pre = c .before .before .before .before .before .before .before .pre in
     let enum-told = c .before .enum-told in
     let name-end = c .name-end in
-    let z = signed-at (now (args .s)) (args .a) (args .at) (args .b) (signs-in .ensures) (name .result) (name .ensures) in mark-noname (now (args .s)) (args .a) (args .at) (now (args .out)) (now (args .out)) (args .n) (args .cmd) (markOf (args .counter)) (signsIn (args .counter) (args .cmd)) (names-of (args .counter) (args .cmd) (args .b) (pre .2)) z (enum-told .given .1) (name-end .ensures)
+    let z = signed-at (now (args .s)) (args .a) (args .at) (args .b) (signs-in .ensures) (name .result) (name .ensures) in mark-noname (now (args .s)) (args .a) (args .at) (now (args .out)) (now (args .out)) (args .n) (siteIs (args .site)) (markOf (args .counter)) (signsIn (args .counter) (siteIs (args .site))) (names-of (args .counter) (siteIs (args .site)) (args .b) (pre .2)) z (enum-told .given .1) (name-end .ensures)
 
 tail-requires : tie.Need-tail-requires
 tail-requires c κs =
@@ -41,7 +41,7 @@ tail-requires c κs =
     let signs-in = c .before .before .before .before .signs-in in
     let name = c .before .before .before .name in
     let named = c .before .named in
-    let z = signed-at (now (args .s)) (args .a) (args .at) (args .b) (signs-in .ensures) (name .result) (name .ensures) in let t = letter-at (now (args .s)) (args .a) (args .at) (args .b) (signsIn (args .counter) (args .cmd)) z (named .given .1) in omega (arith, t .code, code-most (t .move))
+    let z = signed-at (now (args .s)) (args .a) (args .at) (args .b) (signs-in .ensures) (name .result) (name .ensures) in let t = letter-at (now (args .s)) (args .a) (args .at) (args .b) (signsIn (args .counter) (siteIs (args .site))) z (named .given .1) in omega (arith, t .code, code-most (t .move))
 
 enum-told-2 : tie.Need-enum-told-2
 enum-told-2 c = c .match2 .keys1
@@ -52,7 +52,7 @@ add-text-call c =
     let signs-in = c .before .before .before .before .before .before .before .before .signs-in in
     let name = c .before .before .before .before .before .before .before .name in
     let named = c .before .before .before .before .before .named in
-    let z = signed-at (now (args .s)) (args .a) (args .at) (args .b) (signs-in .ensures) (name .result) (name .ensures) in let t = letter-at (now (args .s)) (args .a) (args .at) (args .b) (signsIn (args .counter) (args .cmd)) z (named .given .1) in let x = t .here .stands in omega (arith, x .there, (c .before .before .before .before .before .before .before .before .before .before .before))
+    let z = signed-at (now (args .s)) (args .a) (args .at) (args .b) (signs-in .ensures) (name .result) (name .ensures) in let t = letter-at (now (args .s)) (args .a) (args .at) (args .b) (signsIn (args .counter) (siteIs (args .site))) z (named .given .1) in let x = t .here .stands in omega (arith, x .there, (c .before .before .before .before .before .before .before .before .before .before .before))
 
 text-call-requires : tie.Need-text-call-requires
 text-call-requires c κs =
@@ -61,7 +61,7 @@ text-call-requires c κs =
     let name = c .before .before .before .before .before .before .before .name in
     let named = c .before .before .before .before .before .named in
     let pre = c .before .before .before .before .before .before .before .before .before .before .before .pre in
-    let z = signed-at (now (args .s)) (args .a) (args .at) (args .b) (signs-in .ensures) (name .result) (name .ensures) in let t = letter-at (now (args .s)) (args .a) (args .at) (args .b) (signsIn (args .counter) (args .cmd)) z (named .given .1) in let x = t .here .stands in (reached-behind x, omega (arith, t .further, x .counted, pre .3), omega (arith, t .code, code-most (t .move)))
+    let z = signed-at (now (args .s)) (args .a) (args .at) (args .b) (signs-in .ensures) (name .result) (name .ensures) in let t = letter-at (now (args .s)) (args .a) (args .at) (args .b) (signsIn (args .counter) (siteIs (args .site))) z (named .given .1) in let x = t .here .stands in (reached-behind x, omega (arith, t .further, x .counted, pre .3), omega (arith, t .code, code-most (t .move)))
 
 enum-known-asked : tie.Need-enum-known-asked
 enum-known-asked c = c .match2 .keys2
@@ -72,7 +72,7 @@ add-set-call c =
     let signs-in = c .before .before .before .before .before .before .before .before .before .signs-in in
     let name = c .before .before .before .before .before .before .before .before .name in
     let named = c .before .before .before .before .before .before .named in
-    let z = signed-at (now (args .s)) (args .a) (args .at) (args .b) (signs-in .ensures) (name .result) (name .ensures) in let t = letter-at (now (args .s)) (args .a) (args .at) (args .b) (signsIn (args .counter) (args .cmd)) z (named .given .1) in let x = t .here .stands in omega (arith, x .there, (c .before .before .before .before .before .before .before .before .before .before .before .before))
+    let z = signed-at (now (args .s)) (args .a) (args .at) (args .b) (signs-in .ensures) (name .result) (name .ensures) in let t = letter-at (now (args .s)) (args .a) (args .at) (args .b) (signsIn (args .counter) (siteIs (args .site))) z (named .given .1) in let x = t .here .stands in omega (arith, x .there, (c .before .before .before .before .before .before .before .before .before .before .before .before))
 
 set-call-requires : tie.Need-set-call-requires
 set-call-requires c κs =
@@ -83,7 +83,7 @@ set-call-requires c κs =
     let pre = c .before .before .before .before .before .before .before .before .before .before .before .before .pre in
     let tail = c .before .before .before .before .tail in
     let asked = c .before .before .asked in
-    let z = signed-at (now (args .s)) (args .a) (args .at) (args .b) (signs-in .ensures) (name .result) (name .ensures) in let t = letter-at (now (args .s)) (args .a) (args .at) (args .b) (signsIn (args .counter) (args .cmd)) z (named .given .1) in let x = t .here .stands in (reached-behind x, omega (arith, t .further, x .counted, pre .3), mark-top (now (args .s)) (args .a) (args .at) (now (args .out)) (now (args .out)) (args .n) (args .cmd) (markOf (args .counter)) (signsIn (args .counter) (args .cmd)) (names-of (args .counter) (args .cmd) (args .b) (pre .2)) t (tail .ensures) (asked .given .1))
+    let z = signed-at (now (args .s)) (args .a) (args .at) (args .b) (signs-in .ensures) (name .result) (name .ensures) in let t = letter-at (now (args .s)) (args .a) (args .at) (args .b) (signsIn (args .counter) (siteIs (args .site))) z (named .given .1) in let x = t .here .stands in (reached-behind x, omega (arith, t .further, x .counted, pre .3), mark-top (now (args .s)) (args .a) (args .at) (now (args .out)) (now (args .out)) (args .n) (siteIs (args .site)) (markOf (args .counter)) (signsIn (args .counter) (siteIs (args .site))) (names-of (args .counter) (siteIs (args .site)) (args .b) (pre .2)) t (tail .ensures) (asked .given .1))
 
 enum-known-asked-2 : tie.Need-enum-known-asked-2
 enum-known-asked-2 c = c .match2 .keys3
@@ -95,7 +95,7 @@ put-item-requires c κs =
     let name = c .before .before .before .before .before .before .before .before .name in
     let named = c .before .before .before .before .before .before .named in
     let pre = c .before .before .before .before .before .before .before .before .before .before .before .before .pre in
-    let z = signed-at (now (args .s)) (args .a) (args .at) (args .b) (signs-in .ensures) (name .result) (name .ensures) in let t = letter-at (now (args .s)) (args .a) (args .at) (args .b) (signsIn (args .counter) (args .cmd)) z (named .given .1) in let x = t .here .stands in omega (arith, t .further, x .counted, pre .3)
+    let z = signed-at (now (args .s)) (args .a) (args .at) (args .b) (signs-in .ensures) (name .result) (name .ensures) in let t = letter-at (now (args .s)) (args .a) (args .at) (args .b) (signsIn (args .counter) (siteIs (args .site))) z (named .given .1) in let x = t .here .stands in omega (arith, t .further, x .counted, pre .3)
 
 add-t29 : tie.Need-add-t29
 add-t29 c =
@@ -103,7 +103,7 @@ add-t29 c =
     let signs-in = c .before .before .before .before .before .before .before .before .before .before .before .before .signs-in in
     let name = c .before .before .before .before .before .before .before .before .before .before .before .name in
     let named = c .before .before .before .before .before .before .before .before .before .named in
-    let z = signed-at (now (args .s)) (args .a) (args .at) (args .b) (signs-in .ensures) (name .result) (name .ensures) in let t = letter-at (now (args .s)) (args .a) (args .at) (args .b) (signsIn (args .counter) (args .cmd)) z (named .given .1) in let x = t .here .stands in omega (arith, x .there, (c .before .before .before .before .before .before .before .before .before .before .before .before .before .before .before))
+    let z = signed-at (now (args .s)) (args .a) (args .at) (args .b) (signs-in .ensures) (name .result) (name .ensures) in let t = letter-at (now (args .s)) (args .a) (args .at) (args .b) (signsIn (args .counter) (siteIs (args .site))) z (named .given .1) in let x = t .here .stands in omega (arith, x .there, (c .before .before .before .before .before .before .before .before .before .before .before .before .before .before .before))
 
 add-t30 : tie.Need-add-t30
 add-t30 c =
@@ -112,7 +112,7 @@ add-t30 c =
     let name = c .before .before .before .before .before .before .before .before .before .before .before .name in
     let named = c .before .before .before .before .before .before .before .before .before .named in
     let pre = c .before .before .before .before .before .before .before .before .before .before .before .before .before .before .before .pre in
-    let z = signed-at (now (args .s)) (args .a) (args .at) (args .b) (signs-in .ensures) (name .result) (name .ensures) in let t = letter-at (now (args .s)) (args .a) (args .at) (args .b) (signsIn (args .counter) (args .cmd)) z (named .given .1) in let x = t .here .stands in omega (arith, t .further, x .counted, pre .3, (c .before .before .before .before .before .before .before .before .before .before .before .before .before .before .before))
+    let z = signed-at (now (args .s)) (args .a) (args .at) (args .b) (signs-in .ensures) (name .result) (name .ensures) in let t = letter-at (now (args .s)) (args .a) (args .at) (args .b) (signsIn (args .counter) (siteIs (args .site))) z (named .given .1) in let x = t .here .stands in omega (arith, t .further, x .counted, pre .3, (c .before .before .before .before .before .before .before .before .before .before .before .before .before .before .before))
 
 enum-told-3 : tie.Need-enum-told-3
 enum-told-3 c = c .match2 .keys4
@@ -133,7 +133,7 @@ returns-2 c =
     let pre = c .before .before .before .before .before .before .before .before .before .before .before .before .before .before .pre in
     let tail = c .before .before .before .before .before .before .tail in
     let enum-told2 = c .before .before .before .before .enum-told2 in
-    let z = signed-at (now (args .s)) (args .a) (args .at) (args .b) (signs-in .ensures) (name .result) (name .ensures) in let t = letter-at (now (args .s)) (args .a) (args .at) (args .b) (signsIn (args .counter) (args .cmd)) z (named .given .1) in mark-text (now (args .s)) (args .a) (args .at) (now (args .out)) (text-call .last .1 .0) (args .n) (args .cmd) (markOf (args .counter)) (signsIn (args .counter) (args .cmd)) (names-of (args .counter) (args .cmd) (args .b) (pre .2)) t (tail .ensures) (enum-told2 .given .1) (text-call .result) (text-call .ensures)
+    let z = signed-at (now (args .s)) (args .a) (args .at) (args .b) (signs-in .ensures) (name .result) (name .ensures) in let t = letter-at (now (args .s)) (args .a) (args .at) (args .b) (signsIn (args .counter) (siteIs (args .site))) z (named .given .1) in mark-text (now (args .s)) (args .a) (args .at) (now (args .out)) (text-call .last .1 .0) (args .n) (siteIs (args .site)) (markOf (args .counter)) (signsIn (args .counter) (siteIs (args .site))) (names-of (args .counter) (siteIs (args .site)) (args .b) (pre .2)) t (tail .ensures) (enum-told2 .given .1) (text-call .result) (text-call .ensures)
 
 same-length-2 : tie.Need-same-length-2
 same-length-2 c = search needs
@@ -148,7 +148,7 @@ returns-3 c =
     let pre = c .before .before .before .before .before .before .before .before .before .before .before .before .before .before .before .pre in
     let tail = c .before .before .before .before .before .before .before .tail in
     let asked = c .before .before .before .before .before .asked in
-    let z = signed-at (now (args .s)) (args .a) (args .at) (args .b) (signs-in .ensures) (name .result) (name .ensures) in let t = letter-at (now (args .s)) (args .a) (args .at) (args .b) (signsIn (args .counter) (args .cmd)) z (named .given .1) in mark-set (now (args .s)) (args .a) (args .at) (now (args .out)) (set-call .last .1 .0) (args .n) (args .cmd) (markOf (args .counter)) (signsIn (args .counter) (args .cmd)) (names-of (args .counter) (args .cmd) (args .b) (pre .2)) t (tail .ensures) (asked .given .1) (set-call .result) (set-call .ensures)
+    let z = signed-at (now (args .s)) (args .a) (args .at) (args .b) (signs-in .ensures) (name .result) (name .ensures) in let t = letter-at (now (args .s)) (args .a) (args .at) (args .b) (signsIn (args .counter) (siteIs (args .site))) z (named .given .1) in mark-set (now (args .s)) (args .a) (args .at) (now (args .out)) (set-call .last .1 .0) (args .n) (siteIs (args .site)) (markOf (args .counter)) (signsIn (args .counter) (siteIs (args .site))) (names-of (args .counter) (siteIs (args .site)) (args .b) (pre .2)) t (tail .ensures) (asked .given .1) (set-call .result) (set-call .ensures)
 
 same-length-3 : tie.Need-same-length-3
 same-length-3 c = search needs
@@ -163,7 +163,7 @@ returns-4 c =
     let pre = c .before .before .before .before .before .before .before .before .before .before .before .before .before .before .before .pre in
     let tail = c .before .before .before .before .before .before .before .tail in
     let asked2 = c .before .before .before .before .before .asked2 in
-    let z = signed-at (now (args .s)) (args .a) (args .at) (args .b) (signs-in .ensures) (name .result) (name .ensures) in let t = letter-at (now (args .s)) (args .a) (args .at) (args .b) (signsIn (args .counter) (args .cmd)) z (named .given .1) in mark-insert (now (args .s)) (args .a) (args .at) (now (args .out)) (put-item .last .0) (args .n) (args .cmd) (markOf (args .counter)) (signsIn (args .counter) (args .cmd)) (names-of (args .counter) (args .cmd) (args .b) (pre .2)) t (tail .ensures) (asked2 .given .1) (put-item .ensures)
+    let z = signed-at (now (args .s)) (args .a) (args .at) (args .b) (signs-in .ensures) (name .result) (name .ensures) in let t = letter-at (now (args .s)) (args .a) (args .at) (args .b) (signsIn (args .counter) (siteIs (args .site))) z (named .given .1) in mark-insert (now (args .s)) (args .a) (args .at) (now (args .out)) (put-item .last .0) (args .n) (siteIs (args .site)) (markOf (args .counter)) (signsIn (args .counter) (siteIs (args .site))) (names-of (args .counter) (siteIs (args .site)) (args .b) (pre .2)) t (tail .ensures) (asked2 .given .1) (put-item .ensures)
 
 returns-5 : tie.Need-returns-5
 returns-5 c =
@@ -175,7 +175,7 @@ returns-5 c =
     let tail = c .before .before .before .tail in
     let enum-told3 = c .before .enum-told3 in
     let wrong-byte = c .wrong-byte in
-    let z = signed-at (now (args .s)) (args .a) (args .at) (args .b) (signs-in .ensures) (name .result) (name .ensures) in let t = letter-at (now (args .s)) (args .a) (args .at) (args .b) (signsIn (args .counter) (args .cmd)) z (named .given .1) in mark-wrong (now (args .s)) (args .a) (args .at) (now (args .out)) (now (args .out)) (args .n) (args .cmd) (markOf (args .counter)) (signsIn (args .counter) (args .cmd)) (names-of (args .counter) (args .cmd) (args .b) (pre .2)) t (tail .ensures) (enum-told3 .given .1) (wrong-byte .result) (wrong-byte .ensures)
+    let z = signed-at (now (args .s)) (args .a) (args .at) (args .b) (signs-in .ensures) (name .result) (name .ensures) in let t = letter-at (now (args .s)) (args .a) (args .at) (args .b) (signsIn (args .counter) (siteIs (args .site))) z (named .given .1) in mark-wrong (now (args .s)) (args .a) (args .at) (now (args .out)) (now (args .out)) (args .n) (siteIs (args .site)) (markOf (args .counter)) (signsIn (args .counter) (siteIs (args .site))) (names-of (args .counter) (siteIs (args .site)) (args .b) (pre .2)) t (tail .ensures) (enum-told3 .given .1) (wrong-byte .result) (wrong-byte .ensures)
 
 pub named-call-spec : {M : Type 1} → statement M
 named-call-spec =

@@ -10,6 +10,9 @@ add-used c = search needs
 add-used-2 : tie.Need-add-used-2
 add-used-2 c = search needs
 
+add-used-3 : tie.Need-add-used-3
+add-used-3 c = search needs
+
 put-head-requires : tie.Need-put-head-requires
 put-head-requires c κs = search needs
 
@@ -39,8 +42,8 @@ same-length c = search needs
 
 returns : tie.Need-returns
 returns c =
-    let args = c .before .before .before .before .before .before .before .before .before .before .before .before .before .before .before .before .args in
-    let pre = c .before .before .before .before .before .before .before .before .before .before .before .before .before .before .before .before .pre in
+    let args = c .before .before .before .before .before .before .before .before .before .before .before .before .before .before .before .before .before .args in
+    let pre = c .before .before .before .before .before .before .before .before .before .before .before .before .before .before .before .before .before .pre in
     let put-head = c .before .before .before .before .before .before .before .before .before .before .put-head in
     let copy-in = c .before .before .before .before .before .before .copy-in in
     let clear = c .before .before .clear in
@@ -52,6 +55,7 @@ store-spec =
     (tie.spec
     add-used
     add-used-2
+    add-used-3
     put-head-requires
     add-copy-in
     copy-in-requires

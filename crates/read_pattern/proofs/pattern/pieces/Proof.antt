@@ -16,9 +16,6 @@ unquoted (Closed q g) k = tt
 unquoted (Quote q g) k = ⊎-elim (λ e. omega arith) (λ e. omega arith) k
 unquoted (NoInside f q) k = tt
 
-add-inside : tie.Need-add-inside
-add-inside c = omega arith
-
 inside-requires : tie.Need-inside-requires
 inside-requires c κs = search needs
 
@@ -47,10 +44,10 @@ same-length-2 c = search needs
 returns-2 : tie.Need-returns-2
 returns-2 c = whole-late (c .before .before .before .before .before .before .before .inside .ensures) (c .before .before .before .read .given .1) (c .before .if1 .taken) (c .if2 .taken)
 
-add-t12 : tie.Need-add-t12
-add-t12 c =
+add-t13 : tie.Need-add-t13
+add-t13 c =
     let d = at-its-quote (c .before .before .before .before .before .before .before .inside .ensures) (c .before .before .before .read .given .1) in
-    omega (arith, d .here .stands .there, (c .before .before .before .before .before .before .before .before .before .before .before))
+    omega (arith, d .here .stands .there, (c .before .before .before .before .before .before .before .before .before .before))
 
 same-length-3 : tie.Need-same-length-3
 same-length-3 c = search needs
@@ -68,7 +65,6 @@ pub pieces-spec : {M : Type 1} → statement M
 pieces-spec =
     tie.close
     (tie.spec
-    add-inside
     inside-requires
     enum-known-read
     whole-fault-requires
@@ -77,7 +73,7 @@ pieces-spec =
     sub-if2
     same-length-2
     returns-2
-    add-t12
+    add-t13
     same-length-3
     returns-3
     same-length-4

@@ -19,7 +19,7 @@ returns c =
     record {
       exact = stays-late (now (args .s)) (args .a) (args .at) (omega arith) (omega arith) (c .if1 .taken);
       found = omega arith;
-      answer = λ st ms. run-late (now (args .s)) (args .a) ms false (args .at) st (c .if1 .taken);
+      answer = λ st pr. run-late (now (args .s)) (args .a) pr false (args .at) st (c .if1 .taken);
     }
 
 returns-2 : tie.Need-returns-2
@@ -28,7 +28,7 @@ returns-2 c =
     record {
       exact = stays-end (now (args .s)) (args .a) (args .at) (c .if2 .taken) (omega arith) (omega arith);
       found = omega arith;
-      answer = λ st ms. run-end (now (args .s)) (args .a) ms false (args .at) st (c .if2 .taken) (omega arith);
+      answer = λ st pr. run-end (now (args .s)) (args .a) pr false (args .at) st (c .if2 .taken) (omega arith);
     }
 
 shared-slice-read-t10 : tie.Need-shared-slice-read-t10

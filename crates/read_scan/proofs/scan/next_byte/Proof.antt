@@ -7,8 +7,7 @@ use Prim.Native.Nat.{_≤_, _-_}
 use native.Mathlib.Omega.{arith}
 use lib.ListN.{length, getD}
 use denote.Ref.{now}
-use Rattle.macros.specs.Macro.{Macro}
-use Rattle.macros.specs.Read.{Part, skips}
+use Rattle.macros.specs.Read.{Part, Prior, skips}
 use Rattle.read_scan.specs.Scan.{run, Reached, At}
 use Rattle.read_scan.specs.Bytes.{seen}
 use Rattle.read_scan.proofs.Bytes.{seenIn, seen-start, seen-slash, seen-within, next-late, next-end, next-here}
@@ -17,13 +16,13 @@ use Rattle.read_scan.proofs.scan.next_byte.Statement.{statement}
 use Rattle.read_scan.proofs.scan.next_byte.Tie as tie
 
 abbrev Inv-loop : tie.InvT-loop
-Inv-loop s a first at₀ skip₀ at skip = (first ≤ at) × Reached s a at × ((st : Part) (ms : List Macro) → skips st ≡ true → run s a ms false first st ≡ run s a ms skip at st) × (seen s a first ≡ seenIn skip s a at)
+Inv-loop s a first at₀ skip₀ at skip = (first ≤ at) × Reached s a at × ((st : Part) (pr : Prior) → skips st ≡ true → run s a pr false first st ≡ run s a pr skip at st) × (seen s a first ≡ seenIn skip s a at)
 
 abbrev μ-loop : tie.MeasureT-loop
 μ-loop s a first at₀ skip₀ at skip = length s - at
 
 loop-holds : tie.Need-loop-holds Inv-loop μ-loop
-loop-holds c = (omega arith, (omega arith, omega arith, omega arith), λ st ms f. refl, seen-start _ _ _)
+loop-holds c = (omega arith, (omega arith, omega arith, omega arith), λ st pr f. refl, seen-start _ _ _)
 
 sub-if1 : tie.Need-sub-if1 Inv-loop μ-loop
 sub-if1 c = search needs
@@ -38,7 +37,7 @@ returns c =
     record {
       exact = next-late (now (args .s)) (args .a) (args .first) (loop .at) (loop .skip) (loop .inv .3) (loop .inv .1) (c .if1 .taken);
       found = omega arith;
-      answer = λ st ms f. loop .inv .2 st ms f ∙ run-late (now (args .s)) (args .a) ms (loop .skip) (loop .at) st (c .if1 .taken);
+      answer = λ st pr f. loop .inv .2 st pr f ∙ run-late (now (args .s)) (args .a) pr (loop .skip) (loop .at) st (c .if1 .taken);
     }
 
 shared-slice-read-b : tie.Need-shared-slice-read-b Inv-loop μ-loop
@@ -55,7 +54,7 @@ loop-again c =
     let args = c .before .before .before .before .before .args in
     let loop = c .before .before .before .before .loop in
     let p : At (now (args .s)) (args .a) (loop .at) (getD (now (args .s)) (loop .at) 0) = record { behind = omega arith; there = c .before .before .before .loop-test .taken; counted = omega arith; byte = refl } in
-    (omega arith, (omega arith, omega arith, omega arith), λ st ms f. loop .inv .2 st ms f ∙ at-slash p ms (loop .skip) st f (c .if2 .taken), loop .inv .3 ∙ seen-slash p (loop .skip) (c .if2 .taken))
+    (omega arith, (omega arith, omega arith, omega arith), λ st pr f. loop .inv .2 st pr f ∙ at-slash p pr (loop .skip) st f (c .if2 .taken), loop .inv .3 ∙ seen-slash p (loop .skip) (c .if2 .taken))
 
 returns-2 : tie.Need-returns-2 Inv-loop μ-loop
 returns-2 c =
@@ -67,7 +66,7 @@ returns-2 c =
     record {
       exact = next-here (args .first) g p (c .before .if2 .left);
       found = (omega arith, record { stands = p; plain = c .before .if2 .left });
-      answer = λ st ms f. rw k at (loop .inv .2 st ms f);
+      answer = λ st pr f. rw k at (loop .inv .2 st pr f);
     }
 
 add-at-2 : tie.Need-add-at-2 Inv-loop μ-loop
@@ -82,7 +81,7 @@ loop-again-2 c =
     let loop = c .before .before .before .before .before .loop in
     let p : At (now (args .s)) (args .a) (loop .at) (getD (now (args .s)) (loop .at) 0) = record { behind = omega arith; there = c .before .before .before .before .loop-test .taken; counted = omega arith; byte = refl } in
     let k : loop .skip ≡ true = not-false _ (c .if3 .left) in
-    (omega arith, (omega arith, omega arith, omega arith), λ st ms f. loop .inv .2 st ms f ∙ rw k (at-within p ms st (c .before .if2 .left)), loop .inv .3 ∙ rw k (seen-within p (c .before .if2 .left)))
+    (omega arith, (omega arith, omega arith, omega arith), λ st pr f. loop .inv .2 st pr f ∙ rw k (at-within p pr st (c .before .if2 .left)), loop .inv .3 ∙ rw k (seen-within p (c .before .if2 .left)))
 
 sub-if4 : tie.Need-sub-if4 Inv-loop μ-loop
 sub-if4 c = search needs
@@ -97,7 +96,7 @@ returns-3 c =
     record {
       exact = next-late (now (args .s)) (args .a) (args .first) (loop .at) (loop .skip) (loop .inv .3) (loop .inv .1) (c .if4 .taken);
       found = omega arith;
-      answer = λ st ms f. loop .inv .2 st ms f ∙ run-late (now (args .s)) (args .a) ms (loop .skip) (loop .at) st (c .if4 .taken);
+      answer = λ st pr f. loop .inv .2 st pr f ∙ run-late (now (args .s)) (args .a) pr (loop .skip) (loop .at) st (c .if4 .taken);
     }
 
 returns-4 : tie.Need-returns-4 Inv-loop μ-loop
@@ -107,7 +106,7 @@ returns-4 c =
     record {
       exact = next-end (now (args .s)) (args .a) (args .first) (loop .at) (loop .skip) (loop .inv .3) (loop .inv .1) (c .before .loop-test .left) (c .if4 .left);
       found = omega arith;
-      answer = λ st ms f. loop .inv .2 st ms f ∙ run-end (now (args .s)) (args .a) ms (loop .skip) (loop .at) st (c .before .loop-test .left) (c .if4 .left);
+      answer = λ st pr f. loop .inv .2 st pr f ∙ run-end (now (args .s)) (args .a) pr (loop .skip) (loop .at) st (c .before .loop-test .left) (c .if4 .left);
     }
 
 pub next-byte-spec : {M : Type 1} → statement M

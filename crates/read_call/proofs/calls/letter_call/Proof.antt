@@ -1,10 +1,10 @@
-use mathlib.Core.Bool.{true≢false}
-use Rattle.read_call.proofs.Marks.{counter-none, counter-byte, counter-begun}
+use Rattle.read_call.specs.Call.{siteIs, markOf}
+use Rattle.read_call.proofs.Marks.{letter-none, letter-byte, letter-begun, starts-any}
 use native.Mathlib.Omega.{arith}
 use denote.Ref.{now}
 use borrow.Author.Needs.{needs}
-use Rattle.read_call.proofs.calls.counter_call.Statement.{statement}
-use Rattle.read_call.proofs.calls.counter_call.Tie as tie
+use Rattle.read_call.proofs.calls.letter_call.Statement.{statement}
+use Rattle.read_call.proofs.calls.letter_call.Tie as tie
 
 call-byte-requires : tie.Need-call-byte-requires
 call-byte-requires c κs = search needs
@@ -24,7 +24,7 @@ returns c =
     let call-byte = c .before .before .before .call-byte in
     let enum-told = c .before .enum-told in
     let next-end = c .next-end in
-    counter-none (now (args .s)) (args .a) (args .at) (now (args .out)) (now (args .out)) (args .n) (args .cmd) (call-byte .ensures) (enum-told .given .1) (next-end .ensures)
+    letter-none (now (args .s)) (args .a) (args .at) (now (args .out)) (now (args .out)) (args .n) (markOf (args .counter)) (siteIs (args .site)) (call-byte .ensures) (enum-told .given .1) (next-end .ensures)
 
 named-call-requires : tie.Need-named-call-requires
 named-call-requires c κs =
@@ -32,7 +32,7 @@ named-call-requires c κs =
     let call-byte = c .before .before .before .before .call-byte in
     let next = c .before .before .next in
     let pre = c .before .before .before .before .before .before .before .pre in
-    let f = counter-byte (now (args .s)) (args .a) (args .at) (now (args .out)) (now (args .out)) (args .n) (args .cmd) (call-byte .ensures) (next .given .1) .found in (f .1, f .2, λ e. absurd (true≢false e), omega (arith, f .0, pre .1))
+    let f = letter-byte (now (args .s)) (args .a) (args .at) (now (args .out)) (now (args .out)) (args .n) (markOf (args .counter)) (siteIs (args .site)) (call-byte .ensures) (next .given .1) .found in (f .1, f .2, starts-any (args .counter) (siteIs (args .site)) _ (pre .2), omega (arith, f .0, pre .1))
 
 same-length : tie.Need-same-length
 same-length c = search needs
@@ -43,10 +43,10 @@ returns-2 c =
     let named-call = c .before .before .named-call in
     let call-byte = c .before .before .before .before .before .before .before .call-byte in
     let next = c .before .before .before .before .before .next in
-    counter-begun (now (args .s)) (args .a) (args .at) (now (args .out)) (named-call .last .1 .0) (args .n) (args .cmd) (call-byte .ensures) (next .given .1) (named-call .result) (named-call .ensures)
+    letter-begun (now (args .s)) (args .a) (args .at) (now (args .out)) (named-call .last .1 .0) (args .n) (markOf (args .counter)) (siteIs (args .site)) (call-byte .ensures) (next .given .1) (named-call .result) (named-call .ensures)
 
-pub counter-call-spec : {M : Type 1} → statement M
-counter-call-spec =
+pub letter-call-spec : {M : Type 1} → statement M
+letter-call-spec =
     tie.close
     (tie.spec
     call-byte-requires
