@@ -1,5 +1,6 @@
 -- THE LINES OF A RUN (01, part 8), up to the calls of read and write: each is read, fed with what the one before left, and answered, in order.
--- It rules out, among others, lines that are counted from 0 (run_files would show it) and the edit other_budget (1,000 passes).
+-- It rules out, among others, lines that are counted from 0 (run_files would show it), the edit other_budget (1,000 passes) and the edit
+-- first_line_only (lines behind the first are left out: `ended` of LinesDone).
 use Prim.Native.Nat.{ℕ, _+_, _<_}
 use mathlib.Core.Path.{_≡_}
 use mathlib.Core.Bool.{true, false}
