@@ -1,5 +1,5 @@
 -- The moments of a pass (01, part 5), as the code has them.
--- What they are of a pass of the definitions is said by `Onward` and `Goes` (`pass_one: Places`).
+-- That they are those of a pass of the definitions: `PassStarts`, `PassCopies`, `PassReplaces`, `PassGoesOn` (`pass_one: PassMoments`).
 use Prim.Native.Nat.{ℕ, _+_, _≤_, _<_}
 use mathlib.Core.Path.{_≡_}
 use mathlib.Core.Bool.{Bool, true, false}
@@ -46,14 +46,14 @@ answerOf (RefusedBy f) had n = Refused f n
 abbrev pub passedOf : Moment → Passed
 passedOf a = answerOf (a .refusal) (a .occurred) (a .size)
 
--- part 5: "Moment a place without a match the byte is copied"; at the line's length there is none; 32: "the new line's 1,055th byte"
+-- part 5: "At a place without a match the byte is copied"; at the line's length there is none; 32: "the new line's 1,055th byte"
 pub record Copies (t out out′ : List ℕ) (a r : Moment) : Type 0 where
   pub none : length t ≤ a .place → (r ≡ movedTo a (a .size)) × (out′ ≡ out)
   pub full : a .place < length t → mostLineBytes ≤ a .size → (r ≡ refusedAt NewLineTooLong (a .size)) × (out′ ≡ out)
   pub copied : a .place < length t → a .size < mostLineBytes
       → (r ≡ movedTo a (a .size + 1)) × (out′ ≡ set out (a .size) (getD t (a .place) 0))
 
--- part 5: behind the tried place p. "Moment a place without a match the byte is copied", and "an empty match also copies the byte there ..
+-- part 5: behind the tried place p. "At a place without a match the byte is copied", and "an empty match also copies the byte there ..
 -- and goes on after that byte": there the pass still stands at p. Behind a longer match, and after a refusal, nothing is copied
 pub record StepsOver (t out out′ : List ℕ) (p : ℕ) (a r : Moment) : Type 0 where
   pub further : p < a .place → (r ≡ a) × (out′ ≡ out)

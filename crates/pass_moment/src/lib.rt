@@ -86,7 +86,7 @@ fn moved(at: Moment, n: usize) -> Moment
     }
 }
 
-// "the byte is copied"; 32: "the new line's 1,055th byte". Moment the line's length there is no byte.
+// "the byte is copied"; 32: "the new line's 1,055th byte". At the line's length there is no byte.
 fn copy_byte(line: &[u8], at: Moment, out: &mut [u8]) -> Moment
     requires { ⌜ (at .place ≤ mostLineBytes) × (length (now out) ≡ mostLineBytes) ⌝ }
     ensures { λ r. ⌜ Copies (now (line .entry)) (now (out .entry)) (now (out .exit)) at r ⌝ }

@@ -2,14 +2,14 @@
 use Prim.Native.Nat.{ℕ, _*_, _≤_, _<_}
 use mathlib.Core.Path.{_≡_, refl, sym, ap, _∙_, subst}
 use mathlib.Core.Bool.{Bool, true, false}
-use mathlib.Core.List.{List, [], _++_}
+use mathlib.Core.List.{List, _++_}
 use native.Mathlib.Omega.{arith}
 use lib.ListN.{length, getD, drop, replicate, length-replicate}
 use Rattle.macros.specs.Bounds.{mostLineBytes}
 use Rattle.macros.specs.Macro.{Macro}
 use Rattle.form_table.specs.Form.{bodyBytes}
 use Rattle.lines.specs.State.{State}
-use Rattle.lines.specs.Replacing.{Work, onto}
+use Rattle.lines.specs.Replacing.{Work, startIn, onto}
 use Rattle.lines.specs.Pass.{pass}
 use Rattle.lines.specs.Line.{textOf}
 use Rattle.form_state.specs.Access.{Holds}
@@ -18,17 +18,18 @@ use Rattle.pass_replace.proofs.Preparing.{zeros}
 use Rattle.pass_moment.specs.declared.Passed.{Passed}
 use Rattle.pass_one.specs.declared.Found.the-variants.{NoMatch}
 use Rattle.pass_moment.specs.declared.Moment.{Moment}
-use Rattle.pass_one.specs.Contract.{marksBytes, Lent, Passes, SaysOccurred, sizeOf}
+use Rattle.pass_one.specs.Contract.{marksBytes, Lent, Passes, sizeOf}
 use Rattle.pass_moment.specs.declared.Refusal.{Refusal}
 use Rattle.pass_moment.specs.declared.Refusal.the-variants.{NotRefused, RefusedBy}
 use Rattle.pass_marks.specs.Marks.{cleared}
 use Rattle.pass_marks.proofs.MarkLaws.{zero-again}
 use Rattle.pass_one.specs.Marks.{Sound}
-use Rattle.pass_one.specs.Finding.{lastOf, Differs}
+use Rattle.pass_one.specs.Finding.{Differs}
 use Rattle.pass_one.specs.Seen.{Seen}
 use Rattle.pass_moment.specs.Moments.{startAt, answerOf, passedOf}
-use Rattle.pass_one.specs.Places.{from, ItemsOf, AtPlace, Onward, Goes, GoesBy}
+use Rattle.pass_one.specs.Places.{ItemsOf, AtPlace, Onward, Goes, GoesBy}
 use Rattle.pass_one.proofs.MarkLaws.{sound-zero}
+use Rattle.pass_one.proofs.MomentLaws.{pass-starts, pass-goes-on}
 use Rattle.pass_one.proofs.PlaceLaws.{drop-on, finds-none, goes-free}
 
 -- THE MARKS, at the start and at the end, AND THE ENDS at the start
@@ -64,9 +65,8 @@ pub record Going (s items t b₀ b out₀ out marks₀ marks seen₀ seen ends :
   pub reached : (m : Macro) → IsSlot s m → (st : State) → Holds b₀ st → Reached t b out a m st
 
 start-reached : (t b out : List ℕ) (m : Macro) (st : State) → Holds b st → Reached t b out startAt m st
-unfolding pass lastOf textOf onto
-start-reached t b out m st h =
-    record { work = record { out = []; size = 0; state = st }; moment = record { line = refl; size = refl; state = h }; onward = record { on = λ l. (refl, refl); over = λ l. absurd (omega arith) } }
+unfolding textOf onto
+start-reached t b out m st h = record { work = startIn st; moment = record { line = refl; size = refl; state = h }; onward = pass-starts m t st }
 
 -- the bytes of the new line
 size-is : (f : Refusal) (had : Bool) (n : ℕ) → sizeOf (answerOf f had n) ≡ n
@@ -123,17 +123,8 @@ module _ (s items kinds t b out marks seen : List ℕ) (y : Lent s kinds t b out
         came : (m : Macro) → IsSlot s m → (st : State) → Holds b st → Reached t b″ out″ r m st
         came m i st x =
             let u = g .reached m i st x in
-            let o = u .onward .on le in
             let z = h .comes m i (u .work) (u .moment) in
-            record {
-              work = z .0;
-              moment = z .1;
-              onward =
-                  record {
-                    on = λ l. (o .0 ∙ z .2 .on l .0, o .1 ∙ z .2 .on l .1);
-                    over = λ l. (o .0 ∙ z .2 .over l .0, subst (SaysOccurred (passedOf r)) (sym (o .1)) (z .2 .over l .1));
-                  };
-            }
+            record { work = z .0; moment = z .1; onward = pass-goes-on m t (pass m t st) false a r (u .work) (z .0) (u .onward) le (z .2) }
 
         pub went-on : length b″ ≡ length b′ → length out″ ≡ length out′ → length marks″ ≡ length marks′ → length seen″ ≡ length seen′ → length ends′ ≡ length ends → Going s items t b b″ out out″ marks marks″ seen seen″ ends′ r
         went-on lb lo lm ls le′ =

@@ -9,6 +9,7 @@ pub mod FindLaws
 pub mod PairLaws
 pub mod CallLaws
 pub mod GrowLaws
+pub mod MomentLaws
 pub mod PlaceLaws
 pub mod GoingLaws
 pub mod SlotLaws

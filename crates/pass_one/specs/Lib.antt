@@ -6,3 +6,4 @@ pub mod Pieces
 pub mod Trying
 pub mod Seen
 pub mod Places
+pub mod PassMoments

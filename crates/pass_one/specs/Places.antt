@@ -66,10 +66,13 @@ pub record Onward (m : Macro) (t : List ℕ) (x : Walk) (had : Bool) (a : Moment
       × (had || occurred x ≡ a .occurred || occurred (from m t (a .last) (a .place) w))
   pub over : length t < a .place → (outcome x ≡ doneOf (passedOf a) w) × SaysOccurred (passedOf a) (had || occurred x)
 
+-- the pass that was at the moment a, in which w holds, goes on at the moment r, which the memories hold
+abbrev pub MovesTo : Macro → (t b out : List ℕ) → Moment → Work → Moment → Type 0
+MovesTo m t b out a w r = (v : Work) × IsMoment out b (r .size) v × Onward m t (from m t (a .last) (a .place) w) (a .occurred) r v
+
 -- from the moment a, at whose place the macro is tried, the pass goes on at the moment r
 pub record Goes (s items t b b′ out out′ marks marks′ seen ends : List ℕ) (a r : Moment) : Type 0 where
-  pub comes : (m : Macro) → IsSlot s m → (w : Work) → IsMoment out b (a .size) w
-      → (v : Work) × IsMoment out′ b′ (r .size) v × Onward m t (from m t (a .last) (a .place) w) (a .occurred) r v
+  pub comes : (m : Macro) → IsSlot s m → (w : Work) → IsMoment out b (a .size) w → MovesTo m t b′ out′ a w r
   pub past : drop (r .size) out′ ≡ drop (r .size) out
   pub size : r .size ≤ mostLineBytes
   pub grows : a .size ≤ r .size
