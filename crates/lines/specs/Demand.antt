@@ -10,7 +10,7 @@
 -- 02, N2: when the calls before a pattern run            | PassHolds, begins (PassBegins)
 -- "passed over exactly when no place has one"            | PassHolds, passedOver
 -- "at the leftmost place still ahead that has one"       | Stands, ahead to leftmost; what is ahead: aheadAfter
--- "with the tags of that division"                       | Stands, tags (Tags)
+-- "with the tags of that division"                       | Replaces, acts, by stepsOf (Steps); which they are: Stands, tags (Tags)
 -- "every other one there has fewer repeats at the first  | Stands, most (Fewer of Matching; FewerMeans of Choice says it in full)
 --    closure where they differ"                          |
 -- "Each replacement"                                     | Replaces, acts (Steps)
@@ -99,7 +99,8 @@ pub record Stands (m : Macro) (t : List ℕ) (now : Ahead) (p : ℕ) (d : Divisi
   pub leftmost : NoneAhead now p st m t
   -- "with .. that division against which every other one there has fewer repeats at the first closure where they differ" [fewest_repeats]
   pub most : (x : Division) → Divides st t (m .pattern) p x → (x ≡ d) ⊎ Fewer x d
-  -- "with the tags of that division" [late_tag, inner_brace_ends]
+  -- "with the tags of that division" [late_tag, inner_brace_ends]: which they are. Every division has them so (TagsRun of Tags), and this
+  -- clause chooses none: it binds tagText, by which the steps of Replaces and Fails take their texts from this division [no_tags]
   pub tags : TagsOf (m .pattern) t p d
 
 -- "Each replacement": its steps, with the tags of the division, make the moment after (Steps)
