@@ -43,6 +43,7 @@ pub enum Closure {
     ZeroOrMore,
 }
 
+// A unit with its closure.
 pub struct Element {
     pub unit: Unit,
     pub closure: Closure,

@@ -16,7 +16,7 @@ use Rattle.lines.specs.Feeding.{withTrace, withNflag}
 use Rattle.form_state.specs.Form.{pointersForm, valuesForm, incrementsForm, entryForm, entriesForm, stacksForm, stateForm}
 use Rattle.form_state.specs.Check.{stateChecks}
 use Rattle.form_state.specs.Access.{Holds, IsState, replaced, textLength}
-use Rattle.form_state.proofs.Steps.{number-block}
+use Rattle.form_bytes.proofs.Reading.{number-block}
 use Rattle.form_state.proofs.Replaced.{replaced-left, replaced-right, replaced-whole, set-replaced}
 use Rattle.form_state.proofs.Each.{each, each-part, each-set, each-kept, part-in, all-any, all-map, all-at, all-set}
 use Rattle.form_state.proofs.Parts as parts
@@ -213,7 +213,7 @@ module _ (b : List ℕ) (st : State) (h : Holds b st) where
         ap (λ (x : List ℕ). take 1000 (drop (1000 * (i - 97)) x)) (parts.stacks-each (st .stacks))
         ∙ each-part parts.stackForm 1000 (st .stacks) (i - 97) freshStack (all-map parts.stack-wide (st .stacks) (h .inRange .stacks)) (omega (arith, h .inRange .stackCount))
 
-    read-entry : (a : ℕ) → a ≡ 236 + (1000 * (i - 97) + 50 * (stackOf st i .pointer - 1)) → take 50 (drop a b) ≡ entryForm (currentEntry st i)
+    pub read-entry : (a : ℕ) → a ≡ 236 + (1000 * (i - 97) + 50 * (stackOf st i .pointer - 1)) → take 50 (drop a b) ≡ entryForm (currentEntry st i)
     unfolding currentEntry
     read-entry a e =
         let q : ℕ = stackOf st i .pointer - 1 in

@@ -5,3 +5,4 @@ pub mod Each
 pub mod Parts
 pub mod Decode
 pub mod Held
+pub mod AccessLaws

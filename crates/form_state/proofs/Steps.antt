@@ -3,15 +3,16 @@ use Prim.Native.Nat.{ℕ, zero, suc, _+_, _-_, _*_, _≤_, _<_}
 use mathlib.Core.Path.{_≡_, refl, sym, ap, _∙_}
 use mathlib.Core.Bool.{Bool, true, false, not, _&&_, _||_}
 use mathlib.Core.List.{List, [], _∷_}
-use native.Mathlib.Nat.{add-zero, zero-add, mul-suc}
+use native.Mathlib.Nat.{zero-add, mul-suc}
 use native.Mathlib.Numerals.{add-one}
 use native.Mathlib.Omega.{arith}
 use lib.Dec.{leb, eqb}
 use lib.ListN.{length, getD, take, drop, length-drop, drop-of-length-le}
-use lib.Seq.{drop-cons, drop-drop, drop-length, take-all, getD-take, getD-drop}
+use lib.Seq.{drop-cons, drop-drop, drop-length, take-all}
 use Rattle.macros.specs.Macro.{within}
 use borrow.Author.Tests.{eq-eqb, ne-eqb}
 use Rattle.form_bytes.specs.Fours.{numberAt}
+use Rattle.form_bytes.proofs.Reading.{number-block}
 use Rattle.form_state.specs.Check.{pointersCheck, numberCheck, entryCheck, blocksCheck, stateChecks}
 use Rattle.form_state.specs.Access.{textLength}
 
@@ -61,12 +62,6 @@ module _ (f : List ℕ → Bool) (w n : ℕ) (l : List ℕ) where
   blocks-end i ok h e =
       let none : 0 ≡ n - i = omega arith in
       sym (and-true ok) ∙ ap (λ (k : ℕ). ok && blocksCheck f w k (drop (w * i) l)) none ∙ e
-
-pub number-block : (l : List ℕ) (at : ℕ) → numberAt (take 4 (drop at l)) 0 ≡ numberAt l at
-number-block l at =
-    let one : (k : ℕ) → k < 4 → getD (take 4 (drop at l)) k 0 ≡ getD l (at + k) 0 = λ k h. getD-take 4 (drop at l) k 0 h ∙ getD-drop at l k 0 in
-    let first : getD (take 4 (drop at l)) 0 0 ≡ getD l at 0 = one 0 (omega arith) ∙ ap (λ (k : ℕ). getD l k 0) (add-zero at) in
-    rw (first, one 1 (omega arith), one 2 (omega arith), one 3 (omega arith))
 
 pub number-passes : (l : List ℕ) (at : ℕ) (ok : Bool) (n : ℕ) → n ≡ numberAt l at → (ok && leb 1 n) && leb n 999999999 ≡ ok && numberCheck (take 4 (drop at l))
 unfolding numberCheck within

@@ -1,9 +1,9 @@
 -- What the functions over a state's bytes say.
 use mathlib.Core.Path.{_≡_}
 use mathlib.Core.List.{List, [], _∷_, _++_}
-use Prim.Native.Nat.{ℕ, zero, suc, _+_}
+use Prim.Native.Nat.{ℕ, zero, suc, _+_, _-_, _*_}
 use lib.ListN.{length, take, drop}
-use Rattle.lines.specs.State.{State, InRange}
+use Rattle.lines.specs.State.{State, InRange, stackOf}
 use Rattle.lines.specs.Replacing.{Work}
 use Rattle.form_state.specs.Form.{stateForm}
 
@@ -33,3 +33,7 @@ unfoldable pub textLength : List ℕ → ℕ
 textLength [] = 0
 textLength (zero ∷ b) = 0
 textLength (suc x ∷ b) = suc (textLength b)
+
+-- where the current entry of the letter i stands: behind the flags, pointers, values and increments come the stacks, 1,000 bytes each
+abbrev pub entryPlace : State → ℕ → ℕ
+entryPlace st i = 236 + (1000 * (i - 97) + 50 * (stackOf st i .pointer - 1))

@@ -2,3 +2,4 @@ pub mod Form
 pub mod FormLaws
 pub mod Check
 pub mod Access
+pub mod AccessLaws

@@ -1,11 +1,11 @@
 // The state as bytes: what is read of the stacks and counters in one lent memory.
 use form_bytes::number_at;
-ghost use Prim.Native.Nat.{_+_, _-_, _*_, _≤_};
+ghost use Prim.Native.Nat.{_+_, _-_, _≤_};
 ghost use mathlib.Core.Path.{_≡_};
 ghost use Rattle.macros.specs.Formed.{Letter};
 ghost use Rattle.lines.specs.State.{stackOf, counterOf, currentEntry};
 ghost use Rattle.form_state.specs.Form.{stateBytes};
-ghost use Rattle.form_state.specs.Access.{IsState, OfState, textLength};
+ghost use Rattle.form_state.specs.Access.{IsState, OfState, textLength, entryPlace};
 
 // The number of the letter i: of `a` it is 0.
 pub fn letter_number(i: u8) -> usize
@@ -42,7 +42,7 @@ pub fn increment(state: &[u8], i: u8) -> u32
 // Where the current entry of the letter i starts.
 pub fn entry_at(state: &[u8], i: u8) -> usize
     requires { ⌜ IsState (now state) × Letter i ⌝ }
-    ensures { λ r. ⌜ (r + 50 ≤ stateBytes) × OfState (now (state .entry)) (λ st. r ≡ 236 + (1000 * (i - 97) + 50 * (stackOf st i .pointer - 1))) ⌝ }
+    ensures { λ r. ⌜ (r + 50 ≤ stateBytes) × OfState (now (state .entry)) (λ st. r ≡ entryPlace st i) ⌝ }
 {
     let p = pointer(state, i);
     236 + (1000 * letter_number(i) + 50 * ((p - 1) as usize))

@@ -21,4 +21,5 @@ pub mod Tables
 pub mod Decoded
 pub mod OneForm
 pub mod Actions
+pub mod ItemLaws
 pub mod Digits

@@ -1,6 +1,6 @@
 -- The items of an action, which t begins with: how many bytes they are, and what is read of them.
 -- Its first byte (`actionItems`, `callItems` of Form.antt) is below 64 for a byte, a tag or an insertion; 64 to 71 for a stored tag,
--- 72 to 79 for a stored text; then it is a setting, or 104 for a division.
+-- 72 to 79 for a stored text; then it is a setting, or 104 for `#(i:n)`.
 use Prim.Native.Nat.{ℕ, _+_, _%_, _≤_}
 use mathlib.Core.List.{List}
 use lib.Dec.{ltb}

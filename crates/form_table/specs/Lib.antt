@@ -5,4 +5,5 @@ pub mod Walk
 pub mod PatternWalk
 pub mod ActionWalk
 pub mod Check
+pub mod ItemLaws
 pub mod FormCases

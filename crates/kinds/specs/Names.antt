@@ -117,9 +117,11 @@ beginsWith Str.[] s = true
 beginsWith (Str._∷_ c cs) Str.[] = false
 beginsWith (Str._∷_ c cs) (Str._∷_ d ds) = elim (eqb (code c) (code d)) [ true ↦ beginsWith cs ds | false ↦ false ]
 
+-- the name is that of an upper case letter
 abbrev pub capital : String → Bool
 capital = beginsWith "LATIN CAPITAL LETTER "
 
+-- the name is that of a lower case letter
 abbrev pub small : String → Bool
 small = beginsWith "LATIN SMALL LETTER "
 

@@ -1,4 +1,4 @@
--- What a fed line comes to, in the terms of the definitions. 3, 1 and 2 come before that, and are answered by what the host calls (crates/m7).
+-- What a fed line comes to, in the terms of the definitions. 3, 1 and 2 come before that, and are answered in crates/m7.
 use Prim.Native.Nat.{ℕ}
 use mathlib.Core.List.{List}
 use lib.ListN.{take}

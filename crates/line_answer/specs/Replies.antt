@@ -1,6 +1,7 @@
 -- What a call answers, in numbers.
--- The contracts of file_number and answer_of rule out, among others, the edits read_number (14 is answered as 13), refused_passes_lost (a refused line has no passes)
--- and withheld_as_control (a withheld line has the kind of a control line).
+-- The contracts of file_number and answer_of rule out, among others, the edits read_number (14 is answered as 13), refused_passes_lost
+-- (a refused line has no passes), withheld_as_control (a withheld line has the kind of a control line) and one_answer (every line is
+-- answered as taken and withheld).
 use Prim.Native.Nat.{ℕ, _≤_}
 use mathlib.Core.List.{[]}
 use Rattle.macros.specs.Bounds.{mostFileBytes, mostLineBytes, mostBudget}
@@ -9,7 +10,8 @@ use Rattle.line_answer.specs.Fed.{kindOf, passesOf, sizeOf}
 use Rattle.line_answer.specs.declared.Fed.{Fed}
 use Rattle.line_answer.specs.declared.Answer.{Answer}
 
--- "It returns the number, the place (10 to 19, else 0) and the passes begun": an answer without passes and kind, of a refusal, or with the number of macros read or of bytes written
+-- "It returns the number, the place (10 to 19, else 0) and the passes begun": an answer without passes and kind,
+-- of a refusal, or with the number of macros read or of bytes written
 unfoldable pub reply : (number place length : ℕ) → Answer
 reply n p k = record { number = n; place = p; passes = 0; kind = 0; length = k }
 

@@ -70,6 +70,7 @@ fn work_number(f: WorkFault) -> u32
     }
 }
 
+// The answer to a line, of its five numbers.
 fn line_reply(number: u32, place: usize, passes: usize, kind: u32, size: usize) -> Answer
     requires { ⌜ (place ≤ mostFileBytes) × (passes ≤ mostBudget) × (size ≤ mostLineBytes) ⌝ }
     ensures { λ r. ⌜ r ≡ lineReply number place passes kind size ⌝ }

@@ -29,5 +29,6 @@ abbrev pub Obeys : Ordered → (table table′ b b′ : List ℕ) → Order → 
 Obeys o table table′ b b′ Taken = (ks : Table) × (st : State) × (o ≡ orders ks st) × IsTable table′ ks × Holds b′ st
 Obeys o table table′ b b′ (Refused w) = (o ≡ wrong (refusalOf w)) × (table′ ≡ table) × (b′ ≡ b)
 
+-- of every table and state that the bytes are, what the control line t orders
 pub record Orders (table table′ b b′ : List ℕ) (count : ℕ) (t : List ℕ) (r : Order) : Type 0 where
   pub obeys : (ms : Table) → IsTable table ms → length ms ≡ count → (st : State) → Holds b st → Obeys (orderOf ms st t) table table′ b b′ r

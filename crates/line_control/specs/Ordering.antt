@@ -35,6 +35,7 @@ abbrev pub Flagged : Ordered → Table → List ℕ → List ℕ → Order → T
 Flagged o ms b b′ Taken = (st : State) × (o ≡ orders ms st) × Holds b′ st
 Flagged o ms b b′ (Refused w) = (o ≡ wrong (refusalOf w)) × (b′ ≡ b)
 
+-- of every state that the bytes are, which flag the line t sets
 pub record Sets (b b′ t : List ℕ) (r : Order) : Type 0 where
   pub sets : (ms : Table) (st : State) → Holds b st → Flagged (flagOrder ms st t) ms b b′ r
 
@@ -43,11 +44,13 @@ pub record Sets (b b′ t : List ℕ) (r : Order) : Type 0 where
 -- n macros are one more than count; or all slots behind count are zero
 abbrev pub OneMore : List ℕ → List ℕ → ℕ → ℕ → Order → Type 0
 OneMore table table′ count n Taken = (n ≡ count + 1) × (table′ ≡ table)
-OneMore table table′ count n (Refused w) = (n ≡ count + 1 → ⊥) × (w ≡ BadControl) × (table′ ≡ take (1024 * count) table ++ replicate (tableBytes - 1024 * count) 0)
+OneMore table table′ count n (Refused w) =
+    (n ≡ count + 1 → ⊥) × (w ≡ BadControl) × (table′ ≡ take (1024 * count) table ++ replicate (tableBytes - 1024 * count) 0)
 
 -- what the bytes behind `$MACRO` order, of any state
 pub record AddsOne (table table′ : List ℕ) (count : ℕ) (s : List ℕ) (r : Order) : Type 0 where
-  pub obeys : (ms : Table) → IsTable table ms → length ms ≡ count → (st : State) (b : List ℕ) → Holds b st → Obeys (macroOrder ms st (readOnto ms s)) table table′ b b r
+  pub obeys : (ms : Table) → IsTable table ms → length ms ≡ count → (st : State) (b : List ℕ) → Holds b st
+      → Obeys (macroOrder ms st (readOnto ms s)) table table′ b b r
 
 -- a fault handed on
 abbrev pub refusedOf : Reading → Order

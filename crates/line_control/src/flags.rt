@@ -44,6 +44,7 @@ fn flag_value(rest: &[u8]) -> u8
     2
 }
 
+// Sets the flag TRACE.
 fn set_trace(state: &mut [u8], n: u8)
     requires { ⌜ IsState (now state) × (n ≤ 1) ⌝ }
     ensures { λ _. ⌜ OfState (now (state .entry)) (λ st. Holds (now (state .exit)) (withTrace n st)) ⌝ }
@@ -51,6 +52,7 @@ fn set_trace(state: &mut [u8], n: u8)
     state[0] = n;
 }
 
+// Sets the flag NFLAG.
 fn set_nflag(state: &mut [u8], n: u8)
     requires { ⌜ IsState (now state) × (n ≤ 1) ⌝ }
     ensures { λ _. ⌜ OfState (now (state .entry)) (λ st. Holds (now (state .exit)) (withNflag n st)) ⌝ }

@@ -123,7 +123,7 @@ why-work TraceTooLong = refl
 -- CONTROL LINES
 
 module _ {m : Untraced} {tb′ : List ℕ} {count : ℕ} {left : After} {z′ : List ℕ} {r : Obeyed} (x : Orders (m .table) tb′ (left .state) z′ count (left .text) r) where
-  pub rule-taken : r ≡ Taken → {b′ o′ : List ℕ} → b′ ≡ keptBy r z′ (m .state) → length (m .output) ≡ mostLineBytes → o′ ≡ padded (take 0 (left .text)) (length (m .output)) → (p : ℕ)
+  pub rule-taken : r ≡ Taken → {b′ o′ : List ℕ} → b′ ≡ keptBy r z′ (m .state) → length (m .output) ≡ mostLineBytes → o′ ≡ keptBy r (padded [] (length (m .output))) (m .output) → (p : ℕ)
       → Rules m (record { table = tb′; state = b′; output = o′ }) count left p (Control p)
   unfolding ofOrder laidOut outputOf
   rule-taken e {b′} {o′} d y f p =
@@ -138,27 +138,28 @@ module _ {m : Untraced} {tb′ : List ℕ} {count : ℕ} {left : After} {z′ : 
               size = refl;
               table = v .3;
               state = subst (λ (j : List ℕ). Holds j (v .1)) (sym (d ∙ ap (λ (j : Obeyed). keptBy j z′ (m .state)) e)) (v .4);
-              output = no-output (left .text) (m .output) o′ y f;
+              output = no-output [] (m .output) o′ y (f ∙ ap (λ (j : Obeyed). keptBy j (padded [] (length (m .output))) (m .output)) e);
             });
       }
 
-  pub rule-wrong : {w : ControlWhy} → r ≡ Wrong w → {v : Why} → v ≡ controlWhy w → {b′ : List ℕ} → b′ ≡ keptBy r z′ (m .state) → (p : ℕ)
-      → Rules m (record { table = tb′; state = b′; output = m .output }) count left p (Refused v p)
+  pub rule-wrong : {w : ControlWhy} → r ≡ Wrong w → {v : Why} → v ≡ controlWhy w → {b′ o′ : List ℕ} → b′ ≡ keptBy r z′ (m .state)
+      → o′ ≡ keptBy r (padded [] (length (m .output))) (m .output) → (p : ℕ)
+      → Rules m (record { table = tb′; state = b′; output = o′ }) count left p (Refused v p)
   unfolding ofOrder refusal laidOut outputOf
-  rule-wrong {w} e {v} g {b′} d p =
+  rule-wrong {w} e {v} g {b′} {o′} d f p =
       let x₂ : Orders (m .table) tb′ (left .state) z′ count (left .text) (Wrong w) = rw e at x in
       let q : controlRefusal w ≡ refusalOf v = sym (why-control w) ∙ ap refusalOf (sym g) in
       record {
         answers = λ ms h c old st ho hs xs n.
             let u = x₂ .obeys ms h c st hs in
-            subst (λ (a : Answer). Answers a m (record { table = tb′; state = b′; output = m .output }) (Refused v p)) (sym (ap (ofOrder ms old xs) (u .0 ∙ ap wrong q)))
+            subst (λ (a : Answer). Answers a m (record { table = tb′; state = b′; output = o′ }) (Refused v p)) (sym (ap (ofOrder ms old xs) (u .0 ∙ ap wrong q)))
             (record {
               kind = refl;
               passes = n;
               size = refl;
               table = subst (λ (j : List ℕ). IsTable j ms) (sym (u .1)) h;
               state = subst (λ (j : List ℕ). Holds j old) (sym (d ∙ ap (λ (j : Obeyed). keptBy j z′ (m .state)) e)) ho;
-              output = refl;
+              output = f ∙ ap (λ (j : Obeyed). keptBy j (padded [] (length (m .output))) (m .output)) e;
             });
       }
 

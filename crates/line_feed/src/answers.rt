@@ -11,9 +11,11 @@ use line_passes::Why as WorkWhy;
 use line_passes::run_line;
 ghost use Prim.Native.Nat.{_≤_};
 ghost use mathlib.Core.Path.{_≡_};
+ghost use mathlib.Core.List.{[]};
 ghost use lib.ListN.{length};
 ghost use Rattle.form_state.specs.Form.{stateBytes};
 ghost use Rattle.form_state.specs.Access.{IsState, OfState};
+ghost use Rattle.line_memory.specs.Memory.{padded};
 ghost use Rattle.line_feed.specs.Contract.{Lent};
 ghost use Rattle.line_feed.specs.Answering.{controlWhy, workWhy, withheldBy, leavesTrace, handedOver, Hands, Finished, GoesOut, keptBy, Ruling, Rules, Replying, Replies, Fits, TraceRoom, Takes};
 ghost use mathlib.Core.Bool.{true};
@@ -124,6 +126,16 @@ fn keep(state: &mut [u8], after: &[u8], order: Order)
     lay_out(state, after);
 }
 
+// The output after a control line: nothing; one that is wrong leaves it as it was.
+fn clear_output(output: &mut [u8], given: Order)
+    ensures { λ _. ⌜ now (output .exit) ≡ keptBy given (padded [] (length (now (output .entry)))) (now (output .entry)) ⌝ }
+{
+    let Order::Taken = given else {
+        return;
+    };
+    lay_out(output, b"");
+}
+
 // A control line: the table and the state after it, its trace by the state that came, and no output.
 fn ruled(
     table: &mut [u8],
@@ -142,8 +154,8 @@ fn ruled(
     let order = control(table, count, after, line);
     hand_over(trace, lines, leaves_trace(is_traced(state), order));
     keep(state, after, order);
+    clear_output(output, order);
     let Order::Refused(w) = order else {
-        lay_out(output, &line[..0]);
         return Fed::Control(begun);
     };
     Fed::Refused(why_control(w), begun)

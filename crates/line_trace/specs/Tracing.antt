@@ -42,9 +42,11 @@ pub record NotTraced (old : List ℕ) (at : ℕ) (new : List ℕ) (r : Traced) :
   pub same : new ≡ old
   pub next : r ≡ Fits at
 
+-- whether a trace is asked for
 abbrev pub TracesIf : Bool → List ℕ → ℕ → (lines new : List ℕ) → Traced → Type 0
 TracesIf true old at lines new r = TracesBy old at lines new r
 TracesIf false old at lines new r = NotTraced old at new r
 
+-- the lines of a pass, put or not
 pub record Traces (traced : Bool) (old : List ℕ) (at : ℕ) (before : List ℕ) (number : ℕ) (after new : List ℕ) (r : Traced) : Type 0 where
   pub by : TracesIf traced old at (threeLines before number after) new r

@@ -51,6 +51,7 @@ pub record Shown : Type 0 where
   pub passes : ℕ
   pub text : List ℕ
 
+-- what is shown of an answer
 abbrev pub shown : Answer → Shown
 shown a =
     let k : Kind = a .kind in
@@ -159,13 +160,16 @@ Tried f cs = computedBy cs (readFile (bytes f)) ≡ told cs
 
 -- ONE LINE, for the M cases: only its answer is shown, or the file's refusal
 
+-- what is shown of each answer
 abbrev pub shownAnswers : List Answer → List Shown
 shownAnswers [] = []
 shownAnswers (a ∷ as₁) = shown a ∷ shownAnswers as₁
 
+-- the answers to lines fed to the table of a file, or the refusal of that file
 abbrev pub fedTo : List Sent → Read → List Shown
 fedTo xs (refusedAt r p) = refused (fileNumber r) p 0 ∷ []
 fedTo xs (table ms) = shownAnswers (feeds ms fresh xs)
 
+-- the answer to one line, fed with the budget n to the table of a file
 abbrev pub song : String → ℕ → String → List Shown
 song f n s = fedTo (sentWith n (bytes s) ∷ []) (readFile (bytes f))

@@ -27,7 +27,7 @@
 -- (stackOf, counterOf; withPointer, withValue, withIncrement, withEntry), how a new line starts (startIn), where a division ends (endOf,
 -- stops), a tag's text (tagText), and reading (readOnto). Cases hold all but the last two; TagsRun holds tagText, and crates/macros
 -- reading.
--- OneLine needs size [size_free], newest [any_macro_next], usedUp [any_budget] and traces [trace_free]; and, of N2, PassBegins [begins_free].
+-- OneLine needs size [size_free], newest [any_macro_next], usedUp [any_budget], traces [trace_free] and PassBegins [begins_free].
 use mathlib.Core.Path.{_≡_}
 use Prim.Native.Nat.{ℕ, zero, suc, _+_, _-_, _≤_, _<_}
 use mathlib.Core.Bool.{Bool, true, false}
@@ -203,6 +203,7 @@ pub data PassBegins (begun : List ℕ) (t : List ℕ) (st : State) (x : Pass) : 
   -- any other pass of its macro: none of them runs [calls_every_pass]
   again : (NotIn (x .which .number) begun → ⊥) → x .tried ≡ st → Tries t x → PassBegins begun t st x
 
+-- what holds of the pass x, begun with the text t and the state st
 pub record PassHolds (ms : Table) (closed since begun : List ℕ) (t : List ℕ) (st : State) (x : Pass) : Type 0 where
   -- it begins with the text and the state that the last pass made
   pub text : x .text ≡ t

@@ -27,15 +27,18 @@ pub data Order : Type 0 where
   wrong : Refusal → Order
   orders : Table → State → Order
 
+-- two texts are the same
 unfoldable pub same : List ℕ → List ℕ → Bool
 same [] [] = true
 same [] (b ∷ bs) = false
 same (a ∷ l) [] = false
 same (a ∷ l) (b ∷ bs) = elim (eqb a b) [ true ↦ same l bs | false ↦ false ]
 
+-- the state with this flag TRACE
 unfoldable pub withTrace : ℕ → State → State
 withTrace n st = record { stacks = st .stacks; counters = st .counters; trace = n; nflag = st .nflag }
 
+-- the state with this flag NFLAG
 unfoldable pub withNflag : ℕ → State → State
 withNflag n st = record { stacks = st .stacks; counters = st .counters; trace = st .trace; nflag = n }
 
@@ -83,6 +86,7 @@ numberOf (out t) = 0
 numberOf withheld = 0
 numberOf controlled = 0
 
+-- 01's place, 0 if the line is taken
 unfoldable pub placeOf : Kind → ℕ
 placeOf (refusedWith r) = place r
 placeOf (out t) = 0

@@ -44,7 +44,7 @@ pub record ReadsBack (ms : Table) (s : List ℕ) : Type 0 where
   -- each macro in it has at most 512 bytes
   pub short : Each (λ (m : Macro). length (written m) ≤ mostMacroBytes) ms
 
--- THE LAW: of every table that can be made, if writing out does not refuse it, the file is as above
+-- THE LAW: of every table that can be made, if writing out does not refuse it, the file reads back
 abbrev pub MadeReadsBack : Type 0
 MadeReadsBack = (ms : Table) (s : List ℕ) → Made ms → writeOut ms ≡ file s → ReadsBack ms s
 

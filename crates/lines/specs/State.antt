@@ -30,9 +30,11 @@ pub record State : Type 0 where
 unfoldable pub freshStack : Stack
 freshStack = record { pointer = 1; entries = replicate mostEntries [] }
 
+-- a fresh counter
 unfoldable pub freshCounter : Counter
 freshCounter = record { value = 1; increment = 1 }
 
+-- the fresh state
 unfoldable pub fresh : State
 fresh = record { stacks = replicate letters freshStack; counters = replicate letters freshCounter; trace = 0; nflag = 0 }
 
@@ -40,6 +42,7 @@ fresh = record { stacks = replicate letters freshStack; counters = replicate let
 unfoldable pub stackOf : State → ℕ → Stack
 stackOf st i = getD (st .stacks) (i - 97) freshStack
 
+-- the counter of the letter i
 unfoldable pub counterOf : State → ℕ → Counter
 counterOf st i = getD (st .counters) (i - 97) freshCounter
 
@@ -54,6 +57,7 @@ contents st counter i = digits (counterOf st i .value)
 
 -- WHAT IS IN RANGE (refusal 2 says it of a state's bytes)
 
+-- a claim about each of a list
 abbrev pub AllOf : {A : Type 0} → (A → Type 0) → List A → Type 0
 AllOf P [] = Unit {0}
 AllOf P (x ∷ xs) = P x × AllOf P xs
@@ -62,15 +66,18 @@ AllOf P (x ∷ xs) = P x × AllOf P xs
 abbrev pub EntryInRange : List ℕ → Type 0
 EntryInRange e = Bytes e × (length e ≤ mostEntryBytes)
 
+-- a stack in range: "26 stacks of 20 entries", its pointer at one of them
 pub record StackInRange (k : Stack) : Type 0 where
   pub pointer : Between 1 mostEntries (k .pointer)
   pub count : length (k .entries) ≡ mostEntries
   pub entries : AllOf EntryInRange (k .entries)
 
+-- a counter in range: its value and its increment are 1 to 999,999,999
 pub record CounterInRange (k : Counter) : Type 0 where
   pub value : Between 1 mostCounter (k .value)
   pub increment : Between 1 mostCounter (k .increment)
 
+-- a state in range, with flags that are 0 or 1
 pub record InRange (st : State) : Type 0 where
   pub stackCount : length (st .stacks) ≡ letters
   pub stacks : AllOf StackInRange (st .stacks)

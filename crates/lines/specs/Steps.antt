@@ -35,6 +35,7 @@ pub record Copied (s : List ℕ) (w v : Work) : Type 0 where
 
 -- THE STEPS
 
+-- what one step of an occurrence does
 pub data Step : Type 0 where
   -- a text is inserted: a byte of the replacement, or a tag's text
   inserts : List ℕ → Step

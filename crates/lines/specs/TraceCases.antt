@@ -15,10 +15,12 @@ use Rattle.lines.specs.Cases.{everything, Shown, shown, says, withheld, 
 abbrev pub Traced : Type 0
 Traced = Shown × Option (List ℕ)
 
+-- what is shown of each answer, with its trace
 abbrev pub traced : List Answer → List Traced
 traced [] = []
 traced (a ∷ as₁) = (shown a, a .traceText) ∷ traced as₁
 
+-- the answers to lines fed to the table of a file, with their traces
 abbrev pub tracedBy : List Sent → Read → List Traced
 tracedBy xs (refusedAt r p) = []
 tracedBy xs (table ms) = traced (feeds ms fresh xs)

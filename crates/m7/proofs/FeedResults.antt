@@ -32,7 +32,7 @@ use Rattle.line_answer.specs.declared.Fed.the-variants.{Out, Withheld, Control,
 use Rattle.line_answer.specs.declared.Answer.{Answer}
 use Rattle.line_answer.specs.Replies.{reply, lineReply, told, Small}
 use Rattle.m7.specs.Feeding.{Call, answerOf, sizedToFeed, Feeds}
-use Rattle.m7.specs.HostRefusal.{hostRefusal}
+use Rattle.m7.specs.HostRefusal.{firstDue, hostRefusal}
 use Rattle.m7.proofs.FeedBounds.{feed-place, feed-passes}
 
 -- THE ANSWER IN NUMBERS
@@ -165,7 +165,7 @@ module _ (sent : Sent) (m : Memories) where
   -- which refusal is due
   module _ {r : ℕ} (e : r ≡ hostRefusal m) (ot : Octets (m .table)) (ob : Octets (m .state)) where
     pub refused-first : 0 < r → {a : Answer} → a ≡ reply r 0 0 → Feeds (same a)
-    unfolding hostRefusal pick
+    unfolding hostRefusal firstDue pick
     refused-first h {a} f = by (sizedToFeed m) refl (checks (m .table)) refl (stateChecks (m .state)) refl
       where
         told₂ : (k : ℕ) → r ≡ k → a ≡ reply k 0 0
@@ -179,7 +179,7 @@ module _ (sent : Sent) (m : Memories) where
 
     module _ (h : r ≤ 0) where
       none-due : Tests m true true true
-      unfolding hostRefusal pick
+      unfolding hostRefusal firstDue pick
       none-due = by (sizedToFeed m) refl (checks (m .table)) refl (stateChecks (m .state)) refl
         where
           by : (x : Bool) → sizedToFeed m ≡ x → (y : Bool) → checks (m .table) ≡ y → (z : Bool) → stateChecks (m .state) ≡ z → Tests m true true true
@@ -198,38 +198,52 @@ module _ (sent : Sent) (m : Memories) where
         pub is-fed : {a : Answer} → a ≡ told f → Feeds (record { feeding = record { sent = sent; lent = m; left = m′ }; answer = a })
         is-fed g = let z = none-due in feeds (z .sizes) ot (z .tables) ob (z .states) w g
 
--- THE REFUSALS BEFORE A LINE
+-- THE SIZES
 
 module _ (m : Memories) where
-  pub due-table : (length (m .table) ≡ tableBytes → ⊥) → 3 ≡ hostRefusal m
-  unfolding hostRefusal sizedToFeed pick
-  due-table f = rw (ne-eqb _ _ f) refl
+  pub sized-table : (length (m .table) ≡ tableBytes → ⊥) → false ≡ sizedToFeed m
+  unfolding sizedToFeed
+  sized-table f = rw (ne-eqb _ _ f) refl
 
   module _ (g : length (m .table) ≡ tableBytes) where
-    pub due-state : (length (m .state) ≡ stateBytes → ⊥) → 3 ≡ hostRefusal m
-    unfolding hostRefusal sizedToFeed pick
-    due-state f = rw (eq-eqb _ _ g, ne-eqb _ _ f) refl
+    pub sized-state : (length (m .state) ≡ stateBytes → ⊥) → false ≡ sizedToFeed m
+    unfolding sizedToFeed
+    sized-state f = rw (eq-eqb _ _ g, ne-eqb _ _ f) refl
 
     module _ (h : length (m .state) ≡ stateBytes) where
-      pub due-output : (length (m .output) ≡ mostLineBytes → ⊥) → 3 ≡ hostRefusal m
-      unfolding hostRefusal sizedToFeed pick
-      due-output f = rw (eq-eqb _ _ g, eq-eqb _ _ h, ne-eqb _ _ f) refl
+      pub sized-output : (length (m .output) ≡ mostLineBytes → ⊥) → false ≡ sizedToFeed m
+      unfolding sizedToFeed
+      sized-output f = rw (eq-eqb _ _ g, eq-eqb _ _ h, ne-eqb _ _ f) refl
 
-      module _ (k : length (m .output) ≡ mostLineBytes) where
-        pub due-trace : (length (m .trace) ≡ mostTraceBytes → ⊥) → 3 ≡ hostRefusal m
-        unfolding hostRefusal sizedToFeed pick
-        due-trace f = rw (eq-eqb _ _ g, eq-eqb _ _ h, eq-eqb _ _ k, ne-eqb _ _ f) refl
+      pub sized-trace : length (m .output) ≡ mostLineBytes → eqb (length (m .trace)) mostTraceBytes ≡ sizedToFeed m
+      unfolding sizedToFeed
+      sized-trace k = rw (eq-eqb _ _ g, eq-eqb _ _ h, eq-eqb _ _ k) refl
 
-        module _ (l : length (m .trace) ≡ mostTraceBytes) where
-          pub due-none : {y : Bool} → y ≡ checks (m .table) → y ≡ false → 1 ≡ hostRefusal m
-          unfolding hostRefusal sizedToFeed pick
-          due-none e f = rw (eq-eqb _ _ g, eq-eqb _ _ h, eq-eqb _ _ k, eq-eqb _ _ l, sym e ∙ f) refl
+-- THE REFUSALS BEFORE A LINE
 
-          module _ {y : Bool} (e : y ≡ checks (m .table)) (f : y ≡ true) where
-            pub due-other : {z : Bool} → z ≡ stateChecks (m .state) → z ≡ false → 2 ≡ hostRefusal m
-            unfolding hostRefusal sizedToFeed pick
-            due-other i j = rw (eq-eqb _ _ g, eq-eqb _ _ h, eq-eqb _ _ k, eq-eqb _ _ l, sym e ∙ f, sym i ∙ j) refl
+module _ {sized : Bool} (table state : Bool) where
+  pub due-size : sized ≡ false → 3 ≡ firstDue sized table state
+  unfolding firstDue pick
+  due-size e = rw e refl
 
-            pub due-nothing : {z : Bool} → z ≡ stateChecks (m .state) → z ≡ true → 0 ≡ hostRefusal m
-            unfolding hostRefusal sizedToFeed pick
-            due-nothing i j = rw (eq-eqb _ _ g, eq-eqb _ _ h, eq-eqb _ _ k, eq-eqb _ _ l, sym e ∙ f, sym i ∙ j) refl
+module _ {sized table : Bool} (state : Bool) (e : sized ≡ true) where
+  pub due-table : table ≡ false → 1 ≡ firstDue sized table state
+  unfolding firstDue pick
+  due-table f = rw (e, f) refl
+
+module _ {sized table state : Bool} (e : sized ≡ true) (f : table ≡ true) where
+  pub due-state : state ≡ false → 2 ≡ firstDue sized table state
+  unfolding firstDue pick
+  due-state g = rw (e, f, g) refl
+
+  pub due-none : state ≡ true → 0 ≡ firstDue sized table state
+  unfolding firstDue pick
+  due-none g = rw (e, f, g) refl
+
+pub hosts : (m : Memories) {sized table state : Bool} {r : ℕ}
+    → sized ≡ sizedToFeed m → table ≡ checks (m .table) → state ≡ stateChecks (m .state) → r ≡ firstDue sized table state → r ≡ hostRefusal m
+unfolding hostRefusal
+hosts m {sized} {table} {state} e f g h =
+    h
+    ∙ (ap (λ (x : Bool). firstDue x table state) e
+    ∙ (ap (λ (x : Bool). firstDue (sizedToFeed m) x state) f ∙ ap (λ (x : Bool). firstDue (sizedToFeed m) (checks (m .table)) x) g))

@@ -148,6 +148,7 @@ pub data Case : Type 0 where
 abbrev pub Outcome : Type 0
 Outcome = ℕ × ℕ × List ℕ
 
+-- what a file comes to that is read and written out again
 abbrev pub written-again : Read → Outcome
 written-again (refusedAt r p) = (fileNumber r, p, [])
 written-again (table ms) = elim (writeOut ms) [ file s ↦ (0, 0, s) | refused r p ↦ (fileNumber r, p, []) ]
@@ -179,6 +180,7 @@ claimed (s shortensTo t) = (0, 0, bytes t)
 claimed (s skips t) = (0, 0, bytes t)
 claimed (long s k c t n p) = (n, p, [])
 
+-- what each case comes to
 abbrev pub each : (Case → Outcome) → List Case → List Outcome
 each f [] = []
 each f (c ∷ cs) = f c ∷ each f cs

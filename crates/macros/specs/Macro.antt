@@ -30,6 +30,7 @@ pub data Piece : Type 0 where
   element : PatternUnit → Closure → Piece
   start end left right : Piece
 
+-- `+` or `-`
 pub data Sign : Type 0 where
   plus minus : Sign
 

@@ -72,7 +72,7 @@ mayStoreTag inReplacement = true
 mayStoreTag asCommand = true
 
 -- a byte of `&(i)`, `&(n,i)`, `&(i=n)`, `&(i:text:)`, `#(i)`, `#(i=n)`, `#(i,n)`, with signs where 01 has them, or of 02's `#(i:n)`.
--- A call that may not insert has no `)` behind the letter, and no sign or `:` in a counter's call
+-- A call that may not insert has no `)` behind a letter that comes first, and no sign or `:` in a counter's call
 unfoldable pub callByte : Site → Phase → ℕ → Turn
 -- behind `&(` here may stand a digit (not in a call before a pattern), a sign or a letter
 callByte si (begun stack) b =

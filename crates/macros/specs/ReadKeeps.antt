@@ -17,7 +17,7 @@ pub record ReadWell (older ms : Table) : Type 0 where
   -- it is the older macros, as they were, and new ones behind them
   pub behind : (new : Table) × (ms ≡ older ++ new)
 
--- Whenever bytes are read onto an accepted table without a fault, the new table is as above.
+-- Whenever bytes are read onto an accepted table without a fault, the new table is read well.
 -- With `older` empty this is a macro file: what readFile gives is accepted.
 abbrev pub ReadKeeps : Type 0
 ReadKeeps = (older : Table) (s : List ℕ) (ms : Table) → Accepted older → Octets s → readOnto older s ≡ table ms → ReadWell older ms

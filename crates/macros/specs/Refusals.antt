@@ -9,7 +9,7 @@ pub data HostRefusal : Type 0 where
 pub data LineRefusal : Type 0 where
   lineTooLong badByte badControl : LineRefusal
 
--- the table writer's
+-- the numbers of the table writer's refusals
 pub data FileRefusal : Type 0 where
   fileTooLong zeroByte incomplete badClass noUnit badBrace badCall noElement macroTooLong tooManyMacros : FileRefusal
 
@@ -24,17 +24,20 @@ pub data Refusal : Type 0 where
   ofFile : FileRefusal → ℕ → Refusal
   ofWork : WorkRefusal → Refusal
 
+-- the numbers of the host's refusals
 unfoldable pub hostNumber : HostRefusal → ℕ
 hostNumber badMemory = 3
 hostNumber badTable = 1
 hostNumber badState = 2
 hostNumber budgetTooLarge = 4
 
+-- the numbers of the line sender's refusals
 unfoldable pub lineNumber : LineRefusal → ℕ
 lineNumber lineTooLong = 21
 lineNumber badByte = 22
 lineNumber badControl = 23
 
+-- the numbers of the table writer's refusals
 unfoldable pub fileNumber : FileRefusal → ℕ
 fileNumber fileTooLong = 10
 fileNumber zeroByte = 11
@@ -47,6 +50,7 @@ fileNumber noElement = 17
 fileNumber macroTooLong = 18
 fileNumber tooManyMacros = 19
 
+-- the numbers of the refusals of the table at work
 unfoldable pub workNumber : WorkRefusal → ℕ
 workNumber budgetUsedUp = 31
 workNumber newLineTooLong = 32
@@ -62,6 +66,7 @@ number (ofLine r) = lineNumber r
 number (ofFile r p) = fileNumber r
 number (ofWork r) = workNumber r
 
+-- "the place (10 to 19, else 0)"
 unfoldable pub place : Refusal → ℕ
 place (ofHost r) = 0
 place (ofLine r) = 0

@@ -25,7 +25,7 @@ pub record WrittenWell (ms : Table) (s : List ℕ) : Type 0 where
   -- each macro in it is no longer than a macro may be
   pub short : Each (λ m. length (written m) ≤ mostMacroBytes) ms
 
--- Whenever writing out an accepted table gives a file, that file is as above.
+-- Whenever writing out an accepted table gives a file, that file is written well.
 abbrev pub RoundTrip : Type 0
 RoundTrip = (ms : Table) (s : List ℕ) → Accepted ms → writeOut ms ≡ file s → WrittenWell ms s
 

@@ -11,7 +11,7 @@ use lib.ListN.{length, take, drop, getD, set, length-append, length-take, length
 use lib.Seq.{slice-cons, take-all}
 use Rattle.program_in.specs.declared.Reading.{Reading}
 use Rattle.program_in.specs.declared.Turn.{Turn}
-use Rattle.program_in.specs.Reading.{coming, Line, ahead, lineOf, over, some, LineRead}
+use Rattle.program_in.specs.Reading.{coming, Line, ahead, lineOf, over, hasByte, LineRead}
 use Rattle.program_in.specs.Turns.{NoFeed, Kept, Keeps, Stops, Part, Filled}
 use Rattle.program_in.specs.Turns.Stops.{fed, used}
 
@@ -76,10 +76,10 @@ unfolding NoFeed lineOf ahead
 no-feed-ahead [] t f = refl
 no-feed-ahead (b ∷ s) t f = rw (ne-eqb b 10 (f .0), no-feed-ahead s t (f .1))
 
-some-both : (s t : List ℕ) → some (s ++ t) ≡ some s || some t
-unfolding some
-some-both [] t = refl
-some-both (b ∷ s) t = refl
+has-byte-both : (s t : List ℕ) → hasByte (s ++ t) ≡ hasByte s || hasByte t
+unfolding hasByte
+has-byte-both [] t = refl
+has-byte-both (b ∷ s) t = refl
 
 or-true : (b : Bool) → b || true ≡ true
 or-true true = refl
@@ -134,8 +134,8 @@ module _ (block line₀ : List ℕ) (at₀ size held₀ : ℕ) where
 
 module _ (from : Reading) (block line : List ℕ) (h : from .at < from .size) (i : from .size ≤ length block) where
   -- bytes have come
-  begins : (b : Bool) → b || some (coming from block ++ []) ≡ true
-  unfolding coming some
+  begins : (b : Bool) → b || hasByte (coming from block ++ []) ≡ true
+  unfolding coming hasByte
   begins b = rw (append-nil (drop (from .at) (take (from .size) block)), next-comes (from .at) (from .size) block h i) (or-true b)
 
   pub taken-fed : {line′ : List ℕ} {at held : ℕ} → Taking block line (from .at) (from .size) (from .held) line′ at held → at < from .size → getD block at 0 ≡ 10
@@ -194,7 +194,7 @@ module _ {from r : Reading} {block block′ line : List ℕ} (f : Filled from bl
       }
 
   pub turn-ended : r .size ≤ r .at → Part from block line (record { reading = r; ended = true }) block′ line
-  unfolding coming some NoFeed
+  unfolding coming hasByte NoFeed
   turn-ended h =
       let n : drop (r .at) (take (r .size) block′) ≡ [] = none-come (r .at) (r .size) block′ h in
       let e : drop (from .at) (take (from .size) block) ++ f .given ≡ [] = f .come ∙ n in
@@ -203,7 +203,7 @@ module _ {from r : Reading} {block block′ line : List ℕ} (f : Filled from bl
         bytes = [];
         noFeed = tt;
         stops = used true e n;
-        begun = f .begun ∙ sym (or-false (from .begun)) ∙ ap (λ (s : List ℕ). from .begun || some s) (sym e);
+        begun = f .begun ∙ sym (or-false (from .begun)) ∙ ap (λ (s : List ℕ). from .begun || hasByte s) (sym e);
         keeps = rw (f .held) keeps-none;
         within = f .within;
       }
@@ -236,10 +236,10 @@ part-both {r₀ = r₀} {b₀ = b₀} {b₁ = b₁} {t = t} p e q =
       stops = stops-both (p .bytes) (q .stops) (a ∙ ap (λ (x : List ℕ). x ++ q .given) (s .0) ∙ ap (λ (x : List ℕ). p .bytes ++ x) (sym n));
       begun =
           q .begun
-          ∙ ap (λ (x : Bool). x || some (coming (t .reading) b₁ ++ q .given)) (p .begun)
-          ∙ or-both (r₀ .begun) (some (coming r₀ b₀ ++ p .given)) (some (coming (t .reading) b₁ ++ q .given))
-          ∙ ap (λ (x : List ℕ). r₀ .begun || (some (coming r₀ b₀ ++ p .given) || some x)) n
-          ∙ ap (λ (x : Bool). r₀ .begun || x) (sym (some-both (coming r₀ b₀ ++ p .given) (q .given)) ∙ ap some (sym a));
+          ∙ ap (λ (x : Bool). x || hasByte (coming (t .reading) b₁ ++ q .given)) (p .begun)
+          ∙ or-both (r₀ .begun) (hasByte (coming r₀ b₀ ++ p .given)) (hasByte (coming (t .reading) b₁ ++ q .given))
+          ∙ ap (λ (x : List ℕ). r₀ .begun || (hasByte (coming r₀ b₀ ++ p .given) || hasByte x)) n
+          ∙ ap (λ (x : Bool). r₀ .begun || x) (sym (has-byte-both (coming r₀ b₀ ++ p .given) (q .given)) ∙ ap hasByte (sym a));
       keeps = keeps-both (p .keeps) (q .keeps);
       within = q .within;
     }
@@ -268,7 +268,7 @@ module _ {from r₀ : Reading} {block line : List ℕ} (s : r₀ ≡ record { at
         given = p .given;
         all = coming r₀ block ++ p .given;
         whole = rw s refl;
-        begun = p .begun ∙ ap (λ (r : Reading). r .begun || some (coming r₀ block ++ p .given)) s;
+        begun = p .begun ∙ ap (λ (r : Reading). r .begun || hasByte (coming r₀ block ++ p .given)) s;
         held = rw e (k .count);
         memory = rw e (k .memory);
         rest = rw e refl;

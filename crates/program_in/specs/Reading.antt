@@ -31,10 +31,10 @@ over [] m = m
 over (b ∷ s) [] = []
 over (b ∷ s) (_ ∷ m) = b ∷ over s m
 
--- there are bytes
-unfoldable pub some : List ℕ → Bool
-some [] = false
-some (_ ∷ _) = true
+-- there is a byte
+unfoldable pub hasByte : List ℕ → Bool
+hasByte [] = false
+hasByte (_ ∷ _) = true
 
 -- from the bytes to come and those that the system gave, the first line is read
 pub record LineRead (from : Reading) (block line : List ℕ) (r : Reading) (block′ line′ : List ℕ) : Type 0 where
@@ -42,7 +42,7 @@ pub record LineRead (from : Reading) (block line : List ℕ) (r : Reading) (bloc
   pub all : List ℕ
   pub whole : all ≡ coming from block ++ given
   -- a line has begun unless the input has ended
-  pub begun : r .begun ≡ some all
+  pub begun : r .begun ≡ hasByte all
   -- of a long line as many bytes are held as the memory has; its other bytes are as they were
   pub held : r .held ≡ min (length (lineOf all .bytes)) (length line)
   pub memory : line′ ≡ over (lineOf all .bytes) line

@@ -6,7 +6,7 @@ use mathlib.Core.List.{List, [], _∷_, _++_}
 use lib.ListN.{length}
 use Rattle.program_in.specs.declared.Reading.{Reading}
 use Rattle.program_in.specs.declared.Turn.{Turn}
-use Rattle.program_in.specs.Reading.{coming, over, some}
+use Rattle.program_in.specs.Reading.{coming, over, hasByte}
 
 -- no line feed is among the bytes
 unfoldable pub NoFeed : List ℕ → Type 0
@@ -33,7 +33,7 @@ pub record Part (from : Reading) (block line : List ℕ) (r : Turn) (block′ li
   pub bytes : List ℕ
   pub noFeed : NoFeed bytes
   pub stops : Stops (coming from block ++ given) bytes (coming (r .reading) block′) (r .ended)
-  pub begun : r .reading .begun ≡ from .begun || some (coming from block ++ given)
+  pub begun : r .reading .begun ≡ from .begun || hasByte (coming from block ++ given)
   pub keeps : Keeps line (from .held) bytes line′ (r .reading .held)
   pub within : r .reading .size ≤ length block′
 

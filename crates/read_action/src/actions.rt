@@ -235,7 +235,7 @@ fn replacement_items(
     }
 }
 
-// A replacement, as above; a refusal leaves zeros in the lent bytes.
+// Reads a replacement; a refusal leaves zeros in the lent bytes.
 pub fn replacement(
     s: &[u8],
     out: &mut [u8],
@@ -398,7 +398,7 @@ fn before_items(
     commands_items(s, out, a, z, e, true, 0)
 }
 
-// The calls before a pattern, as above; a refusal leaves zeros in the lent bytes.
+// Reads the calls before a pattern; a refusal leaves zeros in the lent bytes.
 pub fn calls_before(
     s: &[u8],
     out: &mut [u8],

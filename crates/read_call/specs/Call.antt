@@ -165,6 +165,7 @@ pub record Sets (code i top : ℕ) (ph : Option ℕ → Phase) (c : ℕ → Call
   pub fits : (k v : ℕ) → numberFits k (c v) ≡ within 1 top v
   pub items : (v : ℕ) → callItems (c v) ≡ code ∷ i ∷ four v
 
+-- what reading the number and the `)` of a call that sets gives
 abbrev pub SetFrom : List ℕ → ℕ → ℕ → List ℕ → List ℕ → ℕ → ℕ → ℕ → ℕ → Ended → Type 0
 SetFrom s a p old out n code i top r =
     (ph : Option ℕ → Phase) (c : ℕ → Call) → Sets code i top ph c → (si : Site) (k : ℕ)
@@ -214,6 +215,7 @@ pub record TextRead (s : List ℕ) (a p : ℕ) (old out : List ℕ) (n q e : ℕ
   pub answer : (pl : CallSite) (i : ℕ) (v : Move) (pr : Prior)
       → run s a pr false p (callText pl i v []) ≡ run s a pr false q (calling pl (texted i v text))
 
+-- what reading the text of `&(i:text:)` gives
 abbrev pub TextFrom : List ℕ → ℕ → ℕ → List ℕ → List ℕ → ℕ → Ended → Type 0
 TextFrom s a p old out n (Upto q e) = TextRead s a p old out n q e
 TextFrom s a p old out n (NoEnd f q) =
@@ -239,18 +241,22 @@ StoreFrom s a p old out n i m r =
 
 -- REFUSALS HANDED ON
 
+-- a refusal of a byte handed on
 abbrev pub nextEnd : Next → Ended
 nextEnd (Byte b q) = NoEnd Incomplete q
 nextEnd (NoByte f q) = NoEnd f q
 
+-- a refusal of a number handed on
 abbrev pub numberEnd : Number → Ended
 numberEnd (Got n m b q) = NoEnd Incomplete q
 numberEnd (NoNumber f q) = NoEnd f q
 
+-- a refusal of a letter with its sign handed on
 abbrev pub nameEnd : Name → Ended
 nameEnd (GotName i m b q) = NoEnd Incomplete q
 nameEnd (NoName f q) = NoEnd f q
 
+-- a refusal of a byte handed on, where a letter with its sign is read
 abbrev pub nextName : Next → Name
 nextName (Byte b q) = NoName Incomplete q
 nextName (NoByte f q) = NoName f q

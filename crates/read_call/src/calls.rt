@@ -499,7 +499,7 @@ fn one_call(
     stack_call(s, out, a, at, n, site, tags)
 }
 
-// One call, as above; a refusal leaves zeros in the lent bytes.
+// Reads one call; a refusal leaves zeros in the lent bytes.
 pub fn call(
     s: &[u8],
     out: &mut [u8],

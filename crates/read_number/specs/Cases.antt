@@ -10,6 +10,7 @@ use Rattle.read_number.specs.Number.{most, counting, leading, behind, va
 use Rattle.read_scan.specs.declared.FileFault.the-variants.{Incomplete, MacroTooLong}
 use Rattle.read_number.specs.declared.Number.the-variants.{Got, Refused as NoNumber}
 
+-- numbers read, computed
 pub number-cases :
     -- spaces in a call; none elsewhere; a skip between digits; leading zeros
     (numberFrom (bytes "1 2 )") 0 0 true ≡ Got 12 true 41 4) ×

@@ -122,11 +122,12 @@ ClassingBy s a p old out i (NoPut f q) =
 pub record Classing (s : List ℕ) (a p : ℕ) (old out : List ℕ) (i : ℕ) (r : Put) : Type 0 where
   pub is : ClassingBy s a p old out i r
 
--- a refusal of a byte handed on, twice
+-- a refusal of a byte handed on
 abbrev pub byteFault : Next → ClassByte
 byteFault (Byte b q) = NoClassByte Incomplete q
 byteFault (NoByte f q) = NoClassByte f q
 
+-- a refusal of a class's byte handed on
 abbrev pub putFault : ClassByte → Put
 putFault (GotByte c raw q) = NoPut Incomplete q
 putFault (NoClassByte f q) = NoPut f q

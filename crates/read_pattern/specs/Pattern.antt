@@ -240,23 +240,27 @@ behindRight f = record { tags = f .tags; some = f .some; used = f .used + 2 }
 abbrev pub behindElement : PatternSoFar → ℕ → PatternSoFar
 behindElement f n = record { tags = f .tags; some = true; used = n }
 
--- a refusal of a byte, of a class's members, of an element and of a piece handed on
+-- a refusal of a byte handed on
 abbrev pub itemFault : Next → Item
 itemFault (Byte b q) = NoItem Incomplete q
 itemFault (NoByte f q) = NoItem f q
 
+-- a refusal of a class's members handed on
 abbrev pub classFault : Put → Item
 classFault (PutAt q j) = NoItem Incomplete q
 classFault (NoPut f q) = NoItem f q
 
+-- a refusal of an element handed on
 abbrev pub elementFault : Item → Put
 elementFault (Got e q m) = NoPut Incomplete q
 elementFault (NoItem f q) = NoPut f q
 
+-- a refusal of a byte inside a brace handed on
 abbrev pub insideFault : Next → Inside
 insideFault (Byte b q) = NoInside Incomplete q
 insideFault (NoByte f q) = NoInside f q
 
+-- a refusal of a piece handed on
 abbrev pub pieceFault : Put → Inside
 pieceFault (PutAt q m) = NoInside Incomplete q
 pieceFault (NoPut f q) = NoInside f q

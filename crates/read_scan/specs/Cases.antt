@@ -8,6 +8,7 @@ use Rattle.read_scan.specs.Bytes.{with?, outside, upTo, seen, unended, b
 use Rattle.read_scan.specs.declared.FileFault.the-variants.{Incomplete, MacroTooLong}
 use Rattle.read_scan.specs.declared.Next.the-variants.{Byte, Refused as NoByte}
 
+-- the next byte, computed
 pub next-cases :
     -- a skip; two; one that is not closed; the file's end
     (nextByte (bytes "'a'/b/=") 0 3 ≡ Byte 61 6) ×

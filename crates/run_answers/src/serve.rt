@@ -60,6 +60,7 @@ fn asked_of(command: &mut [u8], held: usize) -> Asked
     )
 }
 
+// What is asked, with the size of what was decoded.
 fn told(which: u8, budget: u32, size: usize) -> Asked
     ensures { λ r. ⌜ r .size ≤ size ⌝ }
 {
@@ -99,6 +100,7 @@ fn call(
     }
 }
 
+// The answer where nothing is called.
 fn nothing() -> Answer {
     Answer {
         number: 0,

@@ -78,10 +78,12 @@ fn word_of(command: &[u8]) -> u64
     word
 }
 
+// A byte as a number.
 fn wide(b: u8) -> u64 {
     b as u64
 }
 
+// The number of a command, by the letters of its word; 0 for another word.
 fn number_of(word: u64) -> u8 {
     match word {
         READ => 1,
@@ -107,6 +109,7 @@ fn with_digit(value: u32, b: u8) -> u32 {
     value * 10 + digit(b - b'0')
 }
 
+// A digit as a number.
 fn digit(b: u8) -> u32
     ensures { λ r. ⌜ r ≤ 255 ⌝ }
 {

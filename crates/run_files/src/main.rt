@@ -10,6 +10,7 @@ fn run(name: &[u8]) {
     io::write_all(STDOUT_FILENO, &said[..n]);
 }
 
+// The refused files, and then the song.
 fn main() {
     run(b"long.m7");
     run(b"missing.m7");

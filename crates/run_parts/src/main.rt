@@ -3,6 +3,7 @@
 // and one that shows the counter, more output than is held at once, and a last line that the input's end ends.
 use libc::STDOUT_FILENO;
 
+// The program, and what it leaves to be written.
 fn main() {
     let mut table: [u8; 98304] = [0; 98304];
     let mut said = [0u8; 1100];

@@ -9,6 +9,7 @@ use Rattle.words.specs.Pattern.{dash}
 unfoldable pub letter : ℕ → ℕ
 letter c = pick (eqb c dash) 0 1
 
+-- the letters and digits of a pattern
 unfoldable pub letters : List ℕ → ℕ
 letters [] = 0
 letters (c ∷ p) = letter c + letters p

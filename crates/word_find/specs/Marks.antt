@@ -8,6 +8,7 @@ use lib.ListN.{length, getD, drop}
 use Rattle.words.specs.Pattern.{dash}
 use Rattle.words.specs.Cover.{covers}
 
+-- a mark: 1 or 0
 unfoldable pub mark : Bool → ℕ
 mark true = 1
 mark false = 0
@@ -16,12 +17,14 @@ mark false = 0
 pub record Marked (t p w : List ℕ) : Type 0 where
   pub each : (i : ℕ) → i ≤ length w → getD t i 0 ≡ mark (covers p (drop i w))
 
--- marks of a pattern become those of the pattern with one byte more before it: a dash; another byte c; any byte c
+-- marks of a pattern become those of the pattern with a dash before it
 pub record StepsDash (t t′ w : List ℕ) : Type 0 where
   pub step : (p : List ℕ) → Marked t p w → Marked t′ (dash ∷ p) w
 
+-- marks of a pattern become those of the pattern with another byte c than a dash before it
 pub record StepsByte (t t′ w : List ℕ) (c : ℕ) : Type 0 where
   pub step : eqb c dash ≡ false → (p : List ℕ) → Marked t p w → Marked t′ (c ∷ p) w
 
+-- marks of a pattern become those of the pattern with any byte c before it
 pub record Steps (t t′ w : List ℕ) (c : ℕ) : Type 0 where
   pub step : (p : List ℕ) → Marked t p w → Marked t′ (c ∷ p) w

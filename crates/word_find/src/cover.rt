@@ -73,6 +73,7 @@ fn put(marks: &mut [u8], word: &[u8], c: u8)
     put_byte(marks, word, c);
 }
 
+// Whether the pattern covers the word; what the marks held before has no influence.
 pub(crate) fn is_covered(pattern: &[u8], word: &[u8], marks: &mut [u8]) -> bool
     requires { ⌜ length (now word) < length (now marks) ⌝ }
     ensures { λ r. ⌜ r ≡ covers (now (pattern .entry)) (now (word .entry)) ⌝ }

@@ -20,6 +20,7 @@ fn is_allowed(kinds: &[u8; 256], c: u8) -> bool
     is_kind(kinds, c, LETTER_OR_DIGIT)
 }
 
+// Whether each byte of the pattern is a letter, a digit or a dash.
 fn all_allowed(kinds: &[u8; 256], pattern: &[u8]) -> bool
     requires { ⌜ now kinds ≡ kindTable ⌝ }
     ensures { λ r. ⌜ r ≡ allAllowed (now (pattern .entry)) ⌝ }
@@ -34,6 +35,7 @@ fn all_allowed(kinds: &[u8; 256], pattern: &[u8]) -> bool
     true
 }
 
+// Whether both bytes are dashes.
 fn are_dashes(a: u8, b: u8) -> bool
     ensures { λ r. ⌜ r ≡ (eqb a dash && eqb b dash) ⌝ }
 {
