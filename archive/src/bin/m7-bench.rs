@@ -375,6 +375,7 @@ fn page() {
 
 /// What bench/before.txt has: table, row, and the best of the archive's and of the Rust version's times of one line.
 fn points() {
+    println!("# table, row, archive, Rust: best times of one line in microseconds");
     for (name, time) in checks() {
         println!("{EVERY_CALL}\t{name}\t{:.4}", time.best);
     }
