@@ -1,5 +1,5 @@
 //! Processor time of repeated calls, in microseconds: other work on the
-//! machine does not count as ours. And rows of a table in Markdown.
+//! machine does not count as ours.
 
 #[derive(Clone, Copy)]
 pub struct Time {
@@ -7,8 +7,16 @@ pub struct Time {
     pub median: f64,
 }
 
+impl Time {
+    /// Of one of so many.
+    pub fn of(self, count: usize) -> Time {
+        Time { best: self.best / count as f64, median: self.median / count as f64 }
+    }
+}
+
 extern "C" {
     fn clock_gettime(clock: i32, time: *mut [i64; 2]) -> i32;
+    fn getrusage(who: i32, usage: *mut [i64; 18]) -> i32;
 }
 
 /// The processor time that this process has used, in microseconds.
@@ -19,43 +27,25 @@ pub fn used() -> f64 {
     time[0] as f64 * 1e6 + time[1] as f64 / 1e3
 }
 
+/// The processor time of the processes that this one has started and waited for.
+pub fn used_by_others() -> f64 {
+    const CHILDREN: i32 = -1;
+    let mut usage = [0; 18];
+    assert_eq!(unsafe { getrusage(CHILDREN, &mut usage) }, 0);
+    // seconds and microseconds, of the program and of the system for it
+    (usage[0] + usage[2]) as f64 * 1e6 + (usage[1] + usage[3]) as f64
+}
+
 pub fn time(rounds: usize, mut call: impl FnMut()) -> Time {
-    let mut all: Vec<f64> = (0..rounds)
-        .map(|_| {
-            let begun = used();
-            call();
-            used() - begun
-        })
-        .collect();
-    all.sort_by(f64::total_cmp);
-    Time { best: all[0], median: all[rounds / 2] }
+    let times = (0..rounds).map(|_| {
+        let begun = used();
+        call();
+        used() - begun
+    });
+    best_and_median(times.collect())
 }
 
-/// A number with two or three digits that count.
-pub fn short(n: f64) -> String {
-    match n {
-        n if n < 10.0 => format!("{n:.2}"),
-        n if n < 100.0 => format!("{n:.1}"),
-        n => crate::trial::grouped(n.round() as u64),
-    }
-}
-
-fn both(time: Time) -> String {
-    format!("{} / {}", short(time.best), short(time.median))
-}
-
-pub fn head(what: &str) {
-    println!("\n| {what} | archive | Rust | archive : Rust | Perl | archive : Perl |");
-    println!("|---|---|---|---|---|---|");
-}
-
-/// A row: best and median of each, and the ratios of the best. Perl's cell
-/// says why where there is no time.
-pub fn row(name: &str, proved: Time, plain: Time, perl: Result<Time, String>) {
-    let (cell, ratio) = match perl {
-        Ok(time) => (both(time), short(proved.best / time.best)),
-        Err(why) => (why, String::new()),
-    };
-    let ratio = [short(proved.best / plain.best), cell, ratio].join(" | ");
-    println!("| {name} | {} | {} | {ratio} |", both(proved), both(plain));
+pub fn best_and_median(mut times: Vec<f64>) -> Time {
+    times.sort_by(f64::total_cmp);
+    Time { best: times[0], median: times[times.len() / 2] }
 }

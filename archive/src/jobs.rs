@@ -6,17 +6,43 @@ use m7_reference::write::write_table;
 
 /// A table, and lines that are fed to it in turn from a fresh state.
 pub struct Job {
-    pub section: &'static str,
+    /// The table of the report that it stands in.
+    pub table: &'static str,
     pub name: String,
     pub file: Vec<u8>,
     pub lines: Vec<Vec<u8>>,
     pub rounds: usize,
     /// The text of the same table in Perl.
     pub perl: Option<String>,
+    /// The script of `bench/` that does the same on these lines.
+    pub sed: Option<&'static str>,
+    /// Whether the program of part 8 is timed too.
+    pub program: bool,
+    /// Its place on a curve.
+    pub at: Option<f64>,
 }
+
+/// Where no other program is timed and no curve drawn.
+fn plain(
+    table: &'static str,
+    name: String,
+    file: Vec<u8>,
+    lines: Vec<Vec<u8>>,
+    rounds: usize,
+) -> Job {
+    Job { table, name, file, lines, rounds, perl: None, sed: None, program: false, at: None }
+}
+
+pub const OVER_LINES: &str = "tables over lines";
+pub const EVERY_CALL: &str = "what every call costs";
+pub const BY_LENGTH: &str = "line length, 39 macros";
+pub const BY_LENGTH_WORST: &str = "line length, a worst pattern";
+pub const BY_MACROS: &str = "number of macros";
+pub const BY_LINES: &str = "number of lines";
 
 pub fn all() -> Vec<Job> {
     let mut jobs = tables();
+    jobs.extend(every_call());
     jobs.extend(traced());
     jobs.extend(worst());
     jobs.extend(lengths());
@@ -25,17 +51,36 @@ pub fn all() -> Vec<Job> {
     jobs
 }
 
+/// The two jobs that the bars are about.
 fn tables() -> Vec<Job> {
-    let section = "Lines, all together";
-    let job = |name: &str, file, lines, perl| {
-        let (name, perl) = (name.to_string(), Some(perl));
-        Job { section, name, file, lines, rounds: 7, perl }
+    let job = |name: &str, file, lines, perl, sed| Job {
+        perl: Some(perl::table(perl)),
+        sed,
+        program: true,
+        ..plain(OVER_LINES, name.to_string(), file, lines, 7)
     };
-    let (manual, parts) = (perl::table("manual10.pl"), perl::table("parts.pl"));
     let (program, song) = (files::program_lines(20_000), files::song_lines(2_000));
+    let manual = files::MANUAL_10.to_vec();
     vec![
-        job("manual's section 10, 20,000 lines", files::MANUAL_10.to_vec(), program, manual),
-        job("40 macros for part texts, 2,000 lines", files::parts(), song, parts),
+        job(
+            "manual's section 10, 20,000 lines",
+            manual,
+            program,
+            "manual10.pl",
+            Some("manual10.sed"),
+        ),
+        job("40 macros for part texts, 2,000 lines", files::parts(), song, "parts.pl", None),
+    ]
+}
+
+/// An empty table: its check, the state's, and what a line costs that no macro looks at.
+fn every_call() -> Vec<Job> {
+    let job = |name: &str, line: &[u8]| {
+        plain(EVERY_CALL, name.to_string(), Vec::new(), vec![line.to_vec(); 1_000], 20)
+    };
+    vec![
+        job("an empty line to an empty table", b""),
+        job("a line of 1,054 bytes to an empty table", &[b'a'; 1054]),
     ]
 }
 
@@ -43,8 +88,7 @@ fn tables() -> Vec<Job> {
 fn traced() -> Vec<Job> {
     let job = |(flag, name, file, mut lines): (&str, &str, Vec<u8>, Vec<Vec<u8>>)| {
         lines.insert(0, flag.as_bytes().to_vec());
-        let (section, name) = ("Trace: `$TRACE 0` or `$TRACE 1`, then 499 lines", name.to_string());
-        Job { section, name: format!("{name}, `{flag}`"), file, lines, rounds: 7, perl: None }
+        plain("trace", format!("{name}, `{flag}`"), file, lines, 7)
     };
     let (manual, parts) = ("manual's section 10", "40 macros for part texts");
     let (program, song) = (files::program_lines(499), files::song_lines(499));
@@ -59,12 +103,11 @@ fn traced() -> Vec<Job> {
 
 /// One pass over 1,054 letters a, on most of which nothing matches.
 fn worst() -> Vec<Job> {
-    let section = "Worst patterns, one line of 1,054 `a`";
     let job = |(unit, last): (&str, &str)| {
         let (file, times) = files::full_macro(unit, last);
-        let perl = Some(files::perl_macro(unit, last, times));
         let name = format!("{times} times `{unit}`, then `{last}`");
-        Job { section, name, file, lines: vec![vec![b'a'; 1054]], rounds: 5, perl }
+        let perl = Some(files::perl_macro(unit, last, times));
+        Job { perl, ..plain("worst patterns", name, file, vec![vec![b'a'; 1054]], 5) }
     };
     let units = [
         ("a*-", "b"),
@@ -74,61 +117,47 @@ fn worst() -> Vec<Job> {
         ("?1*-", "\\n"),
         ("a*-", "[bc]"),
         ("a", "b"),
+        ("a*-^", "b"),
     ];
     units.into_iter().map(job).collect()
 }
 
+/// A line in which nothing occurs, fed over and over.
 fn lengths() -> Vec<Job> {
     let lyrics = |size: usize| -> Vec<u8> {
         let mut line: Vec<u8> = b"or us ni um ow ".iter().copied().cycle().take(size).collect();
         line.reverse();
         line
     };
-    let plain = |size: usize| Job {
-        section: "Line length: 39 macros for part texts, one line of lyrics, no occurrence",
-        name: format!("bytes: {size}"),
-        file: files::open_parts(),
-        lines: vec![lyrics(size)],
-        rounds: 200,
-        perl: None,
+    let job = |table, size: usize, file, line: Vec<u8>, times| {
+        let name = format!("bytes: {size}");
+        Job { at: Some(size as f64), ..plain(table, name, file, vec![line; times], 20) }
     };
-    let worst = |size: usize| Job {
-        section: "Line length: 168 times `a*-`, then `b`, one line of `a`",
-        name: format!("bytes: {size}"),
-        file: files::full_macro("a*-", "b").0,
-        lines: vec![vec![b'a'; size]],
-        rounds: 20,
-        perl: None,
+    let sizes = [0, 10, 100, 200, 400, 600, 800, 1000];
+    let usual = |size: &usize| job(BY_LENGTH, *size, files::open_parts(), lyrics(*size), 20);
+    let worst = |size: &usize| {
+        job(BY_LENGTH_WORST, *size, files::full_macro("a*-", "b").0, vec![b'a'; *size], 2)
     };
-    let sizes = [0, 10, 30, 100, 300, 1000];
-    sizes
-        .iter()
-        .map(|size| plain(*size))
-        .chain(sizes[1..].iter().map(|size| worst(*size)))
-        .collect()
+    sizes.iter().map(usual).chain(sizes.iter().map(worst)).collect()
 }
 
 fn macros() -> Vec<Job> {
     let table = read_file(&files::parts()).expect("the file is taken");
-    let job = |count: usize| Job {
-        section: "Number of macros: the newest of the 40, 340 song lines",
-        name: format!("macros: {count}"),
-        file: write_table(&table[40 - count..]).expect("it can be written"),
-        lines: files::song_lines(340),
-        rounds: 20,
-        perl: None,
+    let job = |count: usize| {
+        let file = write_table(&table[40 - count..]).expect("it can be written");
+        let name = format!("macros: {count}");
+        let at = Some(count as f64);
+        Job { at, ..plain(BY_MACROS, name, file, files::song_lines(340), 20) }
     };
-    [0, 1, 2, 5, 10, 20, 40].into_iter().map(job).collect()
+    [0, 1, 2, 5, 10, 15, 20, 25, 30, 35, 40].into_iter().map(job).collect()
 }
 
 fn lines() -> Vec<Job> {
-    let job = |count: usize| Job {
-        section: "Number of lines: manual's section 10",
-        name: format!("lines: {count}"),
-        file: files::MANUAL_10.to_vec(),
-        lines: files::program_lines(count),
-        rounds: (20_000 / count).clamp(5, 200),
-        perl: None,
+    let job = |count: usize| {
+        let (name, lines) = (format!("lines: {count}"), files::program_lines(count));
+        let rounds = (20_000 / count).clamp(5, 200);
+        let at = Some(count as f64);
+        Job { at, ..plain(BY_LINES, name, files::MANUAL_10.to_vec(), lines, rounds) }
     };
-    [1, 10, 100, 1_000, 10_000].into_iter().map(job).collect()
+    [1, 10, 100, 1_000, 2_000, 4_000, 6_000, 8_000, 10_000].into_iter().map(job).collect()
 }

@@ -7,5 +7,8 @@ pub mod form;
 pub mod jobs;
 pub mod lent;
 pub mod perl;
+pub mod picture;
+pub mod process;
+pub mod report;
 pub mod stored;
 pub mod trial;

@@ -1,6 +1,7 @@
 //! `m7-worst SEED COUNT` times single passes: chosen patterns of full length
 //! over lines of full length, then COUNT random ones and changes of the slowest
-//! of them. It prints milliseconds of the processor, the least of some runs.
+//! of them. It prints milliseconds of the processor, the least of some runs, and
+//! whether the slowest of all took more than a pass may take.
 
 use m7_archive::clock::used;
 use m7_archive::engine::{self, OUTPUT_BYTES, STATE_BYTES, TABLE_BYTES, TRACE_BYTES};
@@ -8,6 +9,8 @@ use m7_archive::files;
 use m7_reference::generate::Random;
 
 const LINE_BYTES: usize = 1054;
+/// No pass takes longer, in milliseconds.
+const MOST: f64 = 10.0;
 /// What a macro has besides its pattern: quotes, `<`, the replacement's quotes and `;`.
 const FRAME_BYTES: usize = 6;
 
@@ -148,7 +151,8 @@ fn changed(trial: &Trial, random: &mut Random) -> Trial {
     other
 }
 
-fn chosen(pass: &mut Pass) {
+/// The slowest of the chosen patterns.
+fn chosen(pass: &mut Pass) -> f64 {
     let long_class = format!("[{}a]*-", "bcdefghij".repeat(5));
     let long_not = format!("[~{}]*-", "bcdefghij".repeat(5));
     let run = format!("a*-{}", "a".repeat(100));
@@ -187,14 +191,18 @@ fn chosen(pass: &mut Pass) {
     ];
     let alike = |text: &[u8]| text.iter().copied().cycle().take(LINE_BYTES).collect::<Vec<u8>>();
     let lines = [("a", alike(b"a")), ("ab", alike(b"ab")), ("b", alike(b"b"))];
+    let mut most = pass.least(5, &files::nested_closures(), &lines[0].1);
+    println!("{most:9.3} ms  nested");
     for (unit, last) in two {
         let file = file_of(&vec![unit; 506], last);
         for (name, line) in &lines {
             let shown: String = unit.chars().take(20).collect();
-            println!("{:9.3} ms  {shown} .. {last}  on {name}", pass.least(5, &file, line));
+            let spent = pass.least(5, &file, line);
+            println!("{spent:9.3} ms  {shown} .. {last}  on {name}");
+            most = most.max(spent);
         }
     }
-    println!("{:9.3} ms  nested", pass.least(5, &files::nested_closures(), &lines[0].1));
+    most
 }
 
 fn main() {
@@ -206,7 +214,7 @@ fn main() {
         output: vec![0; OUTPUT_BYTES],
         trace: vec![0; TRACE_BYTES],
     };
-    chosen(&mut pass);
+    let slowest_chosen = chosen(&mut pass);
     let mut random = Random::new(seed);
     let (mut slowest, mut most) = (any_trial(&mut random), 0.0);
     for i in 0..count {
@@ -222,4 +230,7 @@ fn main() {
     println!("{again:9.3} ms  the slowest of {count} random ones ({most:.3} when it was found):");
     println!("{}", String::from_utf8_lossy(&file));
     println!("on {}", String::from_utf8_lossy(&slowest.line));
+    let all = slowest_chosen.max(again);
+    let says = if all <= MOST { "within" } else { "MORE THAN" };
+    println!("the slowest pass took {all:.3} ms, {says} the {MOST} ms that a pass may take");
 }

@@ -1,5 +1,5 @@
 // Whether bytes are a state (refusal 2).
-use form_bytes::all_zero;
+use form_bytes::all_zero_by_four;
 use form_bytes::number_at;
 ghost use mathlib.Core.Path.{_≡_};
 ghost use lib.ListN.{length};
@@ -66,7 +66,7 @@ fn stack_fits(stack: &[u8]) -> bool
     requires { ⌜ length (now stack) ≡ 1000 ⌝ }
     ensures { λ r. ⌜ r ≡ blocksCheck entryCheck 50 20 (now (stack .entry)) ⌝ }
 {
-    if all_zero(stack) {
+    if all_zero_by_four(stack) {
         return true;
     }
     each_fits(stack)

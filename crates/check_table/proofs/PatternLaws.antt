@@ -2,23 +2,26 @@
 use Prim.Native.Nat.{ℕ, zero, suc, _+_, _-_, _/_, _%_, _≤_, _<_}
 use mathlib.Core.Path.{_≡_, refl, sym, ap, _∙_}
 use mathlib.Core.Bool.{Bool, true, false, _&&_, _||_}
-use mathlib.Core.List.{[]}
+use mathlib.Core.List.{[], _∷_}
 use mathlib.Core.Option.{Option, none, some}
+use native.Mathlib.Nat.{add-zero}
 use native.Mathlib.Numerals.{add-one}
 use native.Mathlib.Omega.{arith}
-use borrow.Author.Tests.{eq-eqb, ne-eqb, lt-ltb, le-ltb, le-leb, lt-leb}
+use borrow.Author.Tests.{eq-eqb, ne-eqb, eqb-true, lt-ltb, le-ltb, le-leb, lt-leb, leb-true}
 use lib.Dec.{eqb, leb}
-use Rattle.macros.specs.Macro.{Closure, PatternUnit, pick, within, asciiLower}
+use Rattle.macros.specs.Macro.{Closure, PatternUnit, pick, among, within, asciiLower}
 use Rattle.macros.specs.Macro.Mark.{stack, counter}
 use Rattle.macros.specs.Macro.PatternUnit.{literal, kind, class, callOf}
+use Rattle.macros.specs.Read.{signs, kindDigit}
 use Rattle.form_table.specs.Walk.{given, bit}
-use Rattle.form_table.specs.PatternWalk.{Joint, Inside, PatternSpot, closureOf, closureLength, closureJoint, unitOf, literalLength, literalJoint, opening, elementAt, elementStep, signStep, pieceStep}
+use Rattle.form_table.specs.PatternWalk.{Joint, Inside, PatternSpot, joinsAt, closureOf, closureLength, closureJoint, unitOf, literalLength, literalJoint, opening, elementAt, elementStep, signStep, pieceStep}
 use Rattle.form_table.specs.PatternWalk.{owed, atStart, behindSingle, someMember, memberLength, memberSpot, memberStep}
-use Rattle.form_table.specs.PatternWalk.Joint.{loose}
+use Rattle.form_table.specs.PatternWalk.Joint.{loose, afterStar, afterQuery, afterMark}
 use Rattle.form_table.specs.PatternWalk.Inside.{atBracket, atTilde}
 use Rattle.form_table.specs.PatternWalk.PatternSpot.{behindPiece, inClass, inRange}
 use Rattle.form_table.specs.PatternWalk.PatternState.{patternAt}
 use Rattle.check_table.specs.PatternCode.{insideOf, closedJoint, ended}
+use Rattle.check_table.proofs.ByteLaws.{and-left, and-right}
 
 -- CLOSURES
 
@@ -178,6 +181,45 @@ module _ (n t d e : ℕ) (j : Joint) (c o : ℕ) where
   pub piece-sign : c ≤ 7 → o ≤ 0 → pieceStep n t d e j c o ≡ signStep n t d e c
   unfolding pieceStep pick
   piece-sign h g = simp (lt-ltb c 8 (omega arith), eq-eqb o 0 (omega arith))
+
+-- A LETTER
+
+module _ (o : ℕ) (a : 97 ≤ o) (b : o ≤ 122) where
+  letter-not : (k : ℕ) → k < 97 → eqb o k ≡ false
+  letter-not k h = ne-eqb o k (λ p. omega arith)
+
+  letter-sign : among (47 ∷ signs) o ≡ false
+  unfolding among signs
+  letter-sign = rw (letter-not 47 (omega arith), letter-not 39 (omega arith), letter-not 59 (omega arith), letter-not 10 (omega arith), letter-not 42 (omega arith), letter-not 92 (omega arith), letter-not 91 (omega arith), letter-not 94 (omega arith), letter-not 36 (omega arith), ne-eqb o 123 (λ p. omega arith), ne-eqb o 125 (λ p. omega arith)) refl
+
+  letter-joins : (j : Joint) → joinsAt j o ≡ false
+  unfolding joinsAt kindDigit within
+  letter-joins loose = refl
+  letter-joins afterStar = letter-not 45 (omega arith)
+  letter-joins afterQuery = rw (le-leb 49 o (omega arith), lt-leb o 54 (omega arith)) refl
+  letter-joins afterMark = letter-not 40 (omega arith)
+
+  letter-length : (j : Joint) → literalLength j o ≡ 1
+  unfolding literalLength bit
+  letter-length j = rw (letter-sign, letter-joins j) refl
+
+  letter-joint : literalJoint o ≡ loose
+  unfolding literalJoint pick
+  letter-joint = rw (letter-not 63 (omega arith), letter-not 38 (omega arith), letter-not 35 (omega arith)) refl
+
+  piece-letter : (n t d e : ℕ) (j : Joint) (c : ℕ) → c ≡ 8 → some (patternAt (suc n) t d (e + 1) (behindPiece loose)) ≡ pieceStep n t d e j c o
+  unfolding pieceStep pick closureOf elementStep elementAt closureLength closureJoint
+  piece-letter n t d e j c p = rw (p, literal-unit o (omega arith) (omega arith), letter-length j, letter-joint) (rw (add-one n, add-one e, add-zero (suc n)) refl)
+
+-- what the code tests
+pub piece-short : (n t d e : ℕ) (j : Joint) (c o : ℕ) (w : Bool) → w ≡ within 97 122 o → w && eqb c 8 ≡ true
+    → some (patternAt (suc n) t d (e + 1) (behindPiece loose)) ≡ pieceStep n t d e j c o
+unfolding within
+piece-short n t d e j c o w p q =
+    let h = sym p ∙ and-left w (eqb c 8) q in
+    let a = leb-true 97 o (and-left (leb 97 o) (leb o 122) h) in
+    let b = leb-true o 122 (and-right (leb 97 o) (leb o 122) h) in
+    piece-letter o a b n t d e j c (eqb-true c 8 (and-right w (eqb c 8) q))
 
 -- MEMBERS
 

@@ -1,5 +1,6 @@
 // 01, refusal 1: whether lent bytes are the form of an accepted table.
 use form_bytes::all_zero;
+use form_bytes::all_zero_by_four;
 use form_items::layout::BEFORE_AT;
 use form_items::layout::COMMANDS_AT;
 use form_items::layout::HEADER_BYTES;
@@ -85,7 +86,7 @@ pub fn is_table(table: &[u8]) -> bool
     while k < 96 {
         let at = 1024 * k;
         if table[at] == 0 {
-            return all_zero(&table[at..]);
+            return all_zero_by_four(&table[at..]);
         }
         if !slot_fits(&table[at..at + 1024]) {
             return false;

@@ -175,6 +175,7 @@ fn element_step(s: PatternState, j: Joint, u: u8, k: u8, o: u8) -> PatternNext
     }
 }
 
+// Behind a piece of one byte.
 fn behind_sign(n: u32, t: u8, d: u32, e: u32) -> PatternNext
     requires { ⌜ n ≤ 100000 ⌝ }
     ensures { λ r. ⌜ nextOf r ≡ some (patternAt (suc n) t d e (behindPiece loose)) ⌝ }
@@ -216,10 +217,17 @@ fn sign_step(s: PatternState, c: u8) -> PatternNext
     }
 }
 
+// The code of a literal without a closure.
+const LITERAL: u8 = 8;
+
+// A lower case letter needs no `\` and joins nothing: most items take this short way.
 fn piece_step(s: PatternState, j: Joint, c: u8, o: u8) -> PatternNext
     requires { ⌜ Room s ⌝ }
     ensures { λ r. ⌜ nextOf r ≡ pieceStep (s .spelled) (s .tags) (s .braces) (s .elements) (jointOf j) c o ⌝ }
 {
+    if bytes::is_within(97, 122, o) & (c == LITERAL) {
+        return behind_sign(s.spelled, s.tags, s.braces, s.elements + 1);
+    }
     if 7 < c {
         return element_step(s, j, c / 4, c % 4, o);
     }

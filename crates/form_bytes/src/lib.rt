@@ -1,6 +1,7 @@
 // A number in four bytes, low byte first: read and stored in lent bytes. Whether bytes are all 0.
 ghost use Prim.Native.Nat.{_+_, _≤_};
 ghost use mathlib.Core.Path.{_≡_};
+ghost use mathlib.Core.Bool.{_&&_};
 ghost use lib.ListN.{length};
 ghost use Rattle.form_bytes.specs.Fours.{numberAt, withNumber};
 ghost use Rattle.form_bytes.specs.Zeros.{allZero};
@@ -40,6 +41,30 @@ pub fn all_zero(s: &[u8]) -> bool
     while i < s.len() {
         all |= s[i];
         i += 1;
+    }
+    all == 0
+}
+
+// The answer of `all_zero`, for many bytes: four quarters side by side, and the at most three bytes behind them. The longer turn of the
+// loop takes the same time wherever the linker puts it; a short turn may take twice as long.
+pub fn all_zero_by_four(s: &[u8]) -> bool
+    ensures { λ r. ⌜ r ≡ allZero (now (s .entry)) ⌝ }
+{
+    let q = s.len() / 4;
+    let quarters = four_zero(&s[..q], &s[q..2 * q], &s[2 * q..3 * q], &s[3 * q..4 * q]);
+    quarters & all_zero(&s[4 * q..])
+}
+
+// Whether each byte of four parts of one length is 0.
+fn four_zero(a: &[u8], b: &[u8], c: &[u8], d: &[u8]) -> bool
+    requires { ⌜ (length (now b) ≡ length (now a)) × (length (now c) ≡ length (now a)) × (length (now d) ≡ length (now a)) ⌝ }
+    ensures { λ r. ⌜ r ≡ (allZero (now (a .entry)) && allZero (now (b .entry))) && (allZero (now (c .entry)) && allZero (now (d .entry))) ⌝ }
+{
+    let mut all: u8 = 0;
+    let mut k = 0;
+    while k < a.len() {
+        all |= (a[k] | b[k]) | (c[k] | d[k]);
+        k += 1;
     }
     all == 0
 }

@@ -14,7 +14,7 @@ use Rattle.macros.specs.Formed.{Octets}
 use Rattle.form_table.specs.Form.{tableBytes}
 use Rattle.form_table.specs.Check.{checks}
 use Rattle.form_table.proofs.Basics.{clash, and-left, and-right}
-use Rattle.form_table.proofs.Tables.{checkExact}
+use Rattle.form_table.proofs.Tables.{checkExact, formSize}
 use Rattle.lines.specs.Line.{Sent}
 use Rattle.lines.specs.Feeding.{Kind, numberOf, placeOf, kindNumber, feed}
 use Rattle.lines.specs.Feeding.{Answer as Answered}
@@ -22,7 +22,7 @@ use Rattle.lines.proofs.FeedKeeps.{feed-keeps}
 use Rattle.form_state.specs.Form.{stateBytes}
 use Rattle.form_state.specs.Check.{stateChecks}
 use Rattle.form_state.proofs.Decode.{state-check-exact}
-use Rattle.form_state.proofs.Held.{passed-is}
+use Rattle.form_state.proofs.Held.{passed-is, is-long}
 use Rattle.line_memory.specs.Memory.{Memories, Feeding, IsTable}
 use Rattle.line_feed.specs.Contract.{Untraced, Lent, Answers}
 use Rattle.line_answer.specs.Fed.{kindOf, passesOf, sizeOf}
@@ -65,6 +65,14 @@ module _ {a : Answered} {m m′ : Untraced} {r : Fed} (h : Answers a m m′ r) w
       ∙ ap (lineReply (numberOf (a .kind)) (placeOf (a .kind)) (a .passes) (kindNumber (a .kind))) (sym (h .size))
 
 -- THE CALL
+
+-- the form of a table and of a state have the sizes that the docs state
+pub lent-sized : (m : Memories) → Lent m → sizedToFeed m ≡ true
+unfolding sizedToFeed
+lent-sized m l =
+    let t = l .own .table in
+    let size : length (m .table) ≡ tableBytes = ap length (sym (t .1 .form)) ∙ formSize (t .0) (t .1 .accepted) .0 in
+    rw (eq-eqb _ _ size, eq-eqb _ _ (is-long (m .state) (l .own .state)), eq-eqb _ _ (l .own .room), eq-eqb _ _ (l .room)) refl
 
 -- the tests of the host's refusals
 record Tests (m : Memories) (sized table state : Bool) : Type 0 where
@@ -131,36 +139,37 @@ module _ (sent : Sent) (m : Memories) where
         lends : Lent m
         lends = record { own = record { table = some-table; state = passed-is (m .state) ob v; room = room }; room = traceRoom }
 
-        module _ {m′ : Memories} {r : Fed} (w : FeedsLine (record { sent = sent; lent = m; left = m′ }) r) where
-          small : Octets (sent .line) → Small r
-          small ol =
-              let s = some-table in
-              let u = passed-is (m .state) ob v in
-              let d = w .answers (s .0) (s .1) (u .0) (u .1) in
-              let keeps = feed-keeps (s .0) (u .0) sent (s .1 .accepted) (u .1 .inRange) ol in
-              let p : placeOf (kindOf r []) ≡ placeOf (feed (s .0) (u .0) sent .kind) = place-any r (m′ .output) ∙ ap placeOf (sym (d .kind)) in
-              record {
-                place = omega (arith, p, feed-place (s .0) (u .0) sent);
-                passes = omega (arith, d .passes, feed-passes (s .0) (u .0) sent (s .1 .accepted) (u .1 .inRange) ol);
-                size = omega (arith, d .size, keeps .fits);
-              }
+  -- a line that is fed to a table and a state: none of the host's refusals is due
+  module _ (l : Lent m) {m′ : Memories} {r : Fed} (w : FeedsLine (record { sent = sent; lent = m; left = m′ }) r) where
+    pub small : Octets (sent .line) → Small r
+    small ol =
+        let s = l .own .table in
+        let u = l .own .state in
+        let d = w .answers (s .0) (s .1) (u .0) (u .1) in
+        let keeps = feed-keeps (s .0) (u .0) sent (s .1 .accepted) (u .1 .inRange) ol in
+        let p : placeOf (kindOf r []) ≡ placeOf (feed (s .0) (u .0) sent .kind) = place-any r (m′ .output) ∙ ap placeOf (sym (d .kind)) in
+        record {
+          place = omega (arith, p, feed-place (s .0) (u .0) sent);
+          passes = omega (arith, d .passes, feed-passes (s .0) (u .0) sent (s .1 .accepted) (u .1 .inRange) ol);
+          size = omega (arith, d .size, keeps .fits);
+        }
 
-          feeds : {a : Answer} → a ≡ told r → Feeds (record { feeding = record { sent = sent; lent = m; left = m′ }; answer = a })
-          feeds e =
+    pub feeds : {a : Answer} → a ≡ told r → Feeds (record { feeding = record { sent = sent; lent = m; left = m′ }; answer = a })
+    feeds e =
+        record {
+          otherSize = λ y. clash (lent-sized m l) y;
+          noTable = λ y no. absurd (no (l .own .table .0) (l .own .table .1));
+          noState = λ y ms f no. absurd (no (l .own .state .0) (l .own .state .1));
+          fed = λ y ms f st s.
+              let d = w .answers ms f st s in
               record {
-                otherSize = λ y. clash all-sized y;
-                noTable = λ y no. let s = some-table in absurd (no (s .0) (s .1));
-                noState = λ y ms f no. let u = passed-is (m .state) ob v in absurd (no (u .0) (u .1));
-                fed = λ y ms f st s.
-                    let d = w .answers ms f st s in
-                    record {
-                      answers = e ∙ told-is d;
-                      tableHolds = d .table;
-                      stateHolds = d .state;
-                      outputHolds = d .output;
-                      traceHolds = w .traces ms f st s;
-                    };
-              }
+                answers = e ∙ told-is d;
+                tableHolds = d .table;
+                stateHolds = d .state;
+                outputHolds = d .output;
+                traceHolds = w .traces ms f st s;
+              };
+        }
 
   -- which refusal is due
   module _ {r : ℕ} (e : r ≡ hostRefusal m) (ot : Octets (m .table)) (ob : Octets (m .state)) where
@@ -193,10 +202,10 @@ module _ (sent : Sent) (m : Memories) where
 
       module _ {m′ : Memories} {f : Fed} (w : FeedsLine (record { sent = sent; lent = m; left = m′ }) f) where
         pub is-small : Octets (sent .line) → Small f
-        is-small ol = let z = none-due in small (z .sizes) ot (z .tables) ob (z .states) w ol
+        is-small ol = small lent w ol
 
         pub is-fed : {a : Answer} → a ≡ told f → Feeds (record { feeding = record { sent = sent; lent = m; left = m′ }; answer = a })
-        is-fed g = let z = none-due in feeds (z .sizes) ot (z .tables) ob (z .states) w g
+        is-fed g = feeds lent w g
 
 -- THE SIZES
 

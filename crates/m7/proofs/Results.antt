@@ -10,10 +10,11 @@ use mir.Val.{Fits}
 use lib.Dec.{eqb}
 use lib.ListN.{length, getD, replicate, length-replicate}
 use Rattle.macros.specs.Bounds.{mostFileBytes, mostMacros}
-use Rattle.macros.specs.Refusals.{number, place, hostNumber, fileNumber}
+use Rattle.macros.specs.Refusals.{FileRefusal, number, place, hostNumber, fileNumber}
+use Rattle.macros.specs.Refusals.FileRefusal.{fileTooLong, zeroByte, incomplete, badClass, noUnit, badBrace, badCall, noElement, macroTooLong, tooManyMacros}
 use Rattle.macros.specs.Macro.{Table, pick}
 use Rattle.macros.specs.Formed.{Octets}
-use Rattle.macros.specs.Read.{readFile, readOnto}
+use Rattle.macros.specs.Read.{Read, readFile, readOnto}
 use Rattle.macros.specs.ReadFile.Read.{refusedAt, table}
 use Rattle.macros.specs.Write.{Written, writeOut}
 use Rattle.macros.specs.Write.Written.{refused, file}
@@ -38,7 +39,7 @@ use Rattle.write_file.specs.Slots.{refusalOf, Holds}
 use Rattle.write_file.specs.declared.WritingFault.{WritingFault}
 use Rattle.write_file.specs.declared.Answer.{Answer as Writing}
 use Rattle.write_file.specs.declared.Answer.the-variants.{Written as WrittenOut, Refused as NotWritten}
-use Rattle.line_memory.specs.Memory.{padded}
+use Rattle.line_memory.specs.Memory.{IsTable, padded}
 use Rattle.line_memory.proofs.Copying.{padded-whole}
 use Rattle.line_answer.specs.declared.Answer.{Answer}
 use Rattle.line_answer.specs.Replies.{reply}
@@ -108,6 +109,29 @@ module _ (s z made : List ℕ) (r : Reading) (zeros : z ≡ replicate 98304 0) (
     pub read-refused : (old : List ℕ) {a : Answer} {k : ℕ} → length old ≡ tableBytes → k ≡ fileNumber (faultOf f) → a ≡ reply k q 0 → Gives (reads s old) a old
     unfolding readFile ofReading refuses number place
     read-refused old l g h = gives (reads-sized s old l ∙ ap (ofReading old) not-read) (h ∙ ap (λ (k : ℕ). reply k q 0) g) refl
+
+-- a call that is answered with 0 has made a table
+pub not-zero : (f : FileRefusal) → fileNumber f ≡ 0 → ⊥
+unfolding fileNumber
+not-zero fileTooLong e = omega arith
+not-zero zeroByte e = omega arith
+not-zero incomplete e = omega arith
+not-zero badClass e = omega arith
+not-zero noUnit e = omega arith
+not-zero badBrace e = omega arith
+not-zero badCall e = omega arith
+not-zero noElement e = omega arith
+not-zero macroTooLong e = omega arith
+not-zero tooManyMacros e = omega arith
+
+module _ (s old : List ℕ) (o : Octets s) {a : Answer} {b : List ℕ} (z : a .number ≡ 0) where
+  of-read : (w : Read) → readFile s ≡ w → Gives (ofReading old w) a b → (ms : Table) × IsTable b ms
+  unfolding readFile ofReading refuses takes reply number
+  of-read (refusedAt f p) e g = absurd (not-zero f (sym (ap (λ (x : Answer). x .number) (g .answers)) ∙ z))
+  of-read (table ms) e g = (ms, record { accepted = read-keeps [] s ms none-accepted o e .accepted; form = sym (g .holds) })
+
+  pub read-is-table : length old ≡ tableBytes → Gives (reads s old) a b → (ms : Table) × IsTable b ms
+  read-is-table l g = of-read (readFile s) refl (subst (λ (w : Result). Gives w a b) (reads-sized s old l) g)
 
 -- WRITING OUT
 

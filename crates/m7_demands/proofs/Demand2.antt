@@ -7,10 +7,9 @@ use native.Mathlib.Omega.{arith}
 use lib.ListN.{length, take, replicate}
 use lib.Seq.{take-append-seam}
 use Rattle.macros.specs.Bounds.{mostFileBytes}
-use Rattle.macros.specs.Refusals.{FileRefusal, number, hostNumber, fileNumber}
+use Rattle.macros.specs.Refusals.{number, hostNumber}
 use Rattle.macros.specs.Refusals.Refusal.{ofHost}
 use Rattle.macros.specs.Refusals.HostRefusal.{badMemory, badTable}
-use Rattle.macros.specs.Refusals.FileRefusal.{fileTooLong, zeroByte, incomplete, badClass, noUnit, badBrace, badCall, noElement, macroTooLong, tooManyMacros}
 use Rattle.macros.specs.Macro.{Table}
 use Rattle.macros.specs.Formed.{Octets}
 use Rattle.macros.specs.Write.{Written, writeOut}
@@ -26,7 +25,7 @@ use Rattle.line_memory.specs.Memory.{IsTable}
 use Rattle.m7.specs.Contract.{Result, Gives, refuses, takes, ofReading, reads, ofWriting, sized, Writes}
 use Rattle.m7_demands.specs.OneResult.{OneResult}
 use Rattle.m7_demands.specs.Demand2.{Back, Demand2}
-use Rattle.m7.proofs.Results.{reads-sized}
+use Rattle.m7.proofs.Results.{not-zero, reads-sized}
 
 -- bytes that do not pass the check are the form of no table
 no-form : (t : List ℕ) → Octets t → checks t ≡ false → (ms : Table) → IsTable t ms → ⊥
@@ -44,19 +43,6 @@ pub one-result : OneResult
 one-result t old o = of-tests t old o (sized t old) (checks t) refl refl
 
 -- DEMAND 2
-
-not-zero : (f : FileRefusal) → fileNumber f ≡ 0 → ⊥
-unfolding fileNumber
-not-zero fileTooLong e = omega arith
-not-zero zeroByte e = omega arith
-not-zero incomplete e = omega arith
-not-zero badClass e = omega arith
-not-zero noUnit e = omega arith
-not-zero badBrace e = omega arith
-not-zero badCall e = omega arith
-not-zero noElement e = omega arith
-not-zero macroTooLong e = omega arith
-not-zero tooManyMacros e = omega arith
 
 module _ (t old s new : List ℕ) (r : Answer) (z : r .number ≡ 0) (l : length new ≡ tableBytes) where
   number-of : {w : Result} → Gives w r s → w .answer .number ≡ 0

@@ -5,13 +5,13 @@ use mathlib.Core.Bool.{true, false}
 use mathlib.Core.List.{List, []}
 use native.Mathlib.Omega.{arith}
 use borrow.Author.Tests.{eq-eqb}
-use lib.ListN.{length, take, replicate, length-take}
+use lib.ListN.{length, take, replicate}
 use Rattle.program_in.specs.declared.Reading.{Reading}
 use Rattle.program_in.specs.Reading.{LineRead}
 use Rattle.lines.specs.State.{fresh}
 use Rattle.form_state.specs.Form.{stateForm}
 use Rattle.line_answer.specs.declared.Answer.{Answer}
-use Rattle.m7.specs.Contract.{Gives, reads, freshens, takes}
+use Rattle.m7.specs.Contract.{Gives, freshens, takes}
 use Rattle.macros.specs.Macro.{pick}
 use Rattle.program.specs.declared.parts.Parts.{Parts}
 use Rattle.program.specs.declared.parts.Parts.the-variants.{Table, Refused}
@@ -78,9 +78,6 @@ pub parts-refused : (n : ℕ) → 1 ≤ n → Refused n ≡ partsOf n
 unfolding partsOf
 parts-refused zero h = absurd (omega arith)
 parts-refused (suc n) h = refl
-
-pub file-read : {old new : List ℕ} {answer : Answer} (file : List ℕ) (size : ℕ) → size ≤ 32769 → (n : ℕ) → n ≡ answer .number → Gives (reads (take size file) old) answer new → FileRead old n new
-file-read {answer = answer} file size h n e g = record { file = take size file; most = omega (arith, length-take size file); answer = answer; read = g; same = e }
 
 -- THE FRESH STATE
 

@@ -1,3 +1,4 @@
+pub mod Held
 pub mod Lines
 pub mod Parts
 pub mod Run

@@ -3,6 +3,7 @@ ghost use mathlib.Core.Path.{_≡_};
 ghost use Prim.Native.Nat.{_+_, _≤_};
 ghost use lib.ListN.{length, take};
 ghost use Rattle.program.specs.Parts.{PartsRead, partsOf};
+ghost use Rattle.program.specs.Held.{Ready};
 
 // What became of the file: a table, or its refusal's number, 0 for a file that cannot be opened or read.
 pub(crate) enum Parts {
@@ -18,7 +19,9 @@ struct Got {
 
 // Reads the file as a table. One byte more than it may have is read, so that a longer one shows.
 pub(crate) fn read_parts(table: &mut [u8; 98304], name: &[u8]) -> Parts
+    requires { ⌜ length (now table) ≡ 98304 ⌝ }
     ensures { λ r. ⌜ PartsRead (now (table .entry)) r (now (table .exit)) ⌝ }
+    ensures { λ r. ⌜ Ready r (now (table .exit)) ⌝ }
 {
     let mut file: [u8; 32769] = [0; 32769];
     let got = find_file(&mut file, name);
@@ -26,7 +29,16 @@ pub(crate) fn read_parts(table: &mut [u8; 98304], name: &[u8]) -> Parts
     if got.failed {
         return Parts::Refused(0);
     }
-    let answer = m7::read::m7_read(&file[..size], table);
+    read_table(&file[..size], table)
+}
+
+// The table of a file's bytes.
+fn read_table(file: &[u8], table: &mut [u8]) -> Parts
+    requires { ⌜ (length (now file) ≤ 32769) × (length (now table) ≡ 98304) ⌝ }
+    ensures { λ r. ⌜ PartsRead (now (table .entry)) r (now (table .exit)) ⌝ }
+    ensures { λ r. ⌜ Ready r (now (table .exit)) ⌝ }
+{
+    let answer = m7::read::m7_read(file, table);
     parts_of(answer.number)
 }
 

@@ -4,11 +4,11 @@ use borrow.Author.Needs.{needs}
 use Rattle.check_state.proofs.stack_fits.Statement.{statement}
 use Rattle.check_state.proofs.stack_fits.Tie as tie
 
-all-zero-requires : tie.Need-all-zero-requires
-all-zero-requires c κs = search needs
+all-zero-by-four-requires : tie.Need-all-zero-by-four-requires
+all-zero-by-four-requires c κs = search needs
 
 returns : tie.Need-returns
-returns c = sym (zeros-pass 50 20 _ (sym (c .before .all-zero .ensures) ∙ c .if1 .taken))
+returns c = sym (zeros-pass 50 20 _ (sym (c .before .all-zero-by-four .ensures) ∙ c .if1 .taken))
 
 each-fits-requires : tie.Need-each-fits-requires
 each-fits-requires c κs = search needs
@@ -17,4 +17,4 @@ returns-2 : tie.Need-returns-2
 returns-2 c = c .each-fits .ensures
 
 pub stack-fits-spec : {M : Type 1} → statement M
-stack-fits-spec = tie.close (tie.spec all-zero-requires returns each-fits-requires returns-2)
+stack-fits-spec = tie.close (tie.spec all-zero-by-four-requires returns each-fits-requires returns-2)

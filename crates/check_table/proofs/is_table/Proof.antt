@@ -28,20 +28,20 @@ mul-at c = search needs
 shared-slice-read-if2 : tie.Need-shared-slice-read-if2 Inv-loop μ-loop
 shared-slice-read-if2 c = search needs
 
-sub-all-zero : tie.Need-sub-all-zero Inv-loop μ-loop
-sub-all-zero c = search needs
+sub-all-zero-by-four : tie.Need-sub-all-zero-by-four Inv-loop μ-loop
+sub-all-zero-by-four c = search needs
 
-part-all-zero-start : tie.Need-part-all-zero-start Inv-loop μ-loop
-part-all-zero-start c = search needs
+part-all-zero-by-four-start : tie.Need-part-all-zero-by-four-start Inv-loop μ-loop
+part-all-zero-by-four-start c = search needs
 
-part-all-zero-end : tie.Need-part-all-zero-end Inv-loop μ-loop
-part-all-zero-end c = search needs
+part-all-zero-by-four-end : tie.Need-part-all-zero-by-four-end Inv-loop μ-loop
+part-all-zero-by-four-end c = search needs
 
-all-zero-requires : tie.Need-all-zero-requires Inv-loop μ-loop
-all-zero-requires c κs = search needs
+all-zero-by-four-requires : tie.Need-all-zero-by-four-requires Inv-loop μ-loop
+all-zero-by-four-requires c κs = search needs
 
 returns-2 : tie.Need-returns-2 Inv-loop μ-loop
-returns-2 c = c .all-zero .ensures ∙ sym (checks-length _ (c .before .before .before .before .before .before .if1 .left) ∙ c .before .before .before .before .before .loop .inv .1 ∙ slots-unused _ _ (c .before .before .before .before .loop-test .taken) (c .before .before .if2 .taken))
+returns-2 c = c .all-zero-by-four .ensures ∙ sym (checks-length _ (c .before .before .before .before .before .before .if1 .left) ∙ c .before .before .before .before .before .loop .inv .1 ∙ slots-unused _ _ (c .before .before .before .before .loop-test .taken) (c .before .before .if2 .taken))
 
 add-slot-fits : tie.Need-add-slot-fits Inv-loop μ-loop
 add-slot-fits c = search needs
@@ -83,10 +83,10 @@ is-table-spec =
     loop-holds
     mul-at
     shared-slice-read-if2
-    sub-all-zero
-    part-all-zero-start
-    part-all-zero-end
-    all-zero-requires
+    sub-all-zero-by-four
+    part-all-zero-by-four-start
+    part-all-zero-by-four-end
+    all-zero-by-four-requires
     returns-2
     add-slot-fits
     sub-slot-fits

@@ -1,4 +1,5 @@
 use Rattle.program.proofs.Lines.{fresh-state, fresh-lines}
+use Rattle.program.proofs.Held.{fresh-sound}
 use lib.ListN.{replicate, length-replicate}
 use Prim.Native.Nat.{ℕ}
 use borrow.Author.Needs.{needs}
@@ -15,7 +16,7 @@ slice-aggregate-each-line : tie.Need-slice-aggregate-each-line
 slice-aggregate-each-line c = search needs
 
 each-line-requires : tie.Need-each-line-requires
-each-line-requires c κs = search needs
+each-line-requires c κs = fresh-sound (c .before .before .before .before .before .before .before .before .pre) (fresh-state (replicate {A = ℕ} 26236 0) (length-replicate {A = ℕ} 26236 0) (c .before .before .before .before .before .before .m7-fresh .ensures))
 
 returns : tie.Need-returns
 returns c = fresh-lines (fresh-state (replicate {A = ℕ} 26236 0) (length-replicate {A = ℕ} 26236 0) (c .before .before .before .before .before .before .before .before .m7-fresh .ensures)) (c .before .each-line .ensures)

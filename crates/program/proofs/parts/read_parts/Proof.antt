@@ -1,7 +1,7 @@
-use Rattle.program.proofs.Lines.{file-read, file-parts}
-use lib.ListN.{length-replicate}
+use lib.ListN.{length-take, length-replicate}
 use Prim.Native.Nat.{ℕ}
 use Rattle.program.specs.Parts.{PartsRead, Refuses}
+use Rattle.program.specs.Held.{Ready}
 use mathlib.Core.Path.{refl, sym}
 use native.Mathlib.Omega.{arith}
 use lib.Seq.{length-take-le}
@@ -16,23 +16,22 @@ find-file-requires : tie.Need-find-file-requires
 find-file-requires c κs = search needs
 
 returns : tie.Need-returns
-unfolding PartsRead Refuses
-returns c = refl
+unfolding PartsRead Refuses Ready
+returns c = (refl, tt)
 
 array-share-prefix-file : tie.Need-array-share-prefix-file
 array-share-prefix-file c = search needs
 
-slice-aggregate-m7-read : tie.Need-slice-aggregate-m7-read
-slice-aggregate-m7-read c = sym (length-take-le _ _ (omega arith))
+slice-aggregate-read-table : tie.Need-slice-aggregate-read-table
+slice-aggregate-read-table c = sym (length-take-le _ _ (omega arith))
 
-m7-read-requires : tie.Need-m7-read-requires
-m7-read-requires c κs = search needs
-
-parts-of-requires : tie.Need-parts-of-requires
-parts-of-requires c κs = search needs
+read-table-requires : tie.Need-read-table-requires
+read-table-requires c κs =
+    let found = c .before .before .before .before .find-file in
+    (omega (arith, length-take (found .result .size) (found .last .0), found .ensures, length-replicate {A = ℕ} 32769 0), c .before .before .before .before .before .before .before .pre)
 
 returns-2 : tie.Need-returns-2
-returns-2 c = rw (c .parts-of .ensures) (file-parts _ (file-read (c .before .before .before .before .before .before .find-file .last .0) (c .before .before .before .before .before .before .find-file .result .size) (omega (arith, c .before .before .before .before .before .before .find-file .ensures, length-replicate {A = ℕ} 32769 0)) _ refl (c .before .m7-read .ensures)))
+returns-2 c = c .read-table .ensures
 
 pub read-parts-spec : {M : Type 1} → statement M
 read-parts-spec =
@@ -42,7 +41,6 @@ read-parts-spec =
     find-file-requires
     returns
     array-share-prefix-file
-    slice-aggregate-m7-read
-    m7-read-requires
-    parts-of-requires
+    slice-aggregate-read-table
+    read-table-requires
     returns-2)
