@@ -80,7 +80,7 @@ module _ {s kinds t b new marks flags : List ℕ} {k : ℕ} (y : PassLent s kind
 
     -- the places are tried
     module _ {n : ℕ} (e : o ≡ Made n) {b₂ new₂ marks₂ : List ℕ} where
-      comes-so : (r : Passed) → ((m : Macro) → IsSlot s m → (st : State) → Holds b₁ st → PassedTo t b₂ new₂ r m st)
+      comes-so : (r : Passed) → ((m : Macro) → IsSlot s m → (st : State) → Holds b₁ st → PassedTo t b₁ b₂ new new₂ r m st)
           → (x : Macro) → IsSlot s x → (begun : List ℕ) → Begun flags begun → (st : State) → Holds b st
           → PassComes (record { state = b₂; new = new₂; marks = marks₂; flags = fl₁ }) r (passOf begun (record { number = k; macro = x }) t st)
       unfolding passOf passBehind
@@ -89,8 +89,8 @@ module _ {s kinds t b new marks flags : List ℕ} {k : ℕ} (y : PassLent s kind
           let z = c x h (u .0 .state) (u .2) in
           rw (u .1) (record { moment = (z .moment .0, z .moment .1, held r z); says = z .says })
         where
-          held : (r : Passed) {m : Macro} {st : State} (z : PassedTo t b₂ new₂ r m st) → MomentOf r (record { state = b₂; new = new₂; marks = marks₂; flags = fl₁ }) (z .moment .0)
-          held (Over o n) z = z .moment .2
+          held : (r : Passed) {m : Macro} {st : State} (z : PassedTo t b₁ b₂ new new₂ r m st) → MomentOf r (record { state = b₂; new = new₂; marks = marks₂; flags = fl₁ }) (z .moment .0)
+          held (Over o n) z = record { state = z .moment .2 .state; line = z .moment .2 .line }
           held (PassRefused f n) z = tt
 
       pub runs-places : {r : Passed} → Passes s t b₁ b₂ new new₂ marks marks₂ r

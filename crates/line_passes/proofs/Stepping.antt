@@ -246,7 +246,7 @@ module _ {g : Given} {m : Memories} {a : Stand} (y : Ready g m a) where
                     goes = record {
                       comes = λ whole ms h l s.
                           let u = passed .comes (slot-of ms h l .macro) (is-slot ms h l) (s .begun) (s .begins) (s .state) (s .holds) in
-                          pass-cut ms whole g m h a s plain (omega (arith, y .due, l)) k opened (slot-of ms h l) room (u .moment .0) (u .moment .1) (sym (u .says) ∙ j) (take n nw′) (u .moment .2 .line)
+                          pass-cut ms whole g m h a s plain (omega (arith, y .due, l)) k opened (slot-of ms h l) room (u .moment .0) (u .moment .1) (sym (u .says) ∙ j) (take n nw′) (u .moment .2 .line j)
                           (over .asked) (over .full) (y .trace (over .asked) .inside);
                       lies = tt;
                       untraced = λ f. absurd (false≢true (sym f ∙ over .asked));
@@ -284,7 +284,7 @@ module _ {g : Given} {m : Memories} {a : Stand} (y : Ready g m a) where
                           table = y .table;
                           kinds = y .kinds;
                           state = after;
-                          bytes = subst Bytes (here .moment .2 .line ∙ sym front)
+                          bytes = subst Bytes (here .moment .2 .line j ∙ sym front)
                               (new-bytes (y .begins .0) _ (take (a .size) (m .text)) (y .state .0) (here .moment .0) (here .moment .1)
                               (slot-of (y .table .macros) (y .table .isTable) (y .table .counted) .spellable .0) (y .bytes) (y .state .1 .inRange));
                           text = same ∙ y .text;
@@ -302,7 +302,7 @@ module _ {g : Given} {m : Memories} {a : Stand} (y : Ready g m a) where
                         λ whole ms h l s.
                             let u = passed .comes (slot-of ms h l .macro) (is-slot ms h l) (s .begun) (s .begins) (s .state) (s .holds) in
                             pass-some ms whole g m h a s plain (omega (arith, y .due, l)) k opened (slot-of ms h l) room (u .moment .0) (u .moment .1) _ (u .moment .2 .state) (sym (u .says) ∙ j) n (g .count) (goes-on-so .written)
-                            (take n nw′) (u .moment .2 .line) (sym front) flag-there (goes-on-so .closed ∙ ap (λ (l : List ℕ). closedFlags l (getD (g .table) (slotBytes * k) 0) k) (p .flags))
+                            (take n nw′) (u .moment .2 .line j) (sym front) flag-there (goes-on-so .closed ∙ ap (λ (l : List ℕ). closedFlags l (getD (g .table) (slotBytes * k) 0) k) (p .flags))
                             (omega (arith, begun-size (m .flags) k, flag-there)) l (y .trace) (goes-on-so .traces),
                         λ f. goes-on-so .untraced f .0,
                       );

@@ -1,17 +1,18 @@
 -- What a pass of a macro promises, with how it begins (01, part 6; 02, N2).
 use Prim.Native.Nat.{ℕ, _≤_, _<_}
 use mathlib.Core.Path.{_≡_}
+use mathlib.Core.Bool.{Bool, true}
 use mathlib.Core.List.{List}
-use lib.ListN.{length}
+use lib.ListN.{length, take}
 use Rattle.macros.specs.Bounds.{mostMacros, mostLineBytes}
 use Rattle.macros.specs.Macro.{Macro}
 use Rattle.lines.specs.State.{State}
 use Rattle.lines.specs.Replacing.{Work}
 use Rattle.lines.specs.Pass.{occurred, outcome}
-use Rattle.lines.specs.Line.{Pass, isIn, prepares, passOf}
+use Rattle.lines.specs.Line.{Pass, isIn, prepares, passOf, textOf}
 use Rattle.form_state.specs.Access.{Holds}
 use Rattle.refusals.specs.declared.Outcome.{Outcome}
-use Rattle.pass_replace.specs.Contract.{IsSlot, IsMoment, Prepared, doneOf}
+use Rattle.pass_replace.specs.Contract.{IsSlot, Prepared, doneOf}
 use Rattle.pass_moment.specs.declared.Passed.{Passed}
 use Rattle.pass_moment.specs.declared.Passed.the-variants.{Over, Refused}
 use Rattle.pass_one.specs.Contract.{Lent, SaysOccurred, sizeOf, doneOf as passedOf}
@@ -47,9 +48,14 @@ pub record PassLent (s kinds t b new marks bytes : List ℕ) (k : ℕ) : Type 0 
   pub flags : length bytes ≡ mostMacros
   pub begins : (begun : List ℕ) × Begun bytes begun
 
+-- the state after a pass, and the new line of n bytes, if it had an occurrence
+pub record Leaves (o : Bool) (n : ℕ) (m : Tried) (v : Work) : Type 0 where
+  pub state : Holds (m .state) (v .state)
+  pub line : o ≡ true → textOf v ≡ take n (m .new)
+
 -- the moment that a pass leaves; of a refused one nothing is said
 abbrev pub MomentOf : Passed → Tried → Work → Type 0
-MomentOf (Over o n) m v = IsMoment (m .new) (m .state) n v
+MomentOf (Over o n) m v = Leaves o n m v
 MomentOf (Refused f n) m v = Unit {0}
 
 -- the pass x of the history

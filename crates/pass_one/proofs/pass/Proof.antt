@@ -2,76 +2,76 @@ use Prim.Native.Nat.{ℕ}
 use mathlib.Core.Path.{refl, sym, _∙_}
 use native.Mathlib.Omega.{arith}
 use lib.ListN.{length-replicate}
-use Rattle.form_state.proofs.Held.{is-long}
-use Rattle.pass_one.proofs.CallLaws.{pattern-letters, seen-none, seen-self}
+use Rattle.pass_one.specs.Contract.{marksBytes}
+use Rattle.pass_one.proofs.GoingLaws.{zero-rows, ready-first, walking, pass-free, passes-from}
 use Rattle.pass_one.proofs.pass.Statement.{statement}
 use Rattle.pass_one.proofs.pass.Tie as tie
 
 items-of-requires : tie.Need-items-of-requires
 items-of-requires c κs = c .before .before .before .before .before .pre .macro
 
-has-calls-requires : tie.Need-has-calls-requires
-has-calls-requires c κs = let y = c .before .before .before .before .before .before .pre in let i = c .items-of .ensures in (pattern-letters _ (y .macro .0 .pattern) (i .pattern (y .macro .0) (y .macro .1)), i .fits)
+slice-aggregate-first-match : tie.Need-slice-aggregate-first-match
+slice-aggregate-first-match c = sym (length-replicate {A = ℕ} 1014 0)
 
-slice-aggregate-copy-state : tie.Need-slice-aggregate-copy-state
-slice-aggregate-copy-state c = sym (length-replicate {A = ℕ} 26236 0)
+first-match-requires : tie.Need-first-match-requires
+first-match-requires c κs = ready-first _ _ _ _ _ _ _ (c .before .before .before .before .before .before .before .before .before .pre) (c .before .before .before .items-of .ensures)
 
-copy-state-requires : tie.Need-copy-state-requires
-copy-state-requires c κs = is-long _ (c .before .before .before .before .before .before .before .before .before .before .pre .state) ∙ sym (length-replicate {A = ℕ} 26236 0)
+enum-known-found : tie.Need-enum-known-found
+enum-known-found c = c .match .keys1
 
-slice-aggregate-walk : tie.Need-slice-aggregate-walk
-slice-aggregate-walk c = sym (c .before .before .before .before .before .copy-state .kept .1 .0 ∙ length-replicate {A = ℕ} 26236 0)
+enum-told : tie.Need-enum-told
+enum-told c = c .match .keys2
 
-walk-requires : tie.Need-walk-requires
-walk-requires c κs = let y = c .before .before .before .before .before .before .before .before .before .before .before .before .before .before .before .before .pre in let i = c .before .before .before .before .before .before .before .before .before .before .items-of .ensures in (y, i, seen-self _ _ _ (y .macro .0 .pattern) (i .pattern (y .macro .0) (y .macro .1)) (y .state) (omega (arith, c .before .before .before .before .before .copy-state .kept .1 .0, length-replicate {A = ℕ} 26236 0)) (c .before .before .before .before .before .copy-state .ensures))
+mul-clear : tie.Need-mul-clear
+mul-clear c = omega (arith, c .before .before .before .before .before .before .before .before .before .before .items-of .ensures .fits)
+
+clear-requires : tie.Need-clear-requires
+clear-requires c κs = omega (arith, c .before .before .before .before .before .before .before .before .before .before .items-of .ensures .fits, c .before .before .before .before .before .before .first-match .kept .1 .1 .1 .1 .0, zero-rows _ marksBytes (c .before .before .before .before .before .before .before .before .before .before .before .before .before .before .before .before .pre .clear))
 
 same-length : tie.Need-same-length
-same-length c = c .before .before .before .before .before .before .before .walk .kept .1 .1 .1 .1 .0
+same-length c = refl
 
 same-length-2 : tie.Need-same-length-2
-same-length-2 c = c .before .before .before .before .before .before .before .walk .kept .1 .1 .1 .1 .1 .0
-
-same-length-3 : tie.Need-same-length-3
-same-length-3 c = c .before .before .before .before .before .before .before .walk .kept .1 .1 .1 .1 .1 .1 .0
+same-length-2 c = c .before .before .clear .kept .0 ∙ c .before .before .before .before .before .before .before .before .before .first-match .kept .1 .1 .1 .1 .0
 
 returns : tie.Need-returns
-returns c = c .before .before .before .before .before .before .before .walk .ensures
+returns c = pass-free _ _ _ _ _ _ _ (c .before .before .before .before .before .before .before .before .before .before .before .before .before .before .before .before .before .before .before .pre) (c .before .before .before .before .before .before .before .before .before .before .before .before .before .items-of .ensures) _ _ _ (c .before .before .before .before .before .before .before .before .before .first-match .ensures) (c .before .before .before .before .enum-told .given .1) _ (c .before .before .clear .ensures)
 
-slice-aggregate-walk-2 : tie.Need-slice-aggregate-walk-2
-slice-aggregate-walk-2 c = refl
+slice-aggregate-matched : tie.Need-slice-aggregate-matched
+slice-aggregate-matched c = sym (c .before .before .before .before .before .before .before .before .before .before .first-match .kept .1 .1 .1 .1 .1 .0 ∙ length-replicate {A = ℕ} 1014 0)
 
-walk-requires-2 : tie.Need-walk-requires-2
-walk-requires-2 c κs = (c .before .before .before .before .before .before .before .before .before .before .before .before .pre, c .before .before .before .before .before .before .items-of .ensures, seen-none _ _ (c .before .before .before .before .before .has-calls .ensures (c .before .before .before .before .if1 .left)))
+matched-requires : tie.Need-matched-requires
+matched-requires c κs = walking _ _ _ _ _ _ _ (c .before .before .before .before .before .before .before .before .before .before .before .before .before .before .before .before .before .before .before .before .pre) (c .before .before .before .before .before .before .before .before .before .before .before .before .before .before .items-of .ensures) _ _ _ (c .before .before .before .before .before .before .before .before .before .before .first-match .ensures) _ _ (c .before .before .before .before .before .found .given .1) (c .before .before .before .before .before .before .before .before .before .before .first-match .kept .1 .1 .1 .1 .0) (c .before .before .before .before .before .before .before .before .before .before .first-match .kept .1 .1 .1 .1 .1 .0 ∙ length-replicate {A = ℕ} 1014 0)
+
+same-length-3 : tie.Need-same-length-3
+same-length-3 c = c .before .before .before .before .before .before .before .matched .kept .1 .1 .1 .1 .1 .1 .0
 
 same-length-4 : tie.Need-same-length-4
-same-length-4 c = c .before .before .before .before .before .before .before .walk2 .kept .1 .1 .1 .1 .0
+same-length-4 c = c .before .before .before .before .before .before .before .matched .kept .1 .1 .1 .1 .1 .1 .1 .0
 
 same-length-5 : tie.Need-same-length-5
-same-length-5 c = c .before .before .before .before .before .before .before .walk2 .kept .1 .1 .1 .1 .1 .0
-
-same-length-6 : tie.Need-same-length-6
-same-length-6 c = c .before .before .before .before .before .before .before .walk2 .kept .1 .1 .1 .1 .1 .1 .0
+same-length-5 c = c .before .before .before .before .before .before .before .matched .kept .1 .1 .1 .1 .1 .1 .1 .1 .0 ∙ c .before .before .before .before .before .before .before .before .before .before .before .before .before .before .before .before .before .before .first-match .kept .1 .1 .1 .1 .0
 
 returns-2 : tie.Need-returns-2
-returns-2 c = c .before .before .before .before .before .before .before .walk2 .ensures
+returns-2 c = passes-from _ _ _ _ _ _ _ _ _ (c .before .before .before .before .before .before .before .before .before .before .before .before .before .before .before .before .before .before .before .before .before .before .before .before .before .before .before .before .pre .clear) (c .before .before .before .before .before .before .before .matched .ensures)
 
 pub pass-spec : {M : Type 1} → statement M
 pass-spec =
     tie.close
     (tie.spec
     items-of-requires
-    has-calls-requires
-    slice-aggregate-copy-state
-    copy-state-requires
-    slice-aggregate-walk
-    walk-requires
+    slice-aggregate-first-match
+    first-match-requires
+    enum-known-found
+    enum-told
+    mul-clear
+    clear-requires
     same-length
     same-length-2
-    same-length-3
     returns
-    slice-aggregate-walk-2
-    walk-requires-2
+    slice-aggregate-matched
+    matched-requires
+    same-length-3
     same-length-4
     same-length-5
-    same-length-6
     returns-2)
