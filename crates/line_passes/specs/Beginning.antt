@@ -34,16 +34,15 @@ pub record MacroPrepares (s b b′ bytes bytes′ : List ℕ) (k : ℕ) (r : Out
 
 -- A PASS
 
--- what it changes: the state, the new line, the marks and the macros' bytes
+-- what it changes: the state, the new line and the macros' bytes
 pub record Tried : Type 0 where
   pub state : List ℕ
   pub new : List ℕ
-  pub marks : List ℕ
   pub flags : List ℕ
 
 -- what is lent for a pass of the macro k
-pub record PassLent (s kinds t b new marks bytes : List ℕ) (k : ℕ) : Type 0 where
-  pub pass : Lent s kinds t b new marks
+pub record PassLent (s kinds present t b new bytes : List ℕ) (k : ℕ) : Type 0 where
+  pub pass : Lent s kinds present t b new
   pub few : k < mostMacros
   pub flags : length bytes ≡ mostMacros
   pub begins : (begun : List ℕ) × Begun bytes begun
@@ -63,10 +62,9 @@ pub record PassComes (m : Tried) (r : Passed) (x : Pass) : Type 0 where
   pub moment : (v : Work) × (outcome (x .events) ≡ passedOf r v) × MomentOf r m v
   pub says : SaysOccurred r (occurred (x .events))
 
--- it is that of the definition, begun by the macros that passed before; the marks are all zero again, and the macro has begun
+-- it is that of the definition, begun by the macros that passed before; the macro has begun
 pub record PassRuns (s t : List ℕ) (m m′ : Tried) (k : ℕ) (r : Passed) : Type 0 where
   pub comes : (x : Macro) → IsSlot s x → (begun : List ℕ) → Begun (m .flags) begun → (st : State) → Holds (m .state) st
       → PassComes m′ r (passOf begun (record { number = k; macro = x }) t st)
   pub within : sizeOf r ≤ mostLineBytes
-  pub cleared : m′ .marks ≡ m .marks
   pub flags : m′ .flags ≡ begunFlags (m .flags) k

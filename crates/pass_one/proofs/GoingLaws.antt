@@ -1,5 +1,5 @@
 -- The walk over all places: what holds before each, and what it comes to.
-use Prim.Native.Nat.{ℕ, _+_, _*_, _≤_, _<_}
+use Prim.Native.Nat.{ℕ, zero, suc, _+_, _*_, _≤_, _<_}
 use mathlib.Core.Path.{_≡_, refl, sym, ap, _∙_, subst}
 use mathlib.Core.Bool.{Bool, true, false, false≢true}
 use mathlib.Core.List.{List, _++_}
@@ -24,29 +24,21 @@ use Rattle.pass_one.specs.declared.Found.the-variants.{Matched, NoMatch}
 use Rattle.pass_one.specs.declared.walking.First.{First}
 use Rattle.pass_one.specs.declared.walking.First.the-variants.{At, Nowhere}
 use Rattle.pass_moment.specs.declared.Moment.{Moment}
-use Rattle.pass_one.specs.Contract.{marksBytes, zeroMarks, Lent, HeldBy, Passes, sizeOf}
+use Rattle.pass_one.specs.Contract.{rowsBytes, Lent, HeldBy, Passes, sizeOf}
 use Rattle.pass_moment.specs.declared.Refusal.{Refusal}
 use Rattle.pass_moment.specs.declared.Refusal.the-variants.{NotRefused, RefusedBy}
-use Rattle.pass_marks.specs.Marks.{cleared}
-use Rattle.pass_marks.proofs.MarkLaws.{zero-again}
+use Rattle.pass_one.specs.Lacking.{flagsOf, SomeAbsent}
 use Rattle.pass_one.specs.Marks.{Sound}
 use Rattle.pass_one.specs.Finding.{IsPattern, Ready, Differs, LastPlace, Finds}
 use Rattle.pass_one.specs.Trying.{Tried}
 use Rattle.pass_one.specs.Seen.{Seen}
 use Rattle.pass_moment.specs.Moments.{pastPlaces, startAt, Starts, StepsOver, answerOf, passedOf}
-use Rattle.pass_one.specs.Places.{matchAt, ItemsOf, AtPlace, Makes, Goes, GoesBy, NoneBelow, Searches, Walking, Origin, Came, Reached, Going}
+use Rattle.pass_one.specs.Places.{matchAt, ItemsOf, ToTry, AtPlace, Makes, Goes, GoesBy, NoneBelow, Searches, Walking, Origin, Came, Reached, Going}
 use Rattle.pass_one.proofs.MarkLaws.{sound-zero}
+use Rattle.pass_one.proofs.LackLaws.{absent-none}
 use Rattle.pass_one.proofs.FindLaws.{find-first, tried-none}
 use Rattle.pass_one.proofs.MomentLaws.{below-or, pass-starts, pass-none, pass-goes-on}
 use Rattle.pass_one.proofs.PlaceLaws.{drop-on, finds-none, goes-free, makes}
-
--- THE MARKS, at the start and at the end, AND THE ENDS at the start
-
-pub zero-rows : (marks : List ℕ) (n : ℕ) → marks ≡ replicate n 0 → length marks ≡ n
-zero-rows marks n e = ap length e ∙ length-replicate {A = ℕ} n 0
-
-zero-sound : (items b t marks : List ℕ) (n : ℕ) → marks ≡ replicate n 0 → Sound items b t marks
-zero-sound items b t marks n e = sound-zero items b t marks (λ i h. ap (λ (l : List ℕ). getD l i 0) e ∙ zeros n i)
 
 -- THE LOOP
 
@@ -59,9 +51,6 @@ size-is (RefusedBy f) had n = refl
 held-by : (b b′ out out′ : List ℕ) (f : Refusal) (o : Bool) (n : ℕ) (v : Work) → IsMoment out′ b′ n v → o ≡ true → HeldBy b b′ out out′ (answerOf f o n) v
 held-by b b′ out out′ NotRefused o n v x e = record { size = x .size; state = x .state; line = λ j. x .line; still = λ j. absurd (false≢true (sym j ∙ e)) }
 held-by b b′ out out′ (RefusedBy f) o n v x e = x
-
-cleared-again : (items marks marks′ : List ℕ) → length items ≤ bodyBytes → drop (66 * length items) marks ≡ drop (66 * length items) zeroMarks → marks′ ≡ cleared marks (66 * length items) → marks′ ≡ zeroMarks
-cleared-again items marks marks′ l o e = e ∙ ap (λ (x : List ℕ). replicate (66 * length items) 0 ++ x) o ∙ zero-again (66 * length items) marksBytes (omega arith)
 
 -- none is found where no division begins
 none-at : (items b t : List ℕ) (m : Macro) (st : State) (p i : ℕ) → NoneBelow items b t p → IsPattern items (m .pattern) → Holds b st → i < p → i ≤ length t → matchAt m t pastPlaces i (startIn st) ≡ none
@@ -168,10 +157,10 @@ module _ (s items kinds t : List ℕ) (h : Origin) (y : Came s items kinds t h) 
             }
 
     -- past the last place
-    pub pass-done : length t < a .place → a .occurred ≡ true → (marks′ : List ℕ) → marks′ ≡ cleared marks (66 * length items) → (r : Passed) → r ≡ passedOf a → Passes s t (h .state) b (h .out) out zeroMarks marks′ r
-    pass-done l had marks′ e r k =
+    pub pass-done : length t < a .place → a .occurred ≡ true → (r : Passed) → r ≡ passedOf a → Passes s t (h .state) b (h .out) out r
+    pass-done l had r k =
         let z : sizeOf (passedOf a) ≡ a .size = size-is (a .refusal) (a .occurred) (a .size) in
-        subst (Passes s t (h .state) b (h .out) out zeroMarks marks′) (sym k)
+        subst (Passes s t (h .state) b (h .out) out) (sym k)
         (record {
           comes = λ m i st x.
               let u = g .reached m i st x in
@@ -179,7 +168,6 @@ module _ (s items kinds t : List ℕ) (h : Origin) (y : Came s items kinds t h) 
               record { moment = (u .work, o .0, held-by (h .state) b (h .out) out (a .refusal) (a .occurred) (a .size) (u .work) (u .moment) had); says = o .1 };
           past = subst (λ (j : ℕ). drop j out ≡ drop j (h .out)) (sym z) (g .past);
           within = subst (λ (j : ℕ). j ≤ mostLineBytes) (sym z) (g .size);
-          cleared = cleared-again items marks marks′ (y .pattern .fits) (g .outside ∙ y .outside) e;
         })
 
 module _ (s items kinds t : List ℕ) (h : Origin) (y : Came s items kinds t h) (sn : Seen items (h .seen) (h .state)) (out : List ℕ) (a : Moment) (k : Starts t (h .out) out (h .place) a) (lo : length out ≡ length (h .out)) where
@@ -272,22 +260,44 @@ module _ (items kinds t b marks ends : List ℕ) (y : Ready items kinds b t 0 ma
 
 -- A PASS
 
-pub passes-from : (s t b b′ out out′ marks marks′ : List ℕ) (r : Passed) → marks ≡ zeroMarks → Passes s t b b′ out out′ zeroMarks marks′ r → Passes s t b b′ out out′ marks marks′ r
-passes-from s t b b′ out out′ marks marks′ r e p = record { comes = p .comes; past = p .past; within = p .within; cleared = p .cleared ∙ sym e }
+zeros-front : (n i k : ℕ) → _≡_ {A = ℕ} (getD (take k (replicate {A = ℕ} n 0)) i 0) 0
+zeros-front zero i zero = refl
+zeros-front zero i (suc k) = refl
+zeros-front (suc n) i zero = refl
+zeros-front (suc n) zero (suc k) = refl
+zeros-front (suc n) (suc i) (suc k) = zeros-front n i k
 
-module _ (s kinds t b out marks items : List ℕ) (y : Lent s kinds t b out marks) (is : ItemsOf s items) where
+-- no match at any place: nothing changes
+free : (s items t b out : List ℕ) → ItemsOf s items → length t ≤ mostLineBytes → NoneBelow items b t (length t + 1) → Passes s t b b out out (Over false (length t))
+free s items t b out is short n =
+    record {
+      comes = λ m i st h.
+          let u = pass-none m t st short (λ j l. none-at items b t m st (length t + 1) j n (is .pattern m i) h (omega arith) l) in
+          record {
+            moment = (
+              u .0,
+              u .2,
+              record { size = u .1 .size; state = subst (Holds b) (sym (u .1 .state)) h; line = λ j. absurd (false≢true j); still = λ j. (refl, refl) },
+            );
+            says = sym (u .3);
+          };
+      past = refl;
+      within = short;
+    }
+
+module _ (s items kinds t b out marks : List ℕ) (y : ToTry s items kinds t b out marks) where
   pub ready-first : Ready items kinds b t 0 marks (replicate 1014 0)
   ready-first = record {
-    pattern = (y .macro .0 .pattern, is .pattern (y .macro .0) (y .macro .1));
-    fits = is .fits;
+    pattern = (y .macro .0 .pattern, y .pattern .pattern (y .macro .0) (y .macro .1));
+    fits = y .pattern .fits;
     table = y .table;
     state = y .state;
     short = y .short;
     place = omega arith;
-    size = zero-rows marks marksBytes (y .clear);
+    size = y .rows;
     count = length-replicate {A = ℕ} 1014 0;
     inside = λ i. omega (arith, zeros 1014 i);
-    sound = zero-sound items b t marks marksBytes (y .clear);
+    sound = sound-zero items b t marks (λ i l. y .zero i);
   }
 
   module _ (marks′ ends : List ℕ) (r : First) (z : Searches items b t marks marks′ ends r) where
@@ -296,34 +306,38 @@ module _ (s kinds t b out marks items : List ℕ) (y : Lent s kinds t b out mark
         let z₂ = subst (Searches items b t marks marks′ ends) e z in
         record {
           macro = y .macro;
-          pattern = is;
+          pattern = y .pattern;
           table = y .table;
           bytes = y .bytes;
           short = y .short;
           state = y .state;
           room = y .room;
-          rows = lm ∙ zero-rows marks marksBytes (y .clear);
-          outside = z .outside ∙ ap (drop (66 * length items)) (y .clear);
+          rows = lm ∙ y .rows;
           count = le;
           first = z₂ .first;
         }
 
     -- nothing changes
-    pub pass-free : r ≡ Nowhere → (marks″ : List ℕ) → marks″ ≡ cleared marks′ (66 * length items) → Passes s t b b out out marks marks″ (Over false (length t))
-    pass-free e marks″ k =
-        let z₂ = subst (Searches items b t marks marks′ ends) e z in
-        record {
-          comes = λ m i st h.
-              let u = pass-none m t st (y .short) (λ j l. none-at items b t m st (length t + 1) j (z₂ .first) (is .pattern m i) h (omega arith) l) in
-              record {
-                moment = (
-                  u .0,
-                  u .2,
-                  record { size = u .1 .size; state = subst (Holds b) (sym (u .1 .state)) h; line = λ j. absurd (false≢true j); still = λ j. (refl, refl) },
-                );
-                says = sym (u .3);
-              };
-          past = refl;
-          within = y .short;
-          cleared = cleared-again items marks′ marks″ (is .fits) (z .outside ∙ ap (drop (66 * length items)) (y .clear)) k ∙ sym (y .clear);
-        }
+    pub pass-free : r ≡ Nowhere → Passes s t b b out out (Over false (length t))
+    pass-free e = let z₂ = subst (Searches items b t marks marks′ ends) e z in free s items t b out (y .pattern) (y .short) (z₂ .first)
+
+module _ (s kinds present t b out items : List ℕ) (y : Lent s kinds present t b out) (is : ItemsOf s items) where
+  -- the marks are a part of a memory of zeros
+  pub to-try : (n : ℕ) → rowsBytes items ≤ n → ToTry s items kinds t b out (take (rowsBytes items) (replicate n 0))
+  to-try n l = record {
+    macro = y .macro;
+    pattern = is;
+    table = y .table;
+    bytes = y .bytes;
+    short = y .short;
+    state = y .state;
+    room = y .room;
+    rows = length-take-le (rowsBytes items) (replicate n 0) (let z = length-replicate {A = ℕ} n 0 in omega arith);
+    zero = λ i. zeros-front n i (rowsBytes items);
+  }
+
+  -- the line lacks a byte that the pattern must have
+  pub pass-lacks : SomeAbsent present items → Passes s t b b out out (Over false (length t))
+  pass-lacks a =
+      free s items t b out is (y .short)
+      (λ es i st h j k l. absent-none t (y .bytes) es (subst (SomeAbsent (flagsOf t)) (sym (i .form)) (subst (λ (f : List ℕ). SomeAbsent f items) (y .flags) a)) st j)

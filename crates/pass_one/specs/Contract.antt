@@ -1,9 +1,9 @@
 -- What a pass's function promises (01, part 5).
-use Prim.Native.Nat.{ℕ, _≤_}
+use Prim.Native.Nat.{ℕ, _*_, _≤_}
 use mathlib.Core.Path.{_≡_}
 use mathlib.Core.Bool.{Bool, true, false}
 use mathlib.Core.List.{List}
-use lib.ListN.{length, take, drop, replicate}
+use lib.ListN.{length, take, drop}
 use Rattle.kinds.specs.Kind.{kindTable}
 use Rattle.macros.specs.Bounds.{mostLineBytes}
 use Rattle.macros.specs.Macro.{Macro}
@@ -13,29 +13,26 @@ use Rattle.lines.specs.Replacing.{Work, Done}
 use Rattle.lines.specs.Replacing.Done.{bad, good}
 use Rattle.lines.specs.Pass.{pass, occurred, outcome}
 use Rattle.lines.specs.Line.{textOf}
+use Rattle.pass_one.specs.Lacking.{flagsOf}
 use Rattle.form_state.specs.Access.{Holds, IsState}
 use Rattle.refusals.specs.Faults.{refusalOf}
 use Rattle.pass_replace.specs.Contract.{IsSlot, IsMoment}
 use Rattle.pass_moment.specs.declared.Passed.{Passed}
 use Rattle.pass_moment.specs.declared.Passed.the-variants.{Over, Refused}
 
--- a bit for each item of a pattern and each place of a line: 508 rows, for at most 506 items, of 1,056 bits, for at most 1,055 places
-abbrev pub marksBytes : ℕ
-marksBytes = 67056
+-- the marks of a pattern: for each item, two bytes, a row of 132 bytes, 1,056 bits, for at most 1,055 places
+abbrev pub rowsBytes : List ℕ → ℕ
+rowsBytes items = 66 * length items
 
--- no mark
-abbrev pub zeroMarks : List ℕ
-zeroMarks = replicate marksBytes 0
-
--- what the caller lends: a macro's slot, the kinds, the line, a state, room for the new line, and marks, all zero
-pub record Lent (s kinds t b out marks : List ℕ) : Type 0 where
+-- what the caller lends: a macro's slot, the kinds, the flags of the line's bytes, the line, a state and room for the new line
+pub record Lent (s kinds present t b out : List ℕ) : Type 0 where
   pub macro : (m : Macro) × IsSlot s m
   pub table : kinds ≡ kindTable
+  pub flags : present ≡ flagsOf t
   pub bytes : Bytes t
   pub short : length t ≤ mostLineBytes
   pub state : IsState b
   pub room : length out ≡ mostLineBytes
-  pub clear : marks ≡ zeroMarks
 
 -- what an answer says of the moment v that it leaves
 abbrev pub doneOf : Passed → Work → Done
@@ -70,9 +67,8 @@ pub record Comes (t b b′ out out′ : List ℕ) (r : Passed) (m : Macro) (st :
   pub moment : (v : Work) × (outcome (pass m t st) ≡ doneOf r v) × HeldBy b b′ out out′ r v
   pub says : SaysOccurred r (occurred (pass m t st))
 
--- the pass of the definition, done or refused; behind the new line nothing changes, and the marks are all zero again
-pub record Passes (s t b b′ out out′ marks marks′ : List ℕ) (r : Passed) : Type 0 where
+-- the pass of the definition, done or refused; behind the new line nothing changes
+pub record Passes (s t b b′ out out′ : List ℕ) (r : Passed) : Type 0 where
   pub comes : (m : Macro) → IsSlot s m → (st : State) → Holds b st → Comes t b b′ out out′ r m st
   pub past : drop (sizeOf r) out′ ≡ drop (sizeOf r) out
   pub within : sizeOf r ≤ mostLineBytes
-  pub cleared : marks′ ≡ marks

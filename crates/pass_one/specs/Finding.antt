@@ -18,7 +18,7 @@ use Rattle.lines.specs.Choosing.{chosen}
 use Rattle.lines.specs.Pass.{match}
 use Rattle.form_state.specs.Access.{Holds, IsState}
 use Rattle.pass_replace.specs.Contract.{EndsFrom}
-use Rattle.pass_one.specs.Contract.{marksBytes}
+use Rattle.pass_one.specs.Contract.{rowsBytes}
 pub use Rattle.pass_one.specs.Pattern.{FormedUnits, IsPattern}
 use Rattle.pass_one.specs.Marks.{Sound}
 use Rattle.pass_one.specs.declared.Found.{Found}
@@ -44,7 +44,7 @@ pub record Ready (items kinds b t : List ℕ) (p : ℕ) (marks ends : List ℕ) 
   pub state : IsState b
   pub short : length t ≤ mostLineBytes
   pub place : p ≤ length t
-  pub size : length marks ≡ marksBytes
+  pub size : length marks ≡ rowsBytes items
   pub count : length ends ≡ bodyBytes
   pub inside : (i : ℕ) → getD ends i 0 ≤ length t
   pub sound : Sound items b t marks

@@ -21,7 +21,7 @@ use Rattle.pass_moment.specs.declared.Refusal.the-variants.{NotRefused}
 use Rattle.pass_moment.specs.Moments.{pastPlaces, passedOf, StepsOver}
 use Rattle.form_state.specs.Access.{Holds, IsState}
 use Rattle.pass_replace.specs.Contract.{IsSlot, IsMoment}
-use Rattle.pass_one.specs.Contract.{marksBytes, zeroMarks, doneOf, SaysOccurred, Passes}
+use Rattle.pass_one.specs.Contract.{rowsBytes, doneOf, SaysOccurred, Passes}
 use Rattle.pass_one.specs.Marks.{Sound}
 use Rattle.pass_one.specs.Finding.{IsPattern, lastOf, Finds}
 use Rattle.pass_one.specs.Seen.{Seen}
@@ -46,6 +46,18 @@ pub record ItemsOf (s items : List ℕ) : Type 0 where
   pub pattern : (m : Macro) → IsSlot s m → IsPattern items (m .pattern)
   pub fits : length items ≤ bodyBytes
 
+-- what the memories hold before the first place is tried
+pub record ToTry (s items kinds t b out marks : List ℕ) : Type 0 where
+  pub macro : (m : Macro) × IsSlot s m
+  pub pattern : ItemsOf s items
+  pub table : kinds ≡ kindTable
+  pub bytes : Bytes t
+  pub short : length t ≤ mostLineBytes
+  pub state : IsState b
+  pub room : length out ≡ mostLineBytes
+  pub rows : length marks ≡ rowsBytes items
+  pub zero : (i : ℕ) → getD marks i 0 ≡ 0
+
 -- GOING ON FROM A PLACE
 
 -- what the memories hold at the moment a, before its place is tried
@@ -61,7 +73,7 @@ pub record AtPlace (s items kinds t b out marks ends : List ℕ) (a : Moment) : 
   pub moment : (w : Work) × IsMoment out b (a .size) w
   pub room : length out ≡ mostLineBytes
   pub size : a .size ≤ mostLineBytes
-  pub rows : length marks ≡ marksBytes
+  pub rows : length marks ≡ rowsBytes items
   pub sound : Sound items b t marks
   pub count : length ends ≡ bodyBytes
   pub inside : (i : ℕ) → getD ends i 0 ≤ length t
@@ -134,8 +146,7 @@ pub record Walking (s items kinds t b out marks ends : List ℕ) (p q : ℕ) : T
   pub short : length t ≤ mostLineBytes
   pub state : IsState b
   pub room : length out ≡ mostLineBytes
-  pub rows : length marks ≡ marksBytes
-  pub outside : drop (66 * length items) marks ≡ drop (66 * length items) zeroMarks
+  pub rows : length marks ≡ rowsBytes items
   pub count : length ends ≡ bodyBytes
   pub first : IsFirst items b t marks ends p q
 
@@ -183,6 +194,6 @@ pub record Walks (s items kinds t b out marks seen ends : List ℕ) (a : Moment)
   pub going : Going s items t origin b out marks seen ends a
 
 -- the pass, from wherever it came
-pub record WalksTo (s items kinds t b b′ out out′ marks marks′ seen ends : List ℕ) (a : Moment) (r : Passed) : Type 0 where
+pub record WalksTo (s items kinds t b b′ out out′ marks seen ends : List ℕ) (a : Moment) (r : Passed) : Type 0 where
   pub comes : (h : Origin) → Came s items kinds t h → Going s items t h b out marks seen ends a → a .occurred ≡ true
-      → Passes s t (h .state) b′ (h .out) out′ zeroMarks marks′ r
+      → Passes s t (h .state) b′ (h .out) out′ r

@@ -5,7 +5,6 @@ use crate::matcher::counted;
 use crate::matcher::differs;
 use crate::matcher::elements;
 use crate::matcher::last_place;
-use pass_marks::clear;
 use pass_moment::Moment;
 use pass_moment::Passed;
 use pass_moment::after;
@@ -15,7 +14,7 @@ use pass_moment::step_over;
 use pass_replace::occurrence;
 ghost use mathlib.Core.Path.{_≡_};
 ghost use mathlib.Core.Bool.{true};
-ghost use Rattle.pass_one.specs.Contract.{Passes, zeroMarks};
+ghost use Rattle.pass_one.specs.Contract.{Passes};
 ghost use Rattle.pass_one.specs.Seen.{Seen};
 ghost use Rattle.pass_one.specs.Finding.{Ready};
 ghost use Rattle.pass_one.specs.Places.{AtPlace, Makes, GoesBy, Searches, Walking, Walks, WalksTo};
@@ -114,7 +113,7 @@ fn walk_on(
     ends: &mut [u16],
 ) -> Passed
     requires { ⌜ Walks (now slot) (now items) (now kinds) (now line) (now state) (now out) (now marks) (now seen) (now ends) from ⌝ }
-    ensures { λ r. ⌜ WalksTo (now (slot .entry)) (now (items .entry)) (now (kinds .entry)) (now (line .entry)) (now (state .entry)) (now (state .exit)) (now (out .entry)) (now (out .exit)) (now (marks .entry)) (now (marks .exit)) (now (seen .entry)) (now (ends .entry)) from r ⌝ }
+    ensures { λ r. ⌜ WalksTo (now (slot .entry)) (now (items .entry)) (now (kinds .entry)) (now (line .entry)) (now (state .entry)) (now (state .exit)) (now (out .entry)) (now (out .exit)) (now (marks .entry)) (now (seen .entry)) (now (ends .entry)) from r ⌝ }
 {
     let mut at = from;
     while at.place <= line.len() {
@@ -126,7 +125,6 @@ fn walk_on(
             at = step_over(line, p, next, out);
         }
     }
-    clear(marks, 66 * items.len());
     answer(at)
 }
 
@@ -145,7 +143,7 @@ pub(crate) fn walk(
     ends: &mut [u16],
 ) -> Passed
     requires { ⌜ Walking (now slot) (now items) (now kinds) (now line) (now state) (now out) (now marks) (now ends) first end × Seen (now items) (now seen) (now state) ⌝ }
-    ensures { λ r. ⌜ Passes (now (slot .entry)) (now (line .entry)) (now (state .entry)) (now (state .exit)) (now (out .entry)) (now (out .exit)) zeroMarks (now (marks .exit)) r ⌝ }
+    ensures { λ r. ⌜ Passes (now (slot .entry)) (now (line .entry)) (now (state .entry)) (now (state .exit)) (now (out .entry)) (now (out .exit)) r ⌝ }
 {
     let begun = start(line, first, out);
     let made = replace(slot, items, line, begun, end, state, out, marks, seen, ends);

@@ -1,77 +1,79 @@
-use Prim.Native.Nat.{ℕ}
-use mathlib.Core.Path.{refl, sym, _∙_}
+use mathlib.Core.Path.{sym, ap, _∙_}
 use native.Mathlib.Omega.{arith}
-use lib.ListN.{length-replicate}
-use Rattle.pass_one.specs.Contract.{marksBytes}
-use Rattle.pass_one.proofs.GoingLaws.{zero-rows, ready-first, walking, pass-free, passes-from}
+use Prim.Native.Nat.{ℕ}
+use lib.ListN.{length, replicate, length-replicate}
+use lib.Seq.{length-take-le}
+use Rattle.pass_one.proofs.CallLaws.{pattern-letters}
+use Rattle.pass_one.proofs.LackLaws.{flags-size}
+use Rattle.pass_one.proofs.GoingLaws.{to-try, pass-lacks}
 use Rattle.pass_one.proofs.pass.Statement.{statement}
 use Rattle.pass_one.proofs.pass.Tie as tie
 
 items-of-requires : tie.Need-items-of-requires
 items-of-requires c κs = c .before .before .before .before .before .pre .macro
 
-slice-aggregate-first-match : tie.Need-slice-aggregate-first-match
-slice-aggregate-first-match c = sym (length-replicate {A = ℕ} 1014 0)
-
-first-match-requires : tie.Need-first-match-requires
-first-match-requires c κs = ready-first _ _ _ _ _ _ _ (c .before .before .before .before .before .before .before .before .before .pre) (c .before .before .before .items-of .ensures)
-
-enum-known-found : tie.Need-enum-known-found
-enum-known-found c = c .match .keys1
-
-enum-told : tie.Need-enum-told
-enum-told c = c .match .keys2
-
-mul-clear : tie.Need-mul-clear
-mul-clear c = omega (arith, c .before .before .before .before .before .before .before .before .before .before .items-of .ensures .fits)
-
-clear-requires : tie.Need-clear-requires
-clear-requires c κs = omega (arith, c .before .before .before .before .before .before .before .before .before .before .items-of .ensures .fits, c .before .before .before .before .before .before .first-match .kept .1 .1 .1 .1 .0, zero-rows _ marksBytes (c .before .before .before .before .before .before .before .before .before .before .before .before .before .before .before .before .pre .clear))
-
-same-length : tie.Need-same-length
-same-length c = refl
-
-same-length-2 : tie.Need-same-length-2
-same-length-2 c = c .before .before .clear .kept .0 ∙ c .before .before .before .before .before .before .before .before .before .first-match .kept .1 .1 .1 .1 .0
+lacks-requires : tie.Need-lacks-requires
+lacks-requires c κs = let y = c .before .before .before .before .before .before .pre in let i = c .items-of .ensures in (pattern-letters _ (y .macro .0 .pattern) (i .pattern (y .macro .0) (y .macro .1)), i .fits, ap length (y .flags) ∙ flags-size _)
 
 returns : tie.Need-returns
-returns c = pass-free _ _ _ _ _ _ _ (c .before .before .before .before .before .before .before .before .before .before .before .before .before .before .before .before .before .before .before .pre) (c .before .before .before .before .before .before .before .before .before .before .before .before .before .items-of .ensures) _ _ _ (c .before .before .before .before .before .before .before .before .before .first-match .ensures) (c .before .before .before .before .enum-told .given .1) _ (c .before .before .clear .ensures)
+returns c = pass-lacks _ _ _ _ _ _ _ (c .before .before .before .before .before .before .before .before .pre) (c .before .before .items-of .ensures) (c .before .lacks .ensures (c .if1 .taken))
 
-slice-aggregate-matched : tie.Need-slice-aggregate-matched
-slice-aggregate-matched c = sym (c .before .before .before .before .before .before .before .before .before .before .first-match .kept .1 .1 .1 .1 .1 .0 ∙ length-replicate {A = ℕ} 1014 0)
+mul-rows : tie.Need-mul-rows
+mul-rows c = omega (arith, c .before .before .items-of .ensures .fits)
 
-matched-requires : tie.Need-matched-requires
-matched-requires c κs = walking _ _ _ _ _ _ _ (c .before .before .before .before .before .before .before .before .before .before .before .before .before .before .before .before .before .before .before .before .pre) (c .before .before .before .before .before .before .before .before .before .before .before .before .before .before .items-of .ensures) _ _ _ (c .before .before .before .before .before .before .before .before .before .before .first-match .ensures) _ _ (c .before .before .before .before .before .found .given .1) (c .before .before .before .before .before .before .before .before .before .before .first-match .kept .1 .1 .1 .1 .0) (c .before .before .before .before .before .before .before .before .before .before .first-match .kept .1 .1 .1 .1 .1 .0 ∙ length-replicate {A = ℕ} 1014 0)
+array-borrow-prefix-few : tie.Need-array-borrow-prefix-few
+array-borrow-prefix-few c = omega (arith, c .before .before .if2 .taken)
 
-same-length-3 : tie.Need-same-length-3
-same-length-3 c = c .before .before .before .before .before .before .before .matched .kept .1 .1 .1 .1 .1 .1 .0
+slice-aggregate-tried : tie.Need-slice-aggregate-tried
+slice-aggregate-tried c = sym (length-take-le _ (replicate {A = ℕ} 4096 0) (let z = length-replicate {A = ℕ} 4096 0 in omega (arith, z, c .before .before .before .if2 .taken)))
 
-same-length-4 : tie.Need-same-length-4
-same-length-4 c = c .before .before .before .before .before .before .before .matched .kept .1 .1 .1 .1 .1 .1 .1 .0
+tried-requires : tie.Need-tried-requires
+tried-requires c κs = to-try _ _ _ _ _ _ _ (c .before .before .before .before .before .before .before .before .before .before .before .before .pre) (c .before .before .before .before .before .before .items-of .ensures) 4096 (c .before .before .before .if2 .taken)
 
-same-length-5 : tie.Need-same-length-5
-same-length-5 c = c .before .before .before .before .before .before .before .matched .kept .1 .1 .1 .1 .1 .1 .1 .1 .0 ∙ c .before .before .before .before .before .before .before .before .before .before .before .before .before .before .before .before .before .before .first-match .kept .1 .1 .1 .1 .0
+same-length : tie.Need-same-length
+same-length c = c .before .before .before .before .before .tried .kept .1 .1 .1 .1 .0
+
+same-length-2 : tie.Need-same-length-2
+same-length-2 c = c .before .before .before .before .before .tried .kept .1 .1 .1 .1 .1 .0
 
 returns-2 : tie.Need-returns-2
-returns-2 c = passes-from _ _ _ _ _ _ _ _ _ (c .before .before .before .before .before .before .before .before .before .before .before .before .before .before .before .before .before .before .before .before .before .before .before .before .before .before .before .before .pre .clear) (c .before .before .before .before .before .before .before .matched .ensures)
+returns-2 c = c .before .before .before .before .before .tried .ensures
+
+array-borrow-prefix-marks : tie.Need-array-borrow-prefix-marks
+array-borrow-prefix-marks c = omega (arith, c .before .before .before .before .before .items-of .ensures .fits)
+
+slice-aggregate-tried-2 : tie.Need-slice-aggregate-tried-2
+slice-aggregate-tried-2 c = sym (length-take-le _ (replicate {A = ℕ} 66924 0) (let z = length-replicate {A = ℕ} 66924 0 in omega (arith, z, c .before .before .before .before .before .before .items-of .ensures .fits)))
+
+tried-requires-2 : tie.Need-tried-requires-2
+tried-requires-2 c κs = to-try _ _ _ _ _ _ _ (c .before .before .before .before .before .before .before .before .before .before .before .before .pre) (c .before .before .before .before .before .before .items-of .ensures) 66924 (omega (arith, c .before .before .before .before .before .before .items-of .ensures .fits))
+
+same-length-3 : tie.Need-same-length-3
+same-length-3 c = c .before .before .before .before .before .tried2 .kept .1 .1 .1 .1 .0
+
+same-length-4 : tie.Need-same-length-4
+same-length-4 c = c .before .before .before .before .before .tried2 .kept .1 .1 .1 .1 .1 .0
+
+returns-3 : tie.Need-returns-3
+returns-3 c = c .before .before .before .before .before .tried2 .ensures
 
 pub pass-spec : {M : Type 1} → statement M
 pass-spec =
     tie.close
     (tie.spec
     items-of-requires
-    slice-aggregate-first-match
-    first-match-requires
-    enum-known-found
-    enum-told
-    mul-clear
-    clear-requires
+    lacks-requires
+    returns
+    mul-rows
+    array-borrow-prefix-few
+    slice-aggregate-tried
+    tried-requires
     same-length
     same-length-2
-    returns
-    slice-aggregate-matched
-    matched-requires
+    returns-2
+    array-borrow-prefix-marks
+    slice-aggregate-tried-2
+    tried-requires-2
     same-length-3
     same-length-4
-    same-length-5
-    returns-2)
+    returns-3)

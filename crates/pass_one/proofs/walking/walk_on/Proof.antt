@@ -42,32 +42,26 @@ loop-less-2 c = omega (arith, c .before .before .before .before .before .before 
 loop-again-2 : tie.Need-loop-again-2 Inv-loop μ-loop
 loop-again-2 c = λ h y g. let u = c .before .before .before .before .before .before .before .before .before .before .before .before .before .before .before .before .before .before .before .before .before .before .before .before .loop .inv h y g in (went-on _ _ _ _ h y _ _ _ _ _ _ (u .0) (c .before .before .before .before .before .before .before .before .before .before .before .before .before .before .before .before .before .before .before .before .before .before .if1 .taken) _ _ _ _ _ _ (c .before .before .before .before .before .before .before .before .before .before .before .before .before .before .go-on .ensures .copied _ _ (c .before .before .step-over2 .ensures)) (c .before .before .before .before .before .before .before .before .before .before .before .before .before .before .go-on .kept .1 .1 .1 .1 .1 .0) (c .before .before .step-over2 .kept .1 .1 .1 .0 ∙ c .before .before .before .before .before .before .before .before .before .before .before .before .before .before .go-on .kept .1 .1 .1 .1 .1 .1 .0) (c .before .before .before .before .before .before .before .before .before .before .before .before .before .before .go-on .kept .1 .1 .1 .1 .1 .1 .1 .0) (c .before .before .before .before .before .before .before .before .before .before .before .before .before .before .go-on .kept .1 .1 .1 .1 .1 .1 .1 .1 .0) (c .before .before .before .before .before .before .before .before .before .before .before .before .before .before .go-on .kept .1 .1 .1 .1 .1 .1 .1 .1 .1 .0), λ o. steps-occurred _ _ _ _ _ _ (c .before .before .step-over2 .ensures) (c .before .before .before .before .before .before .before .before .before .before .before .before .before .before .go-on .ensures .stays (u .1 o)))
 
-mul-clear : tie.Need-mul-clear Inv-loop μ-loop
-mul-clear c = omega (arith, (c .before .before .before .before .before .before .before .before .before .before .before .before .pre .came) .pattern .fits)
-
-clear-requires : tie.Need-clear-requires Inv-loop μ-loop
-clear-requires c κs = omega (arith, (c .before .before .before .before .before .before .before .before .before .before .before .before .pre .came) .pattern .fits, (c .before .before .before .loop .inv _ (c .before .before .before .before .before .before .before .before .before .before .before .before .pre .came) (c .before .before .before .before .before .before .before .before .before .before .before .before .pre .going) .0) .rows, (c .before .before .before .before .before .before .before .before .before .before .before .before .pre .came) .rows)
-
 answer-requires : tie.Need-answer-requires Inv-loop μ-loop
 answer-requires c κs = tt
 
 same-length : tie.Need-same-length Inv-loop μ-loop
-same-length c = (c .before .before .before .before .before .before .before .loop .inv _ (c .before .before .before .before .before .before .before .before .before .before .before .before .before .before .before .before .pre .came) (c .before .before .before .before .before .before .before .before .before .before .before .before .before .before .before .before .pre .going) .0) .stateSize ∙ sym (c .before .before .before .before .before .before .before .before .before .before .before .before .before .before .before .before .pre .going .stateSize)
+same-length c = (c .before .before .before .loop .inv _ (c .before .before .before .before .before .before .before .before .before .before .before .before .pre .came) (c .before .before .before .before .before .before .before .before .before .before .before .before .pre .going) .0) .stateSize ∙ sym (c .before .before .before .before .before .before .before .before .before .before .before .before .pre .going .stateSize)
 
 same-length-2 : tie.Need-same-length-2 Inv-loop μ-loop
-same-length-2 c = (c .before .before .before .before .before .before .before .loop .inv _ (c .before .before .before .before .before .before .before .before .before .before .before .before .before .before .before .before .pre .came) (c .before .before .before .before .before .before .before .before .before .before .before .before .before .before .before .before .pre .going) .0) .room ∙ sym (c .before .before .before .before .before .before .before .before .before .before .before .before .before .before .before .before .pre .going .room)
+same-length-2 c = (c .before .before .before .loop .inv _ (c .before .before .before .before .before .before .before .before .before .before .before .before .pre .came) (c .before .before .before .before .before .before .before .before .before .before .before .before .pre .going) .0) .room ∙ sym (c .before .before .before .before .before .before .before .before .before .before .before .before .pre .going .room)
 
 same-length-3 : tie.Need-same-length-3 Inv-loop μ-loop
-same-length-3 c = c .before .before .before .clear .kept .0 ∙ (c .before .before .before .before .before .before .before .loop .inv _ (c .before .before .before .before .before .before .before .before .before .before .before .before .before .before .before .before .pre .came) (c .before .before .before .before .before .before .before .before .before .before .before .before .before .before .before .before .pre .going) .0) .rows ∙ sym (c .before .before .before .before .before .before .before .before .before .before .before .before .before .before .before .before .pre .going .rows)
+same-length-3 c = (c .before .before .before .loop .inv _ (c .before .before .before .before .before .before .before .before .before .before .before .before .pre .came) (c .before .before .before .before .before .before .before .before .before .before .before .before .pre .going) .0) .rows ∙ sym (c .before .before .before .before .before .before .before .before .before .before .before .before .pre .going .rows)
 
 same-length-4 : tie.Need-same-length-4 Inv-loop μ-loop
-same-length-4 c = (c .before .before .before .before .before .before .before .loop .inv _ (c .before .before .before .before .before .before .before .before .before .before .before .before .before .before .before .before .pre .came) (c .before .before .before .before .before .before .before .before .before .before .before .before .before .before .before .before .pre .going) .0) .seenSize ∙ sym (c .before .before .before .before .before .before .before .before .before .before .before .before .before .before .before .before .pre .going .seenSize)
+same-length-4 c = (c .before .before .before .loop .inv _ (c .before .before .before .before .before .before .before .before .before .before .before .before .pre .came) (c .before .before .before .before .before .before .before .before .before .before .before .before .pre .going) .0) .seenSize ∙ sym (c .before .before .before .before .before .before .before .before .before .before .before .before .pre .going .seenSize)
 
 same-length-5 : tie.Need-same-length-5 Inv-loop μ-loop
-same-length-5 c = (c .before .before .before .before .before .before .before .loop .inv _ (c .before .before .before .before .before .before .before .before .before .before .before .before .before .before .before .before .pre .came) (c .before .before .before .before .before .before .before .before .before .before .before .before .before .before .before .before .pre .going) .0) .count ∙ sym (c .before .before .before .before .before .before .before .before .before .before .before .before .before .before .before .before .pre .going .count)
+same-length-5 c = (c .before .before .before .loop .inv _ (c .before .before .before .before .before .before .before .before .before .before .before .before .pre .came) (c .before .before .before .before .before .before .before .before .before .before .before .before .pre .going) .0) .count ∙ sym (c .before .before .before .before .before .before .before .before .before .before .before .before .pre .going .count)
 
 returns : tie.Need-returns Inv-loop μ-loop
-returns c = record { comes = λ h y g o. let u = c .before .before .before .before .before .before .before .loop .inv h y g in pass-done _ _ _ _ h y _ _ _ _ _ _ (u .0) (c .before .before .before .before .before .if1 .left) (u .1 o) _ (c .before .before .before .clear .ensures) _ (c .answer .ensures) }
+returns c = record { comes = λ h y g o. let u = c .before .before .before .loop .inv h y g in pass-done _ _ _ _ h y _ _ _ _ _ _ (u .0) (c .before .if1 .left) (u .1 o) _ (c .answer .ensures) }
 
 pub walk-on-spec : {M : Type 1} → statement M
 walk-on-spec =
@@ -84,8 +78,6 @@ walk-on-spec =
     step-over-requires-2
     loop-less-2
     loop-again-2
-    mul-clear
-    clear-requires
     answer-requires
     same-length
     same-length-2
