@@ -59,47 +59,47 @@ module _ {s b flags : List ℕ} {k : ℕ} (y : PrepareLent s b flags k) where
 known : {s b b′ fl fl′ : List ℕ} {k : ℕ} {r : Outcome} → MacroPrepares s b b′ fl fl′ k r → (r₂ : Outcome) → r ≡ r₂ → MacroPrepares s b b′ fl fl′ k r₂
 known p r₂ e = rw e at p
 
-module _ {s kinds t b new marks flags : List ℕ} {k : ℕ} (y : PassLent s kinds t b new marks flags k) where
+module _ {s kinds present t b new flags : List ℕ} {k : ℕ} (y : PassLent s kinds present t b new flags k) where
   pub calls-lent : PrepareLent s b flags k
   calls-lent = record { calls = record { macro = y .pass .macro; state = y .pass .state }; few = y .few; flags = y .flags }
 
   module _ {b₁ fl₁ : List ℕ} {o : Outcome} (p : MacroPrepares s b b₁ flags fl₁ k o) where
     -- the state in which place 0 is tried is one
-    pub places-lent : Lent s kinds t b₁ new marks
+    pub places-lent : Lent s kinds present t b₁ new
     places-lent =
         let u = p .comes (y .pass .macro .0) (y .pass .macro .1) (y .begins .0) (y .begins .1) (y .pass .state .0) (y .pass .state .1) in
         record {
           macro = y .pass .macro;
           table = y .pass .table;
+          flags = y .pass .flags;
           bytes = y .pass .bytes;
           short = y .pass .short;
           state = (u .0 .state, u .2);
           room = y .pass .room;
-          clear = y .pass .clear;
         }
 
     -- the places are tried
-    module _ {n : ℕ} (e : o ≡ Made n) {b₂ new₂ marks₂ : List ℕ} where
-      comes-so : (r : Passed) → ((m : Macro) → IsSlot s m → (st : State) → Holds b₁ st → PassedTo t b₂ new₂ r m st)
+    module _ {n : ℕ} (e : o ≡ Made n) {b₂ new₂ : List ℕ} where
+      comes-so : (r : Passed) → ((m : Macro) → IsSlot s m → (st : State) → Holds b₁ st → PassedTo t b₁ b₂ new new₂ r m st)
           → (x : Macro) → IsSlot s x → (begun : List ℕ) → Begun flags begun → (st : State) → Holds b st
-          → PassComes (record { state = b₂; new = new₂; marks = marks₂; flags = fl₁ }) r (passOf begun (record { number = k; macro = x }) t st)
+          → PassComes (record { state = b₂; new = new₂; flags = fl₁ }) r (passOf begun (record { number = k; macro = x }) t st)
       unfolding passOf passBehind
       comes-so r c x h begun g st hb =
           let u = known p (Made n) e .comes x h begun g st hb in
           let z = c x h (u .0 .state) (u .2) in
           rw (u .1) (record { moment = (z .moment .0, z .moment .1, held r z); says = z .says })
         where
-          held : (r : Passed) {m : Macro} {st : State} (z : PassedTo t b₂ new₂ r m st) → MomentOf r (record { state = b₂; new = new₂; marks = marks₂; flags = fl₁ }) (z .moment .0)
-          held (Over o n) z = z .moment .2
+          held : (r : Passed) {m : Macro} {st : State} (z : PassedTo t b₁ b₂ new new₂ r m st) → MomentOf r (record { state = b₂; new = new₂; flags = fl₁ }) (z .moment .0)
+          held (Over o n) z = record { state = z .moment .2 .state; line = z .moment .2 .line }
           held (PassRefused f n) z = tt
 
-      pub runs-places : {r : Passed} → Passes s t b₁ b₂ new new₂ marks marks₂ r
-          → PassRuns s t (record { state = b; new = new; marks = marks; flags = flags }) (record { state = b₂; new = new₂; marks = marks₂; flags = fl₁ }) k r
-      runs-places {r} q = record { comes = comes-so r (q .comes); within = q .within; cleared = q .cleared; flags = p .flags }
+      pub runs-places : {r : Passed} → Passes s t b₁ b₂ new new₂ r
+          → PassRuns s t (record { state = b; new = new; flags = flags }) (record { state = b₂; new = new₂; flags = fl₁ }) k r
+      runs-places {r} q = record { comes = comes-so r (q .comes); within = q .within; flags = p .flags }
 
     -- a call is refused: no place is tried
     pub runs-refused : {f : WorkFault} {n : ℕ} → o ≡ Refused f n
-        → PassRuns s t (record { state = b; new = new; marks = marks; flags = flags }) (record { state = b₁; new = new; marks = marks; flags = fl₁ }) k (PassRefused f 0)
+        → PassRuns s t (record { state = b; new = new; flags = flags }) (record { state = b₁; new = new; flags = fl₁ }) k (PassRefused f 0)
     unfolding passOf passBehind outcome
     runs-refused {f} {n} e =
         record {
@@ -107,6 +107,5 @@ module _ {s kinds t b new marks flags : List ℕ} {k : ℕ} (y : PassLent s kind
               let u = known p (Refused f n) e .comes x h begun g st hb in
               rw (u .1) (record { moment = (u .0, refl, tt); says = tt });
           within = omega arith;
-          cleared = refl;
           flags = p .flags;
         }

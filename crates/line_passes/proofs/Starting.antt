@@ -7,6 +7,7 @@ use mathlib.Core.List.{List, []}
 use native.Mathlib.Omega.{arith}
 use lib.ListN.{length, take, replicate, length-replicate}
 use Rattle.kinds.specs.Kind.{kindTable}
+use Rattle.pass_one.specs.Lacking.{flagsOf}
 use Rattle.macros.specs.Bounds.{mostLineBytes, mostTraceBytes}
 use Rattle.macros.specs.Macro.{Table}
 use Rattle.macros.specs.Formed.{Bytes}
@@ -28,11 +29,11 @@ use Rattle.line_passes.proofs.Closing.{due-all, none-closed, none-begun
 open-start : {trace : List ℕ} → trace ≡ replicate mostTraceBytes 0 → Open trace 0
 open-start e = record { size = ap length e ∙ length-replicate {A = ℕ} mostTraceBytes 0; inside = omega arith; zeros = e }
 
-pub ready-start : {tb kn : List ℕ} {count n : ℕ} {old : Left} {traced : Bool} → FromStart tb count old n traced → kn ≡ kindTable → (budget : ℕ)
+pub ready-start : {tb kn : List ℕ} {count n : ℕ} {old : Left} {traced : Bool} → FromStart tb count old n traced → kn ≡ kindTable → {pr : List ℕ} → pr ≡ flagsOf (take n (old .text)) → (budget : ℕ)
     → Ready (record { table = tb; count = count; kinds = kn; budget = budget; traced = traced })
-    (record { state = old .state; text = old .text; new = replicate 1054 0; marks = replicate 67056 0; flags = replicate 96 0; trace = old .trace })
+    (record { state = old .state; text = old .text; new = replicate 1054 0; present = pr; flags = replicate 96 0; trace = old .trace })
     (record { size = n; occurred = false; due = count; begun = 0; written = 0 })
-ready-start y e budget =
+ready-start y e f budget =
     record {
       table = y .table;
       kinds = e;
@@ -41,7 +42,7 @@ ready-start y e budget =
       text = y .text;
       laid = y .laid;
       new = length-replicate {A = ℕ} 1054 0;
-      marks = refl;
+      present = f;
       flags = length-replicate {A = ℕ} 96 0;
       begins = ([], none-begun);
       size = y .size;

@@ -19,6 +19,8 @@ use Rattle.lines.specs.Line.{passOf, isControl}
 use Rattle.form_state.specs.Access.{IsState}
 use Rattle.pass_replace.specs.Contract.{IsSlot}
 use Rattle.pass_one.specs.Contract.{sizeOf}
+use Rattle.pass_one.specs.Lacking.{flagsOf}
+use Rattle.pass_one.proofs.LackLaws.{flags-size}
 use Rattle.refusals.specs.declared.WorkFault.{WorkFault}
 use Rattle.pass_moment.specs.declared.Passed.{Passed}
 use Rattle.pass_moment.specs.declared.Passed.the-variants.{Over as Passing, Refused as Refuses}
@@ -142,7 +144,7 @@ module _ {g : Given} {m : Memories} {a : Stand} (y : Ready g m a) where
 
       -- what the pass changes
       abbrev came : Tried
-      came = record { state = m .state; new = m .new; marks = m .marks; flags = m .flags }
+      came = record { state = m .state; new = m .new; flags = m .flags }
 
       slot-of : (ms : Table) → IsTable (g .table) ms → length ms ≡ g .count → SlotAt (g .table) ms k
       slot-of ms h l = slot-at (g .table) ms h k (omega (arith, in-use, l))
@@ -150,7 +152,7 @@ module _ {g : Given} {m : Memories} {a : Stand} (y : Ready g m a) where
       is-slot : (ms : Table) (h : IsTable (g .table) ms) (l : length ms ≡ g .count) → IsSlot (slotPart (g .table) k) (slot-of ms h l .macro)
       is-slot ms h l = record { spellable = slot-of ms h l .spellable; form = slot-of ms h l .bytes ∙ sym (part-slot (g .table) k) }
 
-      pub pass-lent : PassLent (slotPart (g .table) k) (g .kinds) (take (a .size) (m .text)) (m .state) (m .new) (m .marks) (m .flags) k
+      pub pass-lent : PassLent (slotPart (g .table) k) (g .kinds) (m .present) (take (a .size) (m .text)) (m .state) (m .new) (m .flags) k
       pass-lent = record {
         few = omega (arith, in-use, few);
         flags = y .flags;
@@ -159,18 +161,18 @@ module _ {g : Given} {m : Memories} {a : Stand} (y : Ready g m a) where
             record {
               macro = (slot-of (y .table .macros) (y .table .isTable) (y .table .counted) .macro, is-slot (y .table .macros) (y .table .isTable) (y .table .counted));
               table = y .kinds;
+              flags = y .present;
               bytes = y .bytes;
               short = omega (arith, length-take-le (a .size) (m .text) (omega (arith, y .size, y .text)), y .size);
               state = y .state;
               room = y .new;
-              clear = y .marks;
             };
       }
 
-      module _ {b′ nw′ mk′ fl′ : List ℕ} {r : Passed} (p : PassRuns (slotPart (g .table) k) (take (a .size) (m .text)) came (record { state = b′; new = nw′; marks = mk′; flags = fl′ }) k r) where
+      module _ {b′ nw′ fl′ : List ℕ} {r : Passed} (p : PassRuns (slotPart (g .table) k) (take (a .size) (m .text)) came (record { state = b′; new = nw′; flags = fl′ }) k r) where
         -- what is lent behind the pass
         abbrev lentTexts : Texts
-        lentTexts = record { text = m .text; flags = fl′; trace = m .trace }
+        lentTexts = record { text = m .text; present = m .present; flags = fl′; trace = m .trace }
 
         flags-kept : length fl′ ≡ length (m .flags)
         flags-kept = ap length (p .flags) ∙ begun-size (m .flags) k
@@ -178,7 +180,7 @@ module _ {g : Given} {m : Memories} {a : Stand} (y : Ready g m a) where
         begun-then : (begun : List ℕ) × Begun fl′ begun
         begun-then = (k ∷ y .begins .0, subst (λ (l : List ℕ). Begun l (k ∷ y .begins .0)) (sym (p .flags)) (begun-more (m .flags) k flag-there (y .begins .0) (y .begins .1)))
 
-        step-refused : {f : WorkFault} {n : ℕ} → r ≡ Refuses f n → Steps g m (record { state = b′; text = m .text; new = nw′; marks = mk′; flags = fl′; trace = m .trace }) a (Over (Refused (AtWork f) (a .begun + 1)))
+        step-refused : {f : WorkFault} {n : ℕ} → r ≡ Refuses f n → Steps g m (record { state = b′; text = m .text; new = nw′; present = m .present; flags = fl′; trace = m .trace }) a (Over (Refused (AtWork f) (a .begun + 1)))
         step-refused {f} {n} j =
             let p₂ = done-as p (Refuses f n) j in
             record {
@@ -192,14 +194,14 @@ module _ {g : Given} {m : Memories} {a : Stand} (y : Ready g m a) where
             }
 
         module _ {o₂ : Bool} {n : ℕ} (i : r ≡ Passing o₂ n) where
-          passed : PassRuns (slotPart (g .table) k) (take (a .size) (m .text)) came (record { state = b′; new = nw′; marks = mk′; flags = fl′ }) k (Passing o₂ n)
+          passed : PassRuns (slotPart (g .table) k) (take (a .size) (m .text)) came (record { state = b′; new = nw′; flags = fl′ }) k (Passing o₂ n)
           passed = done-as p (Passing o₂ n) i
 
           size-within : n ≤ mostLineBytes
           size-within = passed .within
 
           module _ (w : length nw′ ≡ length (m .new)) where
-            here : PassComes (record { state = b′; new = nw′; marks = mk′; flags = fl′ }) (Passing o₂ n)
+            here : PassComes (record { state = b′; new = nw′; flags = fl′ }) (Passing o₂ n)
                 (passOf (y .begins .0) (record { number = k; macro = slot-of (y .table .macros) (y .table .isTable) (y .table .counted) .macro }) (take (a .size) (m .text)) (y .state .0))
             here =
                 passed .comes (slot-of (y .table .macros) (y .table .isTable) (y .table .counted) .macro) (is-slot (y .table .macros) (y .table .isTable) (y .table .counted))
@@ -208,7 +210,7 @@ module _ {g : Given} {m : Memories} {a : Stand} (y : Ready g m a) where
             after : IsState b′
             after = (here .moment .0 .state, here .moment .2 .state)
 
-            step-none : o₂ ≡ false → Steps g m (record { state = b′; text = m .text; new = nw′; marks = mk′; flags = fl′; trace = m .trace }) a (On (record { size = a .size; occurred = a .occurred; due = k; begun = a .begun + 1; written = a .written }))
+            step-none : o₂ ≡ false → Steps g m (record { state = b′; text = m .text; new = nw′; present = m .present; flags = fl′; trace = m .trace }) a (On (record { size = a .size; occurred = a .occurred; due = k; begun = a .begun + 1; written = a .written }))
             step-none j =
                 record {
                   goes = (
@@ -220,7 +222,7 @@ module _ {g : Given} {m : Memories} {a : Stand} (y : Ready g m a) where
                       text = y .text;
                       laid = y .laid;
                       new = w ∙ y .new;
-                      marks = passed .cleared ∙ y .marks;
+                      present = y .present;
                       flags = flags-kept ∙ y .flags;
                       begins = begun-then;
                       size = y .size;
@@ -246,7 +248,7 @@ module _ {g : Given} {m : Memories} {a : Stand} (y : Ready g m a) where
                     goes = record {
                       comes = λ whole ms h l s.
                           let u = passed .comes (slot-of ms h l .macro) (is-slot ms h l) (s .begun) (s .begins) (s .state) (s .holds) in
-                          pass-cut ms whole g m h a s plain (omega (arith, y .due, l)) k opened (slot-of ms h l) room (u .moment .0) (u .moment .1) (sym (u .says) ∙ j) (take n nw′) (u .moment .2 .line)
+                          pass-cut ms whole g m h a s plain (omega (arith, y .due, l)) k opened (slot-of ms h l) room (u .moment .0) (u .moment .1) (sym (u .says) ∙ j) (take n nw′) (u .moment .2 .line j)
                           (over .asked) (over .full) (y .trace (over .asked) .inside);
                       lies = tt;
                       untraced = λ f. absurd (false≢true (sym f ∙ over .asked));
@@ -275,7 +277,7 @@ module _ {g : Given} {m : Memories} {a : Stand} (y : Ready g m a) where
                       zeros = t .2 ∙ ap (λ (i : List ℕ). padded i mostTraceBytes) (sym (padded-front (take (a .written) (m .trace) ++ linesHere lentTexts nw′ n further) mostTraceBytes (goes-on-so .written) e (t .2)));
                     }
 
-                step-some : Steps g m (record { state = b′; text = after-it .text; new = nw′; marks = mk′; flags = after-it .flags; trace = after-it .trace }) a next
+                step-some : Steps g m (record { state = b′; text = after-it .text; new = nw′; present = after-it .present; flags = after-it .flags; trace = after-it .trace }) a next
                 step-some =
                     rw (goes-on-so .next)
                     (record {
@@ -284,13 +286,13 @@ module _ {g : Given} {m : Memories} {a : Stand} (y : Ready g m a) where
                           table = y .table;
                           kinds = y .kinds;
                           state = after;
-                          bytes = subst Bytes (here .moment .2 .line ∙ sym front)
+                          bytes = subst Bytes (here .moment .2 .line j ∙ sym front)
                               (new-bytes (y .begins .0) _ (take (a .size) (m .text)) (y .state .0) (here .moment .0) (here .moment .1)
                               (slot-of (y .table .macros) (y .table .isTable) (y .table .counted) .spellable .0) (y .bytes) (y .state .1 .inRange));
                           text = same ∙ y .text;
                           laid = goes-on-so .line ∙ (ap (padded (take n nw′)) (y .text) ∙ ap (λ (i : List ℕ). padded i mostLineBytes) (sym front));
                           new = w ∙ y .new;
-                          marks = passed .cleared ∙ y .marks;
+                          present = goes-on-so .present ∙ ap flagsOf (sym front);
                           flags = v ∙ flags-kept ∙ y .flags;
                           begins = begun-closing;
                           size = size-within;
@@ -302,19 +304,20 @@ module _ {g : Given} {m : Memories} {a : Stand} (y : Ready g m a) where
                         λ whole ms h l s.
                             let u = passed .comes (slot-of ms h l .macro) (is-slot ms h l) (s .begun) (s .begins) (s .state) (s .holds) in
                             pass-some ms whole g m h a s plain (omega (arith, y .due, l)) k opened (slot-of ms h l) room (u .moment .0) (u .moment .1) _ (u .moment .2 .state) (sym (u .says) ∙ j) n (g .count) (goes-on-so .written)
-                            (take n nw′) (u .moment .2 .line) (sym front) flag-there (goes-on-so .closed ∙ ap (λ (l : List ℕ). closedFlags l (getD (g .table) (slotBytes * k) 0) k) (p .flags))
+                            (take n nw′) (u .moment .2 .line j) (sym front) flag-there (goes-on-so .closed ∙ ap (λ (l : List ℕ). closedFlags l (getD (g .table) (slotBytes * k) 0) k) (p .flags))
                             (omega (arith, begun-size (m .flags) k, flag-there)) l (y .trace) (goes-on-so .traces),
                         λ f. goes-on-so .untraced f .0,
                       );
                     })
 
-      module _ {b′ nw′ mk′ fl′ : List ℕ} where
-        pub to-follow : {r : Passed} → PassRuns (slotPart (g .table) k) (take (a .size) (m .text)) came (record { state = b′; new = nw′; marks = mk′; flags = fl′ }) k r → length nw′ ≡ length (m .new)
-            → Followed (g .table) (record { text = m .text; flags = fl′; trace = m .trace }) nw′ (g .traced) (sizeOf r) further
+      module _ {b′ nw′ fl′ : List ℕ} where
+        pub to-follow : {r : Passed} → PassRuns (slotPart (g .table) k) (take (a .size) (m .text)) came (record { state = b′; new = nw′; flags = fl′ }) k r → length nw′ ≡ length (m .new)
+            → Followed (g .table) (record { text = m .text; present = m .present; flags = fl′; trace = m .trace }) nw′ (g .traced) (sizeOf r) further
         to-follow p w =
             record {
               text = y .text;
               new = w ∙ y .new;
+              present = ap length (y .present) ∙ flags-size _;
               within = p .within;
               size = y .size;
               slot = omega (arith, in-table);
@@ -323,15 +326,15 @@ module _ {g : Given} {m : Memories} {a : Stand} (y : Ready g m a) where
               trace = y .trace;
             }
 
-        pub step-passed : (r : Passed) → PassRuns (slotPart (g .table) k) (take (a .size) (m .text)) came (record { state = b′; new = nw′; marks = mk′; flags = fl′ }) k r → length nw′ ≡ length (m .new) → {after-it : Texts} {e : Next}
-            → Follows (g .table) (g .count) (record { text = m .text; flags = fl′; trace = m .trace }) after-it nw′ (g .traced) r further e → length (after-it .text) ≡ length (m .text) → length (after-it .flags) ≡ length fl′
-            → Steps g m (record { state = b′; text = after-it .text; new = nw′; marks = mk′; flags = after-it .flags; trace = after-it .trace }) a e
+        pub step-passed : (r : Passed) → PassRuns (slotPart (g .table) k) (take (a .size) (m .text)) came (record { state = b′; new = nw′; flags = fl′ }) k r → length nw′ ≡ length (m .new) → {after-it : Texts} {e : Next}
+            → Follows (g .table) (g .count) (record { text = m .text; present = m .present; flags = fl′; trace = m .trace }) after-it nw′ (g .traced) r further e → length (after-it .text) ≡ length (m .text) → length (after-it .flags) ≡ length fl′
+            → Steps g m (record { state = b′; text = after-it .text; new = nw′; present = after-it .present; flags = after-it .flags; trace = after-it .trace }) a e
         step-passed (Refuses i n) p w f u v = rw (f .by .next, f .by .same) (step-refused p refl)
         step-passed (Passing false n) p w f u v = rw (f .by .next, f .by .same) (step-none p refl w refl)
         step-passed (Passing true n) p w {after-it} {e} f u v = by (f .by)
           where
-            by : Again (g .table) (g .count) (record { text = m .text; flags = fl′; trace = m .trace }) after-it nw′ (g .traced) n further e ⊎ Cut (record { text = m .text; flags = fl′; trace = m .trace }) after-it nw′ (g .traced) n further e
-                → Steps g m (record { state = b′; text = after-it .text; new = nw′; marks = mk′; flags = after-it .flags; trace = after-it .trace }) a e
+            by : Again (g .table) (g .count) (record { text = m .text; present = m .present; flags = fl′; trace = m .trace }) after-it nw′ (g .traced) n further e ⊎ Cut (record { text = m .text; present = m .present; flags = fl′; trace = m .trace }) after-it nw′ (g .traced) n further e
+                → Steps g m (record { state = b′; text = after-it .text; new = nw′; present = after-it .present; flags = after-it .flags; trace = after-it .trace }) a e
             by (inl q) = step-some p refl w refl q u v
             by (inr q) = step-cut p refl w refl q _
 
@@ -391,14 +394,15 @@ module _ {tb : List ℕ} {m : Texts} {nw : List ℕ} {traced : Bool} {n : ℕ} {
         let b : TracesIf true (m .trace) (on .written) (linesHere m nw n on) trace′ TooLong = rw (e, t) at (x .by) in
         record { by = inr (record { asked = t; next = refl; full = omega (arith, b .0, y .trace t .size) }) }
 
-    pub after-fits : {w : ℕ} → r ≡ Fits w → {count : ℕ} {tx′ fl′ : List ℕ} → tx′ ≡ padded (take n nw) (length (m .text)) → fl′ ≡ closedFlags (m .flags) (getD tb (1024 * on .due) 0) (on .due)
-        → Follows tb count m (record { text = tx′; flags = fl′; trace = trace′ }) nw traced (Passing true n) on (On (record { size = n; occurred = true; due = count; begun = on .begun; written = w }))
-    after-fits {w} e {count} {tx′} {fl′} d f =
+    pub after-fits : {w : ℕ} → r ≡ Fits w → {count : ℕ} {tx′ fl′ : List ℕ} → tx′ ≡ padded (take n nw) (length (m .text)) → {pr′ : List ℕ} → pr′ ≡ flagsOf (take n nw) → fl′ ≡ closedFlags (m .flags) (getD tb (1024 * on .due) 0) (on .due)
+        → Follows tb count m (record { text = tx′; present = pr′; flags = fl′; trace = trace′ }) nw traced (Passing true n) on (On (record { size = n; occurred = true; due = count; begun = on .begun; written = w }))
+    after-fits {w} e {count} {tx′} {fl′} d x₂ f =
         record {
           by = inl (record {
             written = w;
             next = refl;
             line = d;
+            present = x₂;
             closed = f;
             traces = λ t.
                 let b : TracesIf true (m .trace) (on .written) (linesHere m nw n on) trace′ (Fits w) = rw (e, t) at (x .by) in

@@ -13,7 +13,8 @@ use Rattle.lines.specs.State.{State}
 use Rattle.lines.specs.Line.{Pass, Line, isControl, passes, hadOccurrence, passesThen}
 use Rattle.lines.specs.Trace.{threeLines, traceOf, isOn, cutIf}
 use Rattle.form_state.specs.Access.{Holds, IsState, OfState}
-use Rattle.pass_one.specs.Contract.{marksBytes, sizeOf}
+use Rattle.pass_one.specs.Contract.{sizeOf}
+use Rattle.pass_one.specs.Lacking.{flagsOf}
 use Rattle.pass_moment.specs.declared.Passed.{Passed}
 use Rattle.pass_moment.specs.declared.Passed.the-variants.{Over as Passes, Refused as Refuses}
 use Rattle.line_memory.specs.Memory.{IsTable, Counted, padded}
@@ -52,12 +53,12 @@ pub record Given : Type 0 where
   pub budget : ℕ
   pub traced : Bool
 
--- what they write: the state, the text, room for a new line, the marks, a byte for each macro, and the trace
+-- what they write: the state, the text, room for a new line, the flags of the text's bytes, a byte for each macro, and the trace
 pub record Memories : Type 0 where
   pub state : List ℕ
   pub text : List ℕ
   pub new : List ℕ
-  pub marks : List ℕ
+  pub present : List ℕ
   pub flags : List ℕ
   pub trace : List ℕ
 
@@ -97,7 +98,7 @@ pub record Ready (g : Given) (m : Memories) (a : Stand) : Type 0 where
   pub text : length (m .text) ≡ mostLineBytes
   pub laid : m .text ≡ padded (take (a .size) (m .text)) mostLineBytes
   pub new : length (m .new) ≡ mostLineBytes
-  pub marks : m .marks ≡ replicate marksBytes 0
+  pub present : m .present ≡ flagsOf (take (a .size) (m .text))
   pub flags : length (m .flags) ≡ mostMacros
   pub begins : (begun : List ℕ) × Begun (m .flags) begun
   pub size : a .size ≤ mostLineBytes
@@ -117,9 +118,10 @@ pub record Ends (g : Given) (m : Memories) (left : Left) (a : Stand) (r : Ended)
 
 -- BEHIND A PASS
 
--- what is written behind a pass: the text, the bytes of closed macros, and the trace
+-- what is written behind a pass: the text, the flags of its bytes, the bytes of closed macros, and the trace
 pub record Texts : Type 0 where
   pub text : List ℕ
+  pub present : List ℕ
   pub flags : List ℕ
   pub trace : List ℕ
 
@@ -127,6 +129,7 @@ pub record Texts : Type 0 where
 pub record Followed (tb : List ℕ) (m : Texts) (nw : List ℕ) (traced : Bool) (n : ℕ) (on : Stand) : Type 0 where
   pub text : length (m .text) ≡ mostLineBytes
   pub new : length nw ≡ mostLineBytes
+  pub present : length (m .present) ≡ 256
   pub within : n ≤ mostLineBytes
   pub size : on .size ≤ mostLineBytes
   pub slot : 1024 * on .due < length tb
@@ -143,6 +146,7 @@ pub record Again (tb : List ℕ) (count : ℕ) (m m′ : Texts) (nw : List ℕ) 
   pub written : ℕ
   pub next : z ≡ On (record { size = n; occurred = true; due = count; begun = on .begun; written = written })
   pub line : m′ .text ≡ padded (take n nw) (length (m .text))
+  pub present : m′ .present ≡ flagsOf (take n nw)
   pub closed : m′ .flags ≡ closedFlags (m .flags) (getD tb (1024 * on .due) 0) (on .due)
   pub traces : traced ≡ true → (written ≡ on .written + length (linesHere m nw n on)) × (written ≤ mostTraceBytes)
       × (m′ .trace ≡ padded (take (on .written) (m .trace) ++ linesHere m nw n on) mostTraceBytes)

@@ -23,19 +23,19 @@ fn prepare(slot: &[u8], state: &mut [u8], flags: &mut [u8], k: usize) -> Outcome
 pub(crate) fn run_pass(
     slot: &[u8],
     kinds: &[u8; 256],
+    present: &[u8],
     line: &[u8],
     state: &mut [u8],
     new: &mut [u8],
-    marks: &mut [u8],
     flags: &mut [u8],
     k: usize,
 ) -> Passed
-    requires { ⌜ PassLent (now slot) (now kinds) (now line) (now state) (now new) (now marks) (now flags) k ⌝ }
-    ensures { λ r. ⌜ PassRuns (now (slot .entry)) (now (line .entry)) (record { state = now (state .entry); new = now (new .entry); marks = now (marks .entry); flags = now (flags .entry) }) (record { state = now (state .exit); new = now (new .exit); marks = now (marks .exit); flags = now (flags .exit) }) k r ⌝ }
+    requires { ⌜ PassLent (now slot) (now kinds) (now present) (now line) (now state) (now new) (now flags) k ⌝ }
+    ensures { λ r. ⌜ PassRuns (now (slot .entry)) (now (line .entry)) (record { state = now (state .entry); new = now (new .entry); flags = now (flags .entry) }) (record { state = now (state .exit); new = now (new .exit); flags = now (flags .exit) }) k r ⌝ }
 {
     let prepared = prepare(slot, state, flags, k);
     let Outcome::Refused(f, _) = prepared else {
-        return pass(slot, kinds, line, state, new, marks);
+        return pass(slot, kinds, present, line, state, new);
     };
     Passed::Refused(f, 0)
 }

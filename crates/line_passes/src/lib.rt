@@ -5,6 +5,7 @@ mod slots;
 
 use kinds::kind_table;
 use line_memory::lay_out;
+use pass_one::lacking::note;
 use passes::all_passes;
 use refusals::WorkFault;
 ghost use mathlib.Core.Path.{_≡_};
@@ -72,7 +73,8 @@ fn from_start(
 {
     let kinds = kind_table();
     let mut new = [0u8; 1054];
-    let mut marks = [0u8; 67056];
+    let mut present = [0u8; 256];
+    note(&text[..size], &mut present);
     let mut flags = [0u8; 96];
     let start = Stand {
         size: size,
@@ -88,7 +90,7 @@ fn from_start(
         state,
         text,
         &mut new,
-        &mut marks,
+        &mut present,
         &mut flags,
         trace,
         traced,

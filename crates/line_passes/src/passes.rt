@@ -11,6 +11,7 @@ use line_memory::lay_out;
 use line_trace::Traced;
 use line_trace::trace_pass;
 use pass_moment::Passed;
+use pass_one::lacking::note;
 ghost use mathlib.Core.Path.{_≡_};
 ghost use Prim.Native.Nat.{_≤_};
 ghost use lib.ListN.{length};
@@ -30,20 +31,21 @@ fn is_control(line: &[u8]) -> bool
     line[0] == b'$'
 }
 
-// After a pass with an occurrence: its lines go to the trace, the new line is the line, and it goes on again with the newest. Lines that do not fit end it.
+// After a pass with an occurrence: its lines go to the trace, the new line is the line, with its bytes noted anew, and it goes on again with the newest. Lines that do not fit end it.
 fn again(
     table: &[u8],
     count: usize,
     text: &mut [u8],
     new: &[u8],
+    present: &mut [u8],
     flags: &mut [u8],
     trace: &mut [u8],
     traced: bool,
     size: usize,
     on: Stand,
 ) -> Next
-    requires { ⌜ Followed (now table) (record { text = now text; flags = now flags; trace = now trace }) (now new) traced size on ⌝ }
-    ensures { λ r. ⌜ Follows (now (table .entry)) count (record { text = now (text .entry); flags = now (flags .entry); trace = now (trace .entry) }) (record { text = now (text .exit); flags = now (flags .exit); trace = now (trace .exit) }) (now (new .entry)) traced (Passes true size) on r ⌝ }
+    requires { ⌜ Followed (now table) (record { text = now text; present = now present; flags = now flags; trace = now trace }) (now new) traced size on ⌝ }
+    ensures { λ r. ⌜ Follows (now (table .entry)) count (record { text = now (text .entry); present = now (present .entry); flags = now (flags .entry); trace = now (trace .entry) }) (record { text = now (text .exit); present = now (present .exit); flags = now (flags .exit); trace = now (trace .exit) }) (now (new .entry)) traced (Passes true size) on r ⌝ }
 {
     let k = on.due;
     let n = on.size;
@@ -53,6 +55,7 @@ fn again(
         return Next::Over(Ended::Refused(Why::TraceTooLong, on.begun));
     };
     lay_out(text, &new[..size]);
+    note(&new[..size], present);
     close(flags, table[1024 * k], k);
     Next::On(Stand {
         size: size,
@@ -69,14 +72,15 @@ fn after_pass(
     count: usize,
     text: &mut [u8],
     new: &[u8],
+    present: &mut [u8],
     flags: &mut [u8],
     trace: &mut [u8],
     traced: bool,
     passed: Passed,
     on: Stand,
 ) -> Next
-    requires { ⌜ Followed (now table) (record { text = now text; flags = now flags; trace = now trace }) (now new) traced (sizeOf passed) on ⌝ }
-    ensures { λ r. ⌜ Follows (now (table .entry)) count (record { text = now (text .entry); flags = now (flags .entry); trace = now (trace .entry) }) (record { text = now (text .exit); flags = now (flags .exit); trace = now (trace .exit) }) (now (new .entry)) traced passed on r ⌝ }
+    requires { ⌜ Followed (now table) (record { text = now text; present = now present; flags = now flags; trace = now trace }) (now new) traced (sizeOf passed) on ⌝ }
+    ensures { λ r. ⌜ Follows (now (table .entry)) count (record { text = now (text .entry); present = now (present .entry); flags = now (flags .entry); trace = now (trace .entry) }) (record { text = now (text .exit); present = now (present .exit); flags = now (flags .exit); trace = now (trace .exit) }) (now (new .entry)) traced passed on r ⌝ }
 {
     match passed {
         Passed::Refused(f, _) => {
@@ -84,7 +88,18 @@ fn after_pass(
         }
         Passed::Over(o, size) => {
             if o {
-                return again(table, count, text, new, flags, trace, traced, size, on);
+                return again(
+                    table,
+                    count,
+                    text,
+                    new,
+                    present,
+                    flags,
+                    trace,
+                    traced,
+                    size,
+                    on,
+                );
             }
             return Next::On(on);
         }
@@ -120,15 +135,15 @@ fn step(
     state: &mut [u8],
     text: &mut [u8],
     new: &mut [u8],
-    marks: &mut [u8],
+    present: &mut [u8],
     flags: &mut [u8],
     trace: &mut [u8],
     traced: bool,
     budget: usize,
     stand: Stand,
 ) -> Next
-    requires { ⌜ Ready (record { table = now table; count = count; kinds = now kinds; budget = budget; traced = traced }) (record { state = now state; text = now text; new = now new; marks = now marks; flags = now flags; trace = now trace }) stand ⌝ }
-    ensures { λ r. ⌜ Steps (record { table = now (table .entry); count = count; kinds = now (kinds .entry); budget = budget; traced = traced }) (record { state = now (state .entry); text = now (text .entry); new = now (new .entry); marks = now (marks .entry); flags = now (flags .entry); trace = now (trace .entry) }) (record { state = now (state .exit); text = now (text .exit); new = now (new .exit); marks = now (marks .exit); flags = now (flags .exit); trace = now (trace .exit) }) stand r ⌝ }
+    requires { ⌜ Ready (record { table = now table; count = count; kinds = now kinds; budget = budget; traced = traced }) (record { state = now state; text = now text; new = now new; present = now present; flags = now flags; trace = now trace }) stand ⌝ }
+    ensures { λ r. ⌜ Steps (record { table = now (table .entry); count = count; kinds = now (kinds .entry); budget = budget; traced = traced }) (record { state = now (state .entry); text = now (text .entry); new = now (new .entry); present = now (present .entry); flags = now (flags .entry); trace = now (trace .entry) }) (record { state = now (state .exit); text = now (text .exit); new = now (new .exit); present = now (present .exit); flags = now (flags .exit); trace = now (trace .exit) }) stand r ⌝ }
 {
     let n = stand.size;
     let due = next_due(&text[..n], flags, budget, stand);
@@ -141,10 +156,10 @@ fn step(
             let passed = run_pass(
                 &table[a..a + 1024],
                 kinds,
+                present,
                 &text[..n],
                 state,
                 new,
-                marks,
                 flags,
                 k,
             );
@@ -155,7 +170,18 @@ fn step(
                 begun: stand.begun + 1,
                 written: stand.written,
             };
-            return after_pass(table, count, text, new, flags, trace, traced, passed, on);
+            return after_pass(
+                table,
+                count,
+                text,
+                new,
+                present,
+                flags,
+                trace,
+                traced,
+                passed,
+                on,
+            );
         }
     }
 }
@@ -168,15 +194,15 @@ pub(crate) fn all_passes(
     state: &mut [u8],
     text: &mut [u8],
     new: &mut [u8],
-    marks: &mut [u8],
+    present: &mut [u8],
     flags: &mut [u8],
     trace: &mut [u8],
     traced: bool,
     budget: usize,
     start: Stand,
 ) -> Ended
-    requires { ⌜ Ready (record { table = now table; count = count; kinds = now kinds; budget = budget; traced = traced }) (record { state = now state; text = now text; new = now new; marks = now marks; flags = now flags; trace = now trace }) start ⌝ }
-    ensures { λ r. ⌜ Ends (record { table = now (table .entry); count = count; kinds = now (kinds .entry); budget = budget; traced = traced }) (record { state = now (state .entry); text = now (text .entry); new = now (new .entry); marks = now (marks .entry); flags = now (flags .entry); trace = now (trace .entry) }) (record { state = now (state .exit); text = now (text .exit); trace = now (trace .exit) }) start r ⌝ }
+    requires { ⌜ Ready (record { table = now table; count = count; kinds = now kinds; budget = budget; traced = traced }) (record { state = now state; text = now text; new = now new; present = now present; flags = now flags; trace = now trace }) start ⌝ }
+    ensures { λ r. ⌜ Ends (record { table = now (table .entry); count = count; kinds = now (kinds .entry); budget = budget; traced = traced }) (record { state = now (state .entry); text = now (text .entry); new = now (new .entry); present = now (present .entry); flags = now (flags .entry); trace = now (trace .entry) }) (record { state = now (state .exit); text = now (text .exit); trace = now (trace .exit) }) start r ⌝ }
 {
     let mut stand = start;
     loop {
@@ -187,7 +213,7 @@ pub(crate) fn all_passes(
             state,
             text,
             new,
-            marks,
+            present,
             flags,
             trace,
             traced,

@@ -3,8 +3,8 @@
 use Prim.Native.Nat.{ℕ, _+_, _≤_, _<_}
 use mathlib.Core.Path.{_≡_}
 use mathlib.Core.Bool.{Bool, true, false}
-use mathlib.Core.List.{List}
-use lib.ListN.{length, getD, set}
+use mathlib.Core.List.{List, _++_}
+use lib.ListN.{length, getD, take, drop, set}
 use Rattle.macros.specs.Bounds.{mostLineBytes}
 use Rattle.refusals.specs.declared.WorkFault.{WorkFault}
 use Rattle.refusals.specs.declared.WorkFault.the-variants.{NewLineTooLong}
@@ -20,9 +20,14 @@ use Rattle.pass_moment.specs.declared.Moment.{Moment}
 abbrev pub pastPlaces : ℕ
 pastPlaces = mostLineBytes + 1
 
--- part 5: "tries places from 0"; no match yet, and no byte of the new line
-abbrev pub startAt : Moment
-startAt = record { place = 0; last = pastPlaces; size = 0; occurred = false; refusal = NotRefused }
+-- part 5: place p, before which there is no match; the new line has the bytes before it
+abbrev pub startAt : ℕ → Moment
+startAt p = record { place = p; last = pastPlaces; size = p; occurred = false; refusal = NotRefused }
+
+-- "At a place without a match the byte is copied.": those before p, and nothing else changes
+pub record Starts (t out out′ : List ℕ) (p : ℕ) (r : Moment) : Type 0 where
+  pub moment : r ≡ startAt p
+  pub copied : out′ ≡ take p t ++ drop p out
 
 -- part 5: the next place, with n bytes of the new line
 abbrev pub movedTo : Moment → ℕ → Moment

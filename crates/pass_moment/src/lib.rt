@@ -5,7 +5,7 @@ ghost use Prim.Native.Nat.{_≤_};
 ghost use mathlib.Core.Path.{_≡_};
 ghost use lib.ListN.{length};
 ghost use Rattle.macros.specs.Bounds.{mostLineBytes};
-ghost use Rattle.pass_moment.specs.Moments.{startAt, movedTo, refusedAt, afterOf, passedOf, Copies, StepsOver};
+ghost use Rattle.pass_moment.specs.Moments.{Starts, movedTo, refusedAt, afterOf, passedOf, Copies, StepsOver};
 
 // Whether there was an occurrence, and the bytes of the new line; or a refusal, with the bytes that the new line has by then.
 pub enum Passed {
@@ -29,14 +29,20 @@ pub struct Moment {
     pub refusal: Refusal,
 }
 
-// Place 0. 1,055 lies past every place: there was no match yet.
-pub fn start() -> Moment
-    ensures { λ r. ⌜ r ≡ startAt ⌝ }
+// Place p, before which there is no match: the bytes before it are copied. 1,055 lies past every place: there was no match yet.
+pub fn start(line: &[u8], p: usize, out: &mut [u8]) -> Moment
+    requires { ⌜ (p ≤ length (now line)) × (p ≤ length (now out)) ⌝ }
+    ensures { λ r. ⌜ Starts (now (line .entry)) (now (out .entry)) (now (out .exit)) p r ⌝ }
 {
+    let mut i = 0;
+    while i < p {
+        out[i] = line[i];
+        i += 1;
+    }
     Moment {
-        place: 0,
+        place: p,
         last: 1055,
-        size: 0,
+        size: p,
         occurred: false,
         refusal: Refusal::NotRefused,
     }

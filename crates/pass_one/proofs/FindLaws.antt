@@ -7,8 +7,8 @@ use mathlib.Core.Option.{Option, none, some}
 use Prim.Native.Nat.{ℕ, _≤_, _<_}
 use native.Mathlib.Omega.{arith}
 use native.Mathlib.Decide.{ℕ-discrete}
-use borrow.Author.Tests.{eq-eqb, ne-eqb, le-leb, not-true}
-use lib.Dec.{eqb, leb}
+use borrow.Author.Tests.{eq-eqb, ne-eqb, le-leb, ltb-true, not-true}
+use lib.Dec.{eqb, leb, ltb}
 use lib.ListN.{length, getD, drop}
 use Rattle.macros.specs.Bounds.{mostLineBytes}
 use Rattle.macros.specs.Macro.{Piece}
@@ -22,8 +22,10 @@ use Rattle.lines.specs.Matching.{Division, span, byteFits, fits, width, endOf, 
 use Rattle.lines.specs.Choosing.{Rest, repeated, chosen}
 use Rattle.lines.specs.Pass.{barred, unlessBarred, counting, match}
 use Rattle.lines.proofs.MoreLaws.{stopsOf}
+use Rattle.form_state.specs.Access.{Holds}
+use Rattle.pass_moment.specs.Moments.{pastPlaces}
 use Rattle.pass_one.specs.Pattern.{IsPattern, IsRest}
-use Rattle.pass_one.specs.Finding.{Ready, pickLast, lastOf, FoundAt, countedOf, Differs, Finds}
+use Rattle.pass_one.specs.Finding.{Ready, pickLast, lastOf, FoundAt, countedOf, Differs, LastPlace, Finds}
 use Rattle.pass_one.specs.Trying.{answer, lastStop, Said, Trying, Tried}
 use Rattle.pass_one.proofs.TextLaws.{byte-here, byte-past}
 use Rattle.pass_one.specs.declared.Found.{Found}
@@ -124,6 +126,24 @@ module _ (items b t : List ℕ) (last p : ℕ) (marks marks′ ends′ : List �
       by (yes x) (no y) = rw (eq-eqb q p x, ne-eqb last p y) (find-one q k (λ u v. y v))
       by (no x) d = rw (ne-eqb q p x) (find-one q k (λ u v. x u))
 
+  -- without a match before
+  pub find-first : (m : ℕ) → p ≤ mostLineBytes → Tried items b t 0 p marks marks′ ends′ (Matched m) → Finds items b t pastPlaces p marks marks′ ends′ (Matched m)
+  unfolding match
+  find-first m l k = record {
+    found = λ es i st h. a-match es pastPlaces p ends′ (chosen st es p (drop p t)) m (k .said es (whole items es i) st h) (λ x y. omega arith);
+    sound = k .kept .noted .sound;
+    outside = k .kept .outside;
+    inside = k .kept .noted .inside;
+  }
+
+  -- no division begins here
+  pub tried-none : Tried items b t 0 p marks marks′ ends′ NoMatch → (es : List Piece) → IsPattern items es → (st : State) → Holds b st → chosen st es p (drop p t) ≡ none
+  tried-none k es i st h = said-none (chosen st es p (drop p t)) (k .said es (whole items es i) st h)
+    where
+      said-none : (a : Option Division) → Said es (stopsOf a) 0 p ends′ NoMatch → a ≡ none
+      said-none none s = refl
+      said-none (some d) s = absurd (let f = s .found in let z : _≡_ {A = ℕ} 0 1 = cc in omega arith)
+
   pub find-differs : (kinds ends : List ℕ) → Ready items kinds b t p marks ends → (x : Bool) → Differs items t p x → x ≡ true → Finds items b t last p marks marks ends NoMatch
   unfolding match counting
   find-differs kinds ends r x d e = record {
@@ -167,3 +187,28 @@ module _ (items t : List ℕ) (p : ℕ) (lo : 8 ≤ getD items 0 0) (hi : getD i
 
   pub differs-byte : p < length t → Differs items t p (not (eqb (getD items 1 0) (getD t p 0)))
   differs-byte l = record { none-here = λ e es i st. first-literal items t p lo hi (byte-here t p (eqb (getD items 1 0)) l ∙ not-true (eqb (getD items 1 0) (getD t p 0)) e) st es (i .form) }
+
+-- `^` FIRST
+
+first-start : (items s : List ℕ) (p : ℕ) → getD items 0 0 ≡ 3 → 0 < p → (st : State) (es : List Piece) → patternItems es ≡ items → chosen st es p s ≡ none
+unfolding patternItems pieceItems unitCode closureCode unitOperand chosen
+first-start items s p f l st [] i = absurd (let z = ap (λ (x : List ℕ). getD x 0 0) i in omega arith)
+first-start items s p f l st (start ∷ es) i = rw (ne-eqb p 0 (λ e. omega arith), chosen)
+first-start items s p f l st (element (literal b) c ∷ es) i = absurd (let z = ap (λ (x : List ℕ). getD x 0 0) i in omega arith)
+first-start items s p f l st (element (kind n) c ∷ es) i = absurd (let z = ap (λ (x : List ℕ). getD x 0 0) i in omega arith)
+first-start items s p f l st (element (class true ms) c ∷ es) i = absurd (let z = ap (λ (x : List ℕ). getD x 0 0) i in omega arith)
+first-start items s p f l st (element (class false ms) c ∷ es) i = absurd (let z = ap (λ (x : List ℕ). getD x 0 0) i in omega arith)
+first-start items s p f l st (element (callOf stack j) c ∷ es) i = absurd (let z = ap (λ (x : List ℕ). getD x 0 0) i in omega arith)
+first-start items s p f l st (element (callOf counter j) c ∷ es) i = absurd (let z = ap (λ (x : List ℕ). getD x 0 0) i in omega arith)
+first-start items s p f l st (end ∷ es) i = absurd (let z = ap (λ (x : List ℕ). getD x 0 0) i in omega arith)
+first-start items s p f l st (left ∷ es) i = absurd (let z = ap (λ (x : List ℕ). getD x 0 0) i in omega arith)
+first-start items s p f l st (right ∷ es) i = absurd (let z = ap (λ (x : List ℕ). getD x 0 0) i in omega arith)
+
+pub differs-start : (items t : List ℕ) (p : ℕ) → getD items 0 0 ≡ 3 → Differs items t p (ltb 0 p)
+differs-start items t p f = record { none-here = λ e es i st. first-start items (drop p t) p f (ltb-true 0 p e) st es (i .form) }
+
+pub last-all : (items t : List ℕ) → LastPlace items t (length t)
+last-all items t = record { inside = omega arith; none-past = λ es i st p h l. absurd (omega arith) }
+
+pub last-start : (items t : List ℕ) → getD items 0 0 ≡ 3 → LastPlace items t 0
+last-start items t f = record { inside = omega arith; none-past = λ es i st p h l. first-start items (drop p t) p f h st es (i .form) }

@@ -13,3 +13,4 @@ pub mod MomentLaws
 pub mod PlaceLaws
 pub mod GoingLaws
 pub mod SlotLaws
+pub mod LackLaws

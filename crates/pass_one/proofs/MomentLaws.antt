@@ -1,5 +1,5 @@
 -- A pass, one moment at a time: how the moments of pass_moment make the pass of the definitions.
-use Prim.Native.Nat.{ℕ, suc, _+_, _-_, _≤_, _<_}
+use Prim.Native.Nat.{ℕ, zero, suc, _+_, _-_, _≤_, _<_}
 use mathlib.Core.Path.{_≡_, refl, sym, ap, _∙_, subst}
 use mathlib.Core.Bool.{Bool, true, false, _||_}
 use mathlib.Core.List.{List, [], _∷_, _++_}
@@ -9,16 +9,17 @@ use native.Mathlib.Omega.{arith}
 use borrow.Author.Tests.{ltb-true, ltb-false, lt-ltb, le-ltb, le-leb}
 use lib.Dec.{ltb}
 use lib.ListN.{length, getD, take, drop, set}
-use lib.Seq.{take-suc-set}
+use lib.Seq.{take-suc, take-suc-set}
 use Rattle.macros.specs.Bounds.{mostLineBytes}
 use Rattle.macros.specs.Refusals.{WorkRefusal}
 use Rattle.macros.specs.Refusals.WorkRefusal.{newLineTooLong}
 use Rattle.macros.specs.Macro.{Piece, Macro}
 use Rattle.lines.specs.State.{State}
 use Rattle.lines.specs.Matching.{Division, Divides, endOf}
-use Rattle.lines.specs.Replacing.{Work, unless, put, occur}
+use Rattle.lines.specs.Replacing.{Work, startIn, onto, unless, put, occur}
 use Rattle.lines.specs.Replacing.Done.{bad, good}
 use Rattle.lines.specs.Pass.{Walk, match, goOn, matched, atEnd, onward, atByte, walk, pass, outcome, occurred}
+use Rattle.lines.specs.Line.{textOf}
 use Rattle.lines.proofs.StepLaws.{walk-end, walk-byte, step-copy, step-match, step-empty}
 use Rattle.lines.proofs.CopiedLaws.{put-text}
 use Rattle.lines.proofs.CopyLaws.{ends-on, ends-inside}
@@ -31,11 +32,11 @@ use Rattle.pass_replace.specs.Contract.{IsMoment}
 use Rattle.pass_moment.specs.declared.Moment.{Moment}
 use Rattle.pass_moment.specs.declared.Refusal.{Refusal}
 use Rattle.pass_moment.specs.declared.Refusal.the-variants.{NotRefused}
-use Rattle.pass_moment.specs.Moments.{movedTo, refusedAt, afterOf, answerOf, passedOf, Copies}
+use Rattle.pass_moment.specs.Moments.{pastPlaces, movedTo, refusedAt, afterOf, answerOf, passedOf, Copies, StepsOver}
 use Rattle.pass_one.specs.Contract.{SaysOccurred, doneOf as passDone}
 use Rattle.pass_one.specs.Finding.{lastOf}
 use Rattle.pass_one.specs.Places.{from, matchAt, Onward, MovesTo}
-use Rattle.pass_one.specs.PassMoments.{TriedAt, PassStarts, PassCopies, PassReplaces, PassGoesOn}
+use Rattle.pass_one.specs.PassMoments.{CopiedTo, TriedAt, PassStarts, PassCopies, PassReplaces, PassGoesOn}
 
 -- THE LAST MATCH
 
@@ -230,9 +231,46 @@ module _ (m : Macro) (t b out : List ℕ) (a : Moment) (w : Work) (y : TriedAt t
 
 -- THE LAWS
 
+-- the pass from a place before which there is no match
+copied-to : (m : Macro) (t : List ℕ) (st : State) (p : ℕ) → p ≤ length t → length t ≤ mostLineBytes → ((i : ℕ) → i < p → matchAt m t pastPlaces i (startIn st) ≡ none)
+    → (w : Work) × CopiedTo t st p w × (pass m t st ≡ from m t pastPlaces p w)
+unfolding pass lastOf textOf onto
+copied-to m t st zero h l f = (startIn st, record { line = refl; size = refl; state = refl }, refl)
+copied-to m t st (suc p) h l f =
+    let u = copied-to m t st p (omega arith) l (λ i k. f i (omega arith)) in
+    let z = u .1 .size in
+    let v : Work = record { out = getD t p 0 ∷ u .0 .out; size = suc (u .0 .size); state = u .0 .state } in
+    let e : put (getD t p 0) (u .0) ≡ good v = put-on (getD t p 0) (u .0) (omega arith) in
+    let g : matchAt m t pastPlaces p (u .0) ≡ none = ap (λ (x : State). match x (m .pattern) (lastOf pastPlaces) p (drop p t)) (u .1 .state) ∙ f p (omega arith) in (
+      v,
+      record {
+        line = put-text (getD t p 0) (u .0) v e ∙ ap (λ (x : List ℕ). x ++ (getD t p 0 ∷ [])) (u .1 .line) ∙ sym (take-suc t p 0 (omega arith));
+        size = ap suc z;
+        state = u .1 .state;
+      },
+      u .2 ∙ step-copy m t (lastOf pastPlaces) p (u .0) v (omega arith) g e,
+    )
+
 pub pass-starts : PassStarts
-unfolding pass lastOf
-pass-starts m t st = record { on = λ l. (refl, refl); over = λ l. absurd (omega arith) }
+pass-starts m t st p h l f =
+    let u = copied-to m t st p h l f in
+    (u .0, u .1, record { on = λ k. (ap outcome (u .2), ap occurred (u .2)); over = λ k. absurd (omega arith) })
+
+-- no match at any place
+pub pass-none : (m : Macro) (t : List ℕ) (st : State) → length t ≤ mostLineBytes → ((i : ℕ) → i ≤ length t → matchAt m t pastPlaces i (startIn st) ≡ none)
+    → (w : Work) × CopiedTo t st (length t) w × (outcome (pass m t st) ≡ good w) × (occurred (pass m t st) ≡ false)
+pass-none m t st l f =
+    let u = copied-to m t st (length t) (omega arith) l (λ i k. f i (omega arith)) in
+    let g : matchAt m t pastPlaces (length t) (u .0) ≡ none = ap (λ (x : State). match x (m .pattern) (lastOf pastPlaces) (length t) (drop (length t) t)) (u .1 .state) ∙ f (length t) (omega arith) in
+    let e = end-free m t pastPlaces (length t) (u .0) (omega arith) g in
+    (u .0, u .1, ap outcome (u .2) ∙ e .0, ap occurred (u .2) ∙ e .1)
+
+-- a pass that had an occurrence had one
+pub steps-occurred : (t out l : List ℕ) (p : ℕ) (a z : Moment) → StepsOver t out l p a z → a .occurred ≡ true → z .occurred ≡ true
+steps-occurred t out l p a z k o =
+    below-or (z .occurred ≡ true) p (a .place)
+    (λ g. ap (λ (x : Moment). x .occurred) (k .further g .0) ∙ o)
+    (λ g. copies-by (λ (x : Moment) (y : List ℕ). x .occurred ≡ true) t out l a z (k .still g) (λ i. o) (λ i j. refl) (λ i j. o))
 
 pub pass-copies : PassCopies
 pass-copies m t b out out′ a r w y e s =

@@ -19,7 +19,7 @@ pairs-both P Q R f (c ∷ []) h g = h
 pairs-both P Q R f (c ∷ i ∷ l) h g = (f c i (h .0) (g .0), pairs-both P Q R f l (h .1) (g .1))
 
 -- the item at a place
-cut : (l : List ℕ) (at : ℕ) → at + 1 < length l → drop at l ≡ getD l at 0 ∷ getD l (at + 1) 0 ∷ drop (at + 2) l
+pub cut : (l : List ℕ) (at : ℕ) → at + 1 < length l → drop at l ≡ getD l at 0 ∷ getD l (at + 1) 0 ∷ drop (at + 2) l
 cut l at h = rw (add-one, add-two) (drop-cons l at 0 (omega arith) ∙ ap (λ (t : List ℕ). getD l at 0 ∷ t) (drop-cons l (suc at) 0 (omega arith)))
 
 module _ (P : ℕ → ℕ → Type 0) where

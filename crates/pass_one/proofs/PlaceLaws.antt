@@ -1,5 +1,5 @@
 -- A pass, one place at a time, as the code takes it.
-use Prim.Native.Nat.{ℕ, _+_, _-_, _≤_, _<_}
+use Prim.Native.Nat.{ℕ, _+_, _-_, _*_, _≤_, _<_}
 use mathlib.Core.Path.{_≡_, refl, ap, _∙_, subst}
 use mathlib.Core.Bool.{Bool, true}
 use mathlib.Core.List.{List}
@@ -25,7 +25,7 @@ use Rattle.pass_one.specs.Finding.{Ready, FoundAt, countedOf, Finds, Dif
 use Rattle.pass_one.specs.Trying.{Tried}
 use Rattle.pass_one.specs.Seen.{Seen, Renewing, Renewed}
 use Rattle.pass_moment.specs.Moments.{movedTo, refusedAt, afterOf, Copies, StepsOver}
-use Rattle.pass_one.specs.Places.{matchAt, AtPlace, MovesTo, Goes, GoesBy}
+use Rattle.pass_one.specs.Places.{matchAt, AtPlace, Makes, MovesTo, Goes, GoesBy}
 use Rattle.pass_one.specs.PassMoments.{TriedAt}
 use Rattle.pass_one.proofs.FindLaws.{find-counted, find-differs}
 use Rattle.pass_one.proofs.MomentLaws.{below-or, both, copies-by, free-end, free-full, free-copied, match-within, match-refused, match-on, empty-end, empty-full, empty-copied}
@@ -39,6 +39,10 @@ drop-on a b i j e h =
     let q : i + (j - i) ≡ j = omega arith in
     let r : drop (j - i) (drop i a) ≡ drop (j - i) (drop i b) = ap (drop (j - i)) e in
     rw (drop-drop, drop-drop, q) at r
+
+after-occurred : (o : Outcome) (q : ℕ) → afterOf o q .occurred ≡ true
+after-occurred (Made k) q = refl
+after-occurred (MadeRefused f k) q = refl
 
 found-none : (a : Option Division) (p : ℕ) (es : List Piece) (ends : List ℕ) → FoundAt a p es ends NoMatch → a ≡ none
 found-none none p es ends h = refl
@@ -117,7 +121,7 @@ module _ (s items kinds t b out marks ends : List ℕ) (a : Moment) (y : AtPlace
     go-free z l c = copies-by Went t out l a z c free-end-here free-full-here free-copied-here
 
     pub goes-free : GoesBy s items t b b out out marks marks′ seen ends′ a a
-    goes-free = record { copied = λ z l k. go-free z l (k .still (omega arith)) }
+    goes-free = record { copied = λ z l k. go-free z l (k .still (omega arith)); stays = λ o. o }
 
   -- with a match that ends at q
   module _ (q : ℕ) (e : r ≡ Matched q) where
@@ -262,5 +266,57 @@ module _ (s items kinds t b out marks ends : List ℕ) (a : Moment) (y : AtPlace
           (λ g. both Acted z _ l _ (c .further g) (act-on k oc g))
           (λ g. let i = within in let e : q ≡ a .place = omega arith in copies-by Acted t out′ l (next k oc) z (c .still g) (empty-end-here k oc e) (empty-full-here k oc e) (empty-copied-here k oc e lo))
 
-    pub goes-acted : (b′ out′ marks″ seen′ : List ℕ) (o : Outcome) → Occurs s ends′ t b b′ out out′ (a .size) o → Renewed items b′ seen seen′ marks′ marks″ → length out′ ≡ mostLineBytes → (x : Moment) → x ≡ afterOf o q → GoesBy s items t b b′ out out′ marks marks″ seen′ ends′ a x
-    goes-acted b′ out′ marks″ seen′ o oc rn lo x h = record { copied = λ z l c. go-made b′ out′ marks″ seen′ rn lo o oc z l (subst (λ (u : Moment). StepsOver t out′ l (a .place) u z) h c) }
+    pub goes-acted : (b′ out′ marks″ seen′ : List ℕ) (o : Outcome) → Occurs s ends′ t b b′ out out′ (a .size) o → Renewed items b′ seen seen′ marks′ marks″ → length out′ ≡ mostLineBytes → (x : Moment) → x ≡ afterOf o q
+        → GoesBy s items t b b′ out out′ marks marks″ seen′ ends′ a x × (x .occurred ≡ true)
+    goes-acted b′ out′ marks″ seen′ o oc rn lo x h =
+        let e : x .occurred ≡ true = ap (λ (u : Moment). u .occurred) h ∙ after-occurred o q in
+        (record { copied = λ z l c. go-made b′ out′ marks″ seen′ rn lo o oc z l (subst (λ (u : Moment). StepsOver t out′ l (a .place) u z) h c); stays = λ k. e }, e)
+
+-- WHERE A MATCH WAS FOUND
+
+-- the memories behind the matcher
+pub makes : (s items kinds t b out marks ends : List ℕ) (a : Moment) → AtPlace s items kinds t b out marks ends a → (marks′ ends′ : List ℕ) (q : ℕ) (r : Found) → Finds items b t (a .last) (a .place) marks marks′ ends′ r → r ≡ Matched q
+    → length marks′ ≡ length marks → length ends′ ≡ length ends → Makes s items t b out marks′ ends′ a q
+makes s items kinds t b out marks ends a y marks′ ends′ q r g e lm le =
+    let f = subst (Finds items b t (a .last) (a .place) marks marks′ ends′) e g in
+    record {
+      at = record {
+        macro = y .macro;
+        pattern = y .pattern;
+        table = refl;
+        bytes = y .bytes;
+        short = y .short;
+        place = y .place;
+        well = y .well;
+        moment = y .moment;
+        room = y .room;
+        size = y .size;
+        rows = lm ∙ y .rows;
+        sound = f .sound;
+        count = le ∙ y .count;
+        inside = f .inside;
+      };
+      found = record { found = f .found; sound = f .sound; outside = refl; inside = f .inside };
+    }
+
+-- behind the matcher only the marks of the items are others
+pub goes-behind : (s items t b b′ out out′ marks marks′ marks″ seen ends : List ℕ) (a r : Moment) → drop (66 * length items) marks′ ≡ drop (66 * length items) marks
+    → GoesBy s items t b b′ out out′ marks′ marks″ seen ends a r → GoesBy s items t b b′ out out′ marks marks″ seen ends a r
+goes-behind s items t b b′ out out′ marks marks′ marks″ seen ends a r e g =
+    record {
+      copied = λ z l k.
+          let h = g .copied z l k in
+          record {
+            comes = h .comes;
+            past = h .past;
+            size = h .size;
+            grows = h .grows;
+            further = h .further;
+            well = h .well;
+            sound = h .sound;
+            sees = h .sees;
+            outside = h .outside ∙ e;
+            inside = h .inside;
+          };
+      stays = g .stays;
+    }

@@ -21,7 +21,7 @@ use Rattle.lines.proofs.MoreLaws.{stopsOf}
 use Rattle.lines.proofs.CopyLaws.{fits-inside}
 use Rattle.form_state.specs.Access.{Holds, IsState, OfState}
 use Rattle.pass_replace.specs.Contract.{EndsFrom}
-use Rattle.pass_one.specs.Contract.{marksBytes}
+use Rattle.pass_one.specs.Contract.{rowsBytes}
 use Rattle.pass_one.specs.Pattern.{IsRest, OfPiece}
 use Rattle.pass_marks.specs.Marks.{mark}
 use Rattle.form_element.specs.Element.{codeClosure, elementOf, AnyPiece}
@@ -265,7 +265,7 @@ module _ (items kinds b t : List ℕ) (at : ℕ) (g : Given items kinds b t) (s 
   pub in-ends : (size : ℕ) → size ≡ bodyBytes → at < size
   in-ends size n = let f = g .fits in let r = rest-inside items at (s .piece) (s .pieces) (s .is) in omega arith
 
-  pub in-row : (size q : ℕ) → size ≡ marksBytes → q ≤ length t → at * 66 + q / 8 < size
+  pub in-row : (size q : ℕ) → size ≡ rowsBytes items → q ≤ length t → at * 66 + q / 8 < size
   in-row size q n l =
       let f = g .fits in
       let m = g .short in

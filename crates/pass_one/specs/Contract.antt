@@ -1,9 +1,9 @@
 -- What a pass's function promises (01, part 5).
-use Prim.Native.Nat.{ℕ, _≤_}
+use Prim.Native.Nat.{ℕ, _*_, _≤_}
 use mathlib.Core.Path.{_≡_}
-use mathlib.Core.Bool.{Bool}
+use mathlib.Core.Bool.{Bool, true, false}
 use mathlib.Core.List.{List}
-use lib.ListN.{length, drop, replicate}
+use lib.ListN.{length, take, drop}
 use Rattle.kinds.specs.Kind.{kindTable}
 use Rattle.macros.specs.Bounds.{mostLineBytes}
 use Rattle.macros.specs.Macro.{Macro}
@@ -12,25 +12,27 @@ use Rattle.lines.specs.State.{State}
 use Rattle.lines.specs.Replacing.{Work, Done}
 use Rattle.lines.specs.Replacing.Done.{bad, good}
 use Rattle.lines.specs.Pass.{pass, occurred, outcome}
+use Rattle.lines.specs.Line.{textOf}
+use Rattle.pass_one.specs.Lacking.{flagsOf}
 use Rattle.form_state.specs.Access.{Holds, IsState}
 use Rattle.refusals.specs.Faults.{refusalOf}
 use Rattle.pass_replace.specs.Contract.{IsSlot, IsMoment}
 use Rattle.pass_moment.specs.declared.Passed.{Passed}
 use Rattle.pass_moment.specs.declared.Passed.the-variants.{Over, Refused}
 
--- a bit for each item of a pattern and each place of a line: 508 rows, for at most 506 items, of 1,056 bits, for at most 1,055 places
-abbrev pub marksBytes : ℕ
-marksBytes = 67056
+-- the marks of a pattern: for each item, two bytes, a row of 132 bytes, 1,056 bits, for at most 1,055 places
+abbrev pub rowsBytes : List ℕ → ℕ
+rowsBytes items = 66 * length items
 
--- what the caller lends: a macro's slot, the kinds, the line, a state, room for the new line, and marks, all zero
-pub record Lent (s kinds t b out marks : List ℕ) : Type 0 where
+-- what the caller lends: a macro's slot, the kinds, the flags of the line's bytes, the line, a state and room for the new line
+pub record Lent (s kinds present t b out : List ℕ) : Type 0 where
   pub macro : (m : Macro) × IsSlot s m
   pub table : kinds ≡ kindTable
+  pub flags : present ≡ flagsOf t
   pub bytes : Bytes t
   pub short : length t ≤ mostLineBytes
   pub state : IsState b
   pub room : length out ≡ mostLineBytes
-  pub clear : marks ≡ replicate marksBytes 0
 
 -- what an answer says of the moment v that it leaves
 abbrev pub doneOf : Passed → Work → Done
@@ -47,14 +49,26 @@ abbrev pub SaysOccurred : Passed → Bool → Type 0
 SaysOccurred (Over o n) b = o ≡ b
 SaysOccurred (Refused f n) b = Unit {0}
 
+-- what the memories hold behind a pass that was not refused, o whether it had an occurrence: the state, and the new line of n bytes;
+-- without an occurrence they are as they were
+pub record Leaves (b b′ out out′ : List ℕ) (o : Bool) (n : ℕ) (v : Work) : Type 0 where
+  pub size : v .size ≡ n
+  pub state : Holds b′ (v .state)
+  pub line : o ≡ true → textOf v ≡ take n out′
+  pub still : o ≡ false → (b′ ≡ b) × (out′ ≡ out)
+
+-- the moment v that the memories hold
+abbrev pub HeldBy : (b b′ out out′ : List ℕ) → Passed → Work → Type 0
+HeldBy b b′ out out′ (Over o n) v = Leaves b b′ out out′ o n v
+HeldBy b b′ out out′ (Refused f n) v = IsMoment out′ b′ n v
+
 -- a pass of the macro m over the line t from the state st: the moment that the memories hold then
-pub record Comes (t b′ out′ : List ℕ) (r : Passed) (m : Macro) (st : State) : Type 0 where
-  pub moment : (v : Work) × (outcome (pass m t st) ≡ doneOf r v) × IsMoment out′ b′ (sizeOf r) v
+pub record Comes (t b b′ out out′ : List ℕ) (r : Passed) (m : Macro) (st : State) : Type 0 where
+  pub moment : (v : Work) × (outcome (pass m t st) ≡ doneOf r v) × HeldBy b b′ out out′ r v
   pub says : SaysOccurred r (occurred (pass m t st))
 
--- the pass of the definition, done or refused; behind the new line nothing changes, and the marks are all zero again
-pub record Passes (s t b b′ out out′ marks marks′ : List ℕ) (r : Passed) : Type 0 where
-  pub comes : (m : Macro) → IsSlot s m → (st : State) → Holds b st → Comes t b′ out′ r m st
+-- the pass of the definition, done or refused; behind the new line nothing changes
+pub record Passes (s t b b′ out out′ : List ℕ) (r : Passed) : Type 0 where
+  pub comes : (m : Macro) → IsSlot s m → (st : State) → Holds b st → Comes t b b′ out out′ r m st
   pub past : drop (sizeOf r) out′ ≡ drop (sizeOf r) out
   pub within : sizeOf r ≤ mostLineBytes
-  pub cleared : marks′ ≡ marks

@@ -1,5 +1,5 @@
 -- What finding the match at a place promises (01, parts 3 and 5).
-use Prim.Native.Nat.{ℕ, _*_, _≤_}
+use Prim.Native.Nat.{ℕ, _*_, _≤_, _<_}
 use mathlib.Core.Path.{_≡_}
 use mathlib.Core.Bool.{Bool, true, false}
 use mathlib.Core.List.{List, [], _∷_}
@@ -18,7 +18,7 @@ use Rattle.lines.specs.Choosing.{chosen}
 use Rattle.lines.specs.Pass.{match}
 use Rattle.form_state.specs.Access.{Holds, IsState}
 use Rattle.pass_replace.specs.Contract.{EndsFrom}
-use Rattle.pass_one.specs.Contract.{marksBytes}
+use Rattle.pass_one.specs.Contract.{rowsBytes}
 pub use Rattle.pass_one.specs.Pattern.{FormedUnits, IsPattern}
 use Rattle.pass_one.specs.Marks.{Sound}
 use Rattle.pass_one.specs.declared.Found.{Found}
@@ -44,7 +44,7 @@ pub record Ready (items kinds b t : List ℕ) (p : ℕ) (marks ends : List ℕ) 
   pub state : IsState b
   pub short : length t ≤ mostLineBytes
   pub place : p ≤ length t
-  pub size : length marks ≡ marksBytes
+  pub size : length marks ≡ rowsBytes items
   pub count : length ends ≡ bodyBytes
   pub inside : (i : ℕ) → getD ends i 0 ≤ length t
   pub sound : Sound items b t marks
@@ -88,3 +88,8 @@ countedOf (Matched q) last p = countedIf (eqb q p) (eqb last p) q
 -- if the answer is true, no division begins at p
 pub record Differs (items t : List ℕ) (p : ℕ) (r : Bool) : Type 0 where
   pub none-here : r ≡ true → (es : List Piece) → IsPattern items es → (st : State) → chosen st es p (drop p t) ≡ none
+
+-- no division begins past the place r, up to the line's length
+pub record LastPlace (items t : List ℕ) (r : ℕ) : Type 0 where
+  pub inside : r ≤ length t
+  pub none-past : (es : List Piece) → IsPattern items es → (st : State) (p : ℕ) → r < p → p ≤ length t → chosen st es p (drop p t) ≡ none

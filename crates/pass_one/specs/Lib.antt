@@ -1,3 +1,4 @@
+pub mod Lacking
 pub mod Contract
 pub mod Pattern
 pub mod Marks

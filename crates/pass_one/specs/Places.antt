@@ -1,26 +1,33 @@
 -- What trying a place, going on from it and walking over all of them promise (01, part 5).
-use Prim.Native.Nat.{ℕ, _*_, _≤_, _<_}
+use Prim.Native.Nat.{ℕ, _+_, _*_, _≤_, _<_}
 use mathlib.Core.Path.{_≡_}
-use mathlib.Core.Bool.{Bool, _||_}
+use mathlib.Core.Bool.{Bool, true, false, _||_}
 use mathlib.Core.List.{List}
-use mathlib.Core.Option.{Option}
+use mathlib.Core.Option.{Option, none}
 use lib.ListN.{length, getD, drop}
 use Rattle.kinds.specs.Kind.{kindTable}
 use Rattle.macros.specs.Bounds.{mostLineBytes}
-use Rattle.macros.specs.Macro.{Macro}
+use Rattle.macros.specs.Macro.{Piece, Macro}
 use Rattle.macros.specs.Formed.{Bytes}
 use Rattle.form_table.specs.Form.{bodyBytes}
+use Rattle.lines.specs.State.{State}
 use Rattle.lines.specs.Matching.{Division}
+use Rattle.lines.specs.Choosing.{chosen}
 use Rattle.lines.specs.Replacing.{Work}
-use Rattle.lines.specs.Pass.{Walk, match, walk, occurred, outcome}
+use Rattle.lines.specs.Pass.{Walk, match, walk, pass, occurred, outcome}
+use Rattle.pass_moment.specs.declared.Passed.{Passed}
 use Rattle.pass_moment.specs.declared.Moment.{Moment}
 use Rattle.pass_moment.specs.declared.Refusal.the-variants.{NotRefused}
-use Rattle.pass_moment.specs.Moments.{passedOf, StepsOver}
+use Rattle.pass_moment.specs.Moments.{pastPlaces, passedOf, StepsOver}
+use Rattle.form_state.specs.Access.{Holds, IsState}
 use Rattle.pass_replace.specs.Contract.{IsSlot, IsMoment}
-use Rattle.pass_one.specs.Contract.{marksBytes, doneOf, SaysOccurred}
+use Rattle.pass_one.specs.Contract.{rowsBytes, doneOf, SaysOccurred, Passes}
 use Rattle.pass_one.specs.Marks.{Sound}
-use Rattle.pass_one.specs.Finding.{IsPattern, lastOf}
+use Rattle.pass_one.specs.Finding.{IsPattern, lastOf, Finds}
 use Rattle.pass_one.specs.Seen.{Seen}
+use Rattle.pass_one.specs.declared.Found.the-variants.{Matched}
+use Rattle.pass_one.specs.declared.walking.First.{First}
+use Rattle.pass_one.specs.declared.walking.First.the-variants.{At, Nowhere}
 
 -- the pass from place p on
 abbrev pub from : Macro → List ℕ → ℕ → ℕ → Work → Walk
@@ -39,6 +46,18 @@ pub record ItemsOf (s items : List ℕ) : Type 0 where
   pub pattern : (m : Macro) → IsSlot s m → IsPattern items (m .pattern)
   pub fits : length items ≤ bodyBytes
 
+-- what the memories hold before the first place is tried
+pub record ToTry (s items kinds t b out marks : List ℕ) : Type 0 where
+  pub macro : (m : Macro) × IsSlot s m
+  pub pattern : ItemsOf s items
+  pub table : kinds ≡ kindTable
+  pub bytes : Bytes t
+  pub short : length t ≤ mostLineBytes
+  pub state : IsState b
+  pub room : length out ≡ mostLineBytes
+  pub rows : length marks ≡ rowsBytes items
+  pub zero : (i : ℕ) → getD marks i 0 ≡ 0
+
 -- GOING ON FROM A PLACE
 
 -- what the memories hold at the moment a, before its place is tried
@@ -54,10 +73,15 @@ pub record AtPlace (s items kinds t b out marks ends : List ℕ) (a : Moment) : 
   pub moment : (w : Work) × IsMoment out b (a .size) w
   pub room : length out ≡ mostLineBytes
   pub size : a .size ≤ mostLineBytes
-  pub rows : length marks ≡ marksBytes
+  pub rows : length marks ≡ rowsBytes items
   pub sound : Sound items b t marks
   pub count : length ends ≡ bodyBytes
   pub inside : (i : ℕ) → getD ends i 0 ≤ length t
+
+-- what the memories hold at the moment a, at whose place a match that ends at q was found
+pub record Makes (s items t b out marks ends : List ℕ) (a : Moment) (q : ℕ) : Type 0 where
+  pub at : AtPlace s items kindTable t b out marks ends a
+  pub found : Finds items b t (a .last) (a .place) marks marks ends (Matched q)
 
 -- the pass x, before which there was an occurrence if `had`, is the pass from the moment a on,
 -- in which w holds; past the last place a says what x comes to
@@ -88,3 +112,88 @@ pub record Goes (s items t b b′ out out′ marks marks′ seen ends : List ℕ
 -- from the moment a the pass goes on at the moment r, once the byte at an empty match, or at a place without one, is copied
 pub record GoesBy (s items t b b′ out out′ marks marks′ seen ends : List ℕ) (a r : Moment) : Type 0 where
   pub copied : (z : Moment) (l : List ℕ) → StepsOver t out′ l (a .place) r z → Goes s items t b b′ out l marks marks′ seen ends a z
+  pub stays : a .occurred ≡ true → r .occurred ≡ true
+
+-- FROM THE FIRST MATCH ON
+
+-- no match begins before the place p
+abbrev pub NoneBelow : (items b t : List ℕ) → ℕ → Type 0
+NoneBelow items b t p =
+    (es : List Piece) → IsPattern items es → (st : State) → Holds b st → (i : ℕ) → i < p → i ≤ length t → chosen st es i (drop i t) ≡ none
+
+-- the first match begins at p and ends at q
+pub record IsFirst (items b t marks ends : List ℕ) (p q : ℕ) : Type 0 where
+  pub place : p ≤ length t
+  pub none : NoneBelow items b t p
+  pub found : Finds items b t pastPlaces p marks marks ends (Matched q)
+
+-- the first match, or that there is none
+abbrev pub FirstIn : (items b t marks ends : List ℕ) → First → Type 0
+FirstIn items b t marks ends (At p q) = IsFirst items b t marks ends p q
+FirstIn items b t marks ends Nowhere = NoneBelow items b t (length t + 1)
+
+-- what looking for the first match says; only the marks of the items change
+pub record Searches (items b t marks marks′ ends′ : List ℕ) (r : First) : Type 0 where
+  pub first : FirstIn items b t marks′ ends′ r
+  pub outside : drop (66 * length items) marks′ ≡ drop (66 * length items) marks
+
+-- what the memories hold where the first match, from p to q, was found
+pub record Walking (s items kinds t b out marks ends : List ℕ) (p q : ℕ) : Type 0 where
+  pub macro : (m : Macro) × IsSlot s m
+  pub pattern : ItemsOf s items
+  pub table : kinds ≡ kindTable
+  pub bytes : Bytes t
+  pub short : length t ≤ mostLineBytes
+  pub state : IsState b
+  pub room : length out ≡ mostLineBytes
+  pub rows : length marks ≡ rowsBytes items
+  pub count : length ends ≡ bodyBytes
+  pub first : IsFirst items b t marks ends p q
+
+-- BEHIND THE FIRST MATCH
+
+-- the memories where the first match, from `place` to `stop`, was found
+pub record Origin : Type 0 where
+  pub state : List ℕ
+  pub out : List ℕ
+  pub marks : List ℕ
+  pub seen : List ℕ
+  pub ends : List ℕ
+  pub place : ℕ
+  pub stop : ℕ
+
+abbrev pub Came : (s items kinds t : List ℕ) → Origin → Type 0
+Came s items kinds t h = Walking s items kinds t (h .state) (h .out) (h .marks) (h .ends) (h .place) (h .stop)
+
+-- the moment that the memories hold, and what the pass from its start is from there on
+pub record Reached (t b out : List ℕ) (a : Moment) (m : Macro) (st : State) : Type 0 where
+  pub work : Work
+  pub moment : IsMoment out b (a .size) work
+  pub onward : Onward m t (pass m t st) false a work
+
+-- what holds before each place that is tried, and past the last
+pub record Going (s items t : List ℕ) (h : Origin) (b out marks seen ends : List ℕ) (a : Moment) : Type 0 where
+  pub size : a .size ≤ mostLineBytes
+  pub stateSize : length b ≡ length (h .state)
+  pub room : length out ≡ length (h .out)
+  pub rows : length marks ≡ length (h .marks)
+  pub seenSize : length seen ≡ length (h .seen)
+  pub count : length ends ≡ bodyBytes
+  pub inside : (i : ℕ) → getD ends i 0 ≤ length t
+  pub sound : Sound items b t marks
+  pub sees : Seen items seen b
+  pub well : a .place ≤ length t → a .refusal ≡ NotRefused
+  pub past : drop (a .size) out ≡ drop (a .size) (h .out)
+  pub outside : drop (66 * length items) marks ≡ drop (66 * length items) (h .marks)
+  pub reached : (m : Macro) → IsSlot s m → (st : State) → Holds (h .state) st → Reached t b out a m st
+
+-- what the memories hold behind the first match
+pub record Walks (s items kinds t b out marks seen ends : List ℕ) (a : Moment) : Type 0 where
+  pub origin : Origin
+  pub came : Came s items kinds t origin
+  pub going : Going s items t origin b out marks seen ends a
+
+-- the pass, from wherever it came
+pub record WalksTo (s items kinds t b b′ out out′ marks seen ends : List ℕ) (a : Moment) (r : Passed) : Type 0 where
+  pub comes : (h : Origin) → Came s items kinds t h → Going s items t h b out marks seen ends a → a .occurred ≡ true
+      → Passes s t (h .state) b′ (h .out) out′ r

@@ -9,7 +9,7 @@ use Rattle.macros.specs.Formed.{Letter}
 use Rattle.form_table.specs.Form.{bodyBytes}
 use Rattle.lines.specs.State.{State, currentEntry, counterOf}
 use Rattle.form_state.specs.Access.{Holds, IsState}
-use Rattle.pass_one.specs.Contract.{marksBytes}
+use Rattle.pass_one.specs.Contract.{rowsBytes}
 use Rattle.pass_one.specs.Marks.{Sound}
 use Rattle.pass_one.specs.Finding.{IsPattern}
 
@@ -60,7 +60,7 @@ pub record Renewing (items b seen marks : List ℕ) : Type 0 where
   pub fits : length items ≤ bodyBytes
   pub state : IsState b
   pub old : 0 < length seen → IsState seen
-  pub size : length marks ≡ marksBytes
+  pub size : length marks ≡ rowsBytes items
 
 -- marks that hold for the bytes before hold for those now
 pub record Renewed (items b seen seen′ marks marks′ : List ℕ) : Type 0 where

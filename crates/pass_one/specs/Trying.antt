@@ -15,7 +15,7 @@ use Rattle.lines.specs.Matching.{Division, stops, fits, width}
 use Rattle.lines.specs.Choosing.{chosen}
 use Rattle.form_state.specs.Access.{IsState, OfState}
 use Rattle.pass_replace.specs.Contract.{EndsFrom}
-use Rattle.pass_one.specs.Contract.{marksBytes}
+use Rattle.pass_one.specs.Contract.{rowsBytes}
 use Rattle.pass_one.specs.Pattern.{IsRest, OfPiece}
 use Rattle.pass_one.specs.Marks.{copiesFrom, Sound}
 use Rattle.pass_one.specs.Pieces.{Stands, IsUnit, Wide}
@@ -75,7 +75,7 @@ pub record Given (items kinds b t : List ℕ) : Type 0 where
 
 -- what changes
 pub record Noted (items b t marks ends : List ℕ) : Type 0 where
-  pub size : length marks ≡ marksBytes
+  pub size : length marks ≡ rowsBytes items
   pub count : length ends ≡ bodyBytes
   pub inside : (i : ℕ) → getD ends i 0 ≤ length t
   pub sound : Sound items b t marks
@@ -103,7 +103,7 @@ Furthest items b t at r =
 -- what counting the copies of a unit asks
 pub record Counting (items kinds b t : List ℕ) (at : ℕ) (u : CodeUnit) (w q : ℕ) (marks : List ℕ) : Type 0 where
   pub given : Given items kinds b t
-  pub size : length marks ≡ marksBytes
+  pub size : length marks ≡ rowsBytes items
   pub sound : Sound items b t marks
   pub unit : IsUnit items at u
   pub wide : Wide b u w

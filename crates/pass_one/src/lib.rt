@@ -1,5 +1,6 @@
 // A pass (01, parts 3 and 5): one macro over one line.
 mod keeping;
+pub mod lacking;
 mod matcher;
 mod unit;
 mod walking;
@@ -10,10 +11,13 @@ use form_items::layout::PATTERN_AT;
 use form_items::two_at;
 use keeping::copy_state;
 use keeping::has_calls;
+use lacking::lacks;
 use pass_moment::Passed;
+use walking::First;
+use walking::first_match;
 use walking::walk;
 ghost use Rattle.pass_one.specs.Contract.{Lent, Passes};
-ghost use Rattle.pass_one.specs.Places.{SomeSlot, ItemsOf};
+ghost use Rattle.pass_one.specs.Places.{SomeSlot, ItemsOf, ToTry, Walking};
 
 // Where a match ends.
 pub(crate) enum Found {
@@ -21,26 +25,110 @@ pub(crate) enum Found {
     NoMatch,
 }
 
-// A pass; only a pattern with calls needs the state under which its marks were made.
+// A pass. Without a match nothing changes. A pattern that must have a byte which the line lacks has no match.
 pub fn pass(
     slot: &[u8],
+    kinds: &[u8; 256],
+    present: &[u8],
+    line: &[u8],
+    state: &mut [u8],
+    out: &mut [u8],
+) -> Passed
+    requires { ⌜ Lent (now slot) (now kinds) (now present) (now line) (now state) (now out) ⌝ }
+    ensures { λ r. ⌜ Passes (now (slot .entry)) (now (line .entry)) (now (state .entry)) (now (state .exit)) (now (out .entry)) (now (out .exit)) r ⌝ }
+{
+    let items = items_of(slot);
+    if lacks(items, present) {
+        return Passed::Over(false, line.len());
+    }
+    let rows = 66 * items.len();
+    if rows <= 4096 {
+        let mut few = [0u8; 4096];
+        return tried(slot, items, kinds, line, state, out, &mut few[..rows]);
+    }
+    let mut marks = [0u8; 66924];
+    tried(slot, items, kinds, line, state, out, &mut marks[..rows])
+}
+
+// A pass whose pattern may have a match; no mark is set yet.
+fn tried(
+    slot: &[u8],
+    items: &[u8],
     kinds: &[u8; 256],
     line: &[u8],
     state: &mut [u8],
     out: &mut [u8],
     marks: &mut [u8],
 ) -> Passed
-    requires { ⌜ Lent (now slot) (now kinds) (now line) (now state) (now out) (now marks) ⌝ }
-    ensures { λ r. ⌜ Passes (now (slot .entry)) (now (line .entry)) (now (state .entry)) (now (state .exit)) (now (out .entry)) (now (out .exit)) (now (marks .entry)) (now (marks .exit)) r ⌝ }
+    requires { ⌜ ToTry (now slot) (now items) (now kinds) (now line) (now state) (now out) (now marks) ⌝ }
+    ensures { λ r. ⌜ Passes (now (slot .entry)) (now (line .entry)) (now (state .entry)) (now (state .exit)) (now (out .entry)) (now (out .exit)) r ⌝ }
 {
-    let items = items_of(slot);
+    let mut ends = [0u16; 1014];
+    let found = first_match(items, kinds, line, state, marks, &mut ends);
+    let First::At(first, end) = found else {
+        return Passed::Over(false, line.len());
+    };
+    matched(
+        slot,
+        items,
+        kinds,
+        line,
+        first,
+        end,
+        state,
+        out,
+        marks,
+        &mut ends,
+    )
+}
+
+// A pass from its first match on; only a pattern with calls needs the state under which its marks were made.
+fn matched(
+    slot: &[u8],
+    items: &[u8],
+    kinds: &[u8; 256],
+    line: &[u8],
+    first: usize,
+    end: usize,
+    state: &mut [u8],
+    out: &mut [u8],
+    marks: &mut [u8],
+    ends: &mut [u16],
+) -> Passed
+    requires { ⌜ Walking (now slot) (now items) (now kinds) (now line) (now state) (now out) (now marks) (now ends) first end ⌝ }
+    ensures { λ r. ⌜ Passes (now (slot .entry)) (now (line .entry)) (now (state .entry)) (now (state .exit)) (now (out .entry)) (now (out .exit)) r ⌝ }
+{
     if has_calls(items) {
         let mut seen = [0u8; 26236];
         copy_state(state, &mut seen);
-        return walk(slot, items, kinds, line, state, out, marks, &mut seen);
+        return walk(
+            slot,
+            items,
+            kinds,
+            line,
+            first,
+            end,
+            state,
+            out,
+            marks,
+            &mut seen,
+            ends,
+        );
     }
     let mut none = [0u8; 0];
-    walk(slot, items, kinds, line, state, out, marks, &mut none)
+    walk(
+        slot,
+        items,
+        kinds,
+        line,
+        first,
+        end,
+        state,
+        out,
+        marks,
+        &mut none,
+        ends,
+    )
 }
 
 // The items of a slot's pattern, behind those of the calls before it.

@@ -9,6 +9,7 @@ use crate::unit::may_repeat;
 use crate::unit::width_of;
 use form_element::Element;
 use form_element::element_at;
+use form_items::codes::START;
 use pass_marks::is_marked;
 use pass_marks::set_mark;
 ghost use Prim.Native.Nat.{_≤_, _<_};
@@ -17,7 +18,7 @@ ghost use lib.ListN.{length};
 ghost use Rattle.macros.specs.Bounds.{mostLineBytes};
 ghost use Rattle.form_table.specs.Form.{bodyBytes};
 ghost use Rattle.pass_one.specs.Trying.{endedIn, Trying, Counting, Repeating, Tried, Most, Copied};
-ghost use Rattle.pass_one.specs.Finding.{Differs, countedOf};
+ghost use Rattle.pass_one.specs.Finding.{Differs, LastPlace, countedOf};
 
 // How many copies of an element's unit, w bytes wide, stand in a row from q on. Places with a mark end the row: there is no division from there.
 fn most_copies(
@@ -131,12 +132,15 @@ fn closure(
     closure(items, kinds, state, line, at, next, w, q, low, marks, ends)
 }
 
-// Whether the pattern begins with a literal that must stand at p and does not: most places are decided so.
+// Whether the pattern begins with a literal that must stand at p and does not, or with `^` where p is not 0: most places are decided so.
 pub(crate) fn differs(items: &[u8], line: &[u8], p: usize) -> bool
     ensures { λ r. ⌜ Differs (now (items .entry)) (now (line .entry)) p r ⌝ }
 {
     if items.len() < 2 {
         return false;
+    }
+    if items[0] == START {
+        return 0 < p;
     }
     if items[0] < 8 {
         return false;
@@ -148,6 +152,19 @@ pub(crate) fn differs(items: &[u8], line: &[u8], p: usize) -> bool
         return true;
     }
     items[1] != line[p]
+}
+
+// The last place where a match can begin: a pattern that begins with `^` has place 0 alone.
+pub(crate) fn last_place(items: &[u8], line: &[u8]) -> usize
+    ensures { λ r. ⌜ LastPlace (now (items .entry)) (now (line .entry)) r ⌝ }
+{
+    if items.len() < 2 {
+        return line.len();
+    }
+    if items[0] == START {
+        return 0;
+    }
+    line.len()
 }
 
 // "An empty match at the end of the match just made in the same pass does not count."

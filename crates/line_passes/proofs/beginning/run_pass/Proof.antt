@@ -13,28 +13,25 @@ enum-told : tie.Need-enum-told
 enum-told c = c .match .keys2
 
 pass-requires : tie.Need-pass-requires
-pass-requires c κs = places-lent (c .before .before .before .before .before .before .before .before .before .before .before .before .before .before .before .before .before .before .pre) (c .before .before .before .before .before .before .before .before .before .prepare .ensures)
+pass-requires c κs = places-lent (c .before .before .before .before .before .before .before .before .before .before .before .before .before .before .before .before .before .pre) (c .before .before .before .before .before .before .before .before .prepare .ensures)
 
 same-length : tie.Need-same-length
-same-length c = c .before .before .before .before .before .before .pass .kept .1 .1 .1 .0 ∙ c .before .before .before .before .before .before .before .before .before .before .before .before .before .before .before .before .prepare .kept .1 .0
+same-length c = c .before .before .before .before .pass .kept .1 .1 .1 .1 .0 ∙ c .before .before .before .before .before .before .before .before .before .before .before .before .before .prepare .kept .1 .0
 
 same-length-2 : tie.Need-same-length-2
-same-length-2 c = c .before .before .before .before .before .before .pass .kept .1 .1 .1 .1 .0
+same-length-2 c = c .before .before .before .before .pass .kept .1 .1 .1 .1 .1 .0
 
 same-length-3 : tie.Need-same-length-3
-same-length-3 c = c .before .before .before .before .before .before .pass .kept .1 .1 .1 .1 .1 .0
-
-same-length-4 : tie.Need-same-length-4
-same-length-4 c = c .before .before .before .before .before .before .before .before .before .before .before .before .before .before .before .before .prepare .kept .1 .1 .0
+same-length-3 c = c .before .before .before .before .before .before .before .before .before .before .before .before .before .prepare .kept .1 .1 .0
 
 returns : tie.Need-returns
-returns c = runs-places (c .before .before .before .before .before .before .before .before .before .before .before .before .before .before .before .before .before .before .before .before .before .before .before .before .before .pre) (c .before .before .before .before .before .before .before .before .before .before .before .before .before .before .before .before .prepare .ensures) (c .before .before .before .before .before .before .before .before .before .before .enum-told .given .1) (c .before .before .before .before .before .before .pass .ensures)
+returns c = runs-places (c .before .before .before .before .before .before .before .before .before .before .before .before .before .before .before .before .before .before .before .before .before .before .pre) (c .before .before .before .before .before .before .before .before .before .before .before .before .before .prepare .ensures) (c .before .before .before .before .before .before .before .enum-told .given .1) (c .before .before .before .before .pass .ensures)
+
+same-length-4 : tie.Need-same-length-4
+same-length-4 c = c .before .before .before .before .before .before .before .prepare .kept .1 .0
 
 same-length-5 : tie.Need-same-length-5
-same-length-5 c = c .before .before .before .before .before .before .before .prepare .kept .1 .0
-
-same-length-6 : tie.Need-same-length-6
-same-length-6 c = c .before .before .before .before .before .before .before .prepare .kept .1 .1 .0
+same-length-5 c = c .before .before .before .before .before .before .before .prepare .kept .1 .1 .0
 
 returns-2 : tie.Need-returns-2
 returns-2 c = runs-refused (c .before .before .before .before .before .before .before .before .before .before .before .before .before .before .before .before .pre) (c .before .before .before .before .before .before .before .prepare .ensures) (c .before .prepared .given .1)
@@ -50,8 +47,7 @@ run-pass-spec =
     same-length
     same-length-2
     same-length-3
-    same-length-4
     returns
+    same-length-4
     same-length-5
-    same-length-6
     returns-2)

@@ -12,19 +12,22 @@ enum-known-passed-2 : tie.Need-enum-known-passed-2
 enum-known-passed-2 c = c .match .keys2
 
 again-requires : tie.Need-again-requires
-again-requires c κs = sized-some (c .before .before .before .before .before .passed2 .given .1) (c .before .before .before .before .before .before .before .before .before .before .before .before .pre)
+again-requires c κs = sized-some (c .before .before .before .before .before .before .passed2 .given .1) (c .before .before .before .before .before .before .before .before .before .before .before .before .before .before .pre)
 
 same-length : tie.Need-same-length
-same-length c = c .before .before .before .before .before .before .again .kept .1 .1 .0
+same-length c = c .before .before .before .before .before .before .before .before .again .kept .1 .1 .0
 
 same-length-2 : tie.Need-same-length-2
-same-length-2 c = c .before .before .before .before .before .before .again .kept .1 .1 .1 .1 .0
+same-length-2 c = c .before .before .before .before .before .before .before .before .again .kept .1 .1 .1 .1 .0
 
 same-length-3 : tie.Need-same-length-3
-same-length-3 c = c .before .before .before .before .before .before .again .kept .1 .1 .1 .1 .1 .0
+same-length-3 c = c .before .before .before .before .before .before .before .before .again .kept .1 .1 .1 .1 .1 .0
+
+same-length-4 : tie.Need-same-length-4
+same-length-4 c = c .before .before .before .before .before .before .before .before .again .kept .1 .1 .1 .1 .1 .1 .0
 
 returns-2 : tie.Need-returns-2
-returns-2 c = after-some (c .before .before .before .before .before .before .before .before .before .before .before .before .passed2 .given .1) (c .before .before .before .before .before .before .before .before .before .before .if1 .taken) (c .before .before .before .before .before .before .again .ensures)
+returns-2 c = after-some (c .before .before .before .before .before .before .before .before .before .before .before .before .before .before .before .passed2 .given .1) (c .before .before .before .before .before .before .before .before .before .before .before .before .before .if1 .taken) (c .before .before .before .before .before .before .before .before .again .ensures)
 
 returns-3 : tie.Need-returns-3
 returns-3 c = after-none (c .before .before .passed2 .given .1) (c .if1 .left)
@@ -40,5 +43,6 @@ after-pass-spec =
     same-length
     same-length-2
     same-length-3
+    same-length-4
     returns-2
     returns-3)

@@ -8,10 +8,10 @@ use Rattle.line_passes.proofs.passes.all_passes.Statement.{statement}
 use Rattle.line_passes.proofs.passes.all_passes.Tie as tie
 
 abbrev Inv-loop : tie.InvT-loop
-Inv-loop table count kinds state₀ text₀ new₀ marks₀ closed₀ trace₀ traced budget stand₀ state text new marks closed trace stand = Ready (record { table = table; count = count; kinds = kinds; budget = budget; traced = traced }) (record { state = state; text = text; new = new; marks = marks; flags = closed; trace = trace }) stand × ((length state ≡ length state₀) × (length text ≡ length text₀) × (length new ≡ length new₀) × (length marks ≡ length marks₀) × (length closed ≡ length closed₀) × (length trace ≡ length trace₀)) × Onward (record { table = table; count = count; kinds = kinds; budget = budget; traced = traced }) (record { state = state₀; text = text₀; new = new₀; marks = marks₀; flags = closed₀; trace = trace₀ }) (record { state = state; text = text; new = new; marks = marks; flags = closed; trace = trace }) stand₀ stand × (traced ≡ false → trace ≡ trace₀)
+Inv-loop table count kinds state₀ text₀ new₀ present₀ closed₀ trace₀ traced budget stand₀ state text new present closed trace stand = Ready (record { table = table; count = count; kinds = kinds; budget = budget; traced = traced }) (record { state = state; text = text; new = new; present = present; flags = closed; trace = trace }) stand × ((length state ≡ length state₀) × (length text ≡ length text₀) × (length new ≡ length new₀) × (length present ≡ length present₀) × (length closed ≡ length closed₀) × (length trace ≡ length trace₀)) × Onward (record { table = table; count = count; kinds = kinds; budget = budget; traced = traced }) (record { state = state₀; text = text₀; new = new₀; present = present₀; flags = closed₀; trace = trace₀ }) (record { state = state; text = text; new = new; present = present; flags = closed; trace = trace }) stand₀ stand × (traced ≡ false → trace ≡ trace₀)
 
 abbrev μ-loop : tie.MeasureT-loop
-μ-loop table count kinds state₀ text₀ new₀ marks₀ closed₀ trace₀ traced budget stand₀ state text new marks closed trace stand = budget - stand .begun
+μ-loop table count kinds state₀ text₀ new₀ present₀ closed₀ trace₀ traced budget stand₀ state text new present closed trace stand = budget - stand .begun
 
 loop-holds : tie.Need-loop-holds Inv-loop μ-loop
 loop-holds c = (c .before .before .before .before .before .before .before .pre, (refl, refl, refl, refl, refl, refl), λ whole ms h l s. s, λ f. refl)

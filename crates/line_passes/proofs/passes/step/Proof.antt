@@ -44,40 +44,40 @@ part-run-pass-end : tie.Need-part-run-pass-end
 part-run-pass-end c = in-table (c .before .before .before .before .before .before .before .before .before .before .before .before .before .pre) (c .before .before .before .next-due .ensures) (c .before .due2 .given .1)
 
 slice-reshare-prefix-run-pass : tie.Need-slice-reshare-prefix-run-pass
-slice-reshare-prefix-run-pass c = size-fits (c .before .before .before .before .before .before .before .before .before .before .before .before .before .before .pre)
+slice-reshare-prefix-run-pass c = size-fits (c .before .before .before .before .before .before .before .before .before .before .before .before .before .before .before .pre)
 
 slice-aggregate-run-pass : tie.Need-slice-aggregate-run-pass
-slice-aggregate-run-pass c = sym (length-take-le _ _ (size-fits (c .before .before .before .before .before .before .before .before .before .before .before .before .before .before .before .pre)))
+slice-aggregate-run-pass c = sym (length-take-le _ _ (size-fits (c .before .before .before .before .before .before .before .before .before .before .before .before .before .before .before .before .pre)))
 
 run-pass-requires : tie.Need-run-pass-requires
 run-pass-requires c κs = pass-lent (c .before .before .before .before .before .before .before .before .before .before .before .before .before .before .before .before .before .before .before .pre) (c .before .before .before .before .before .before .before .before .before .next-due .ensures) (c .before .before .before .before .before .before .before .due2 .given .1)
 
 add-t24 : tie.Need-add-t24
-add-t24 c = begun-fits (c .before .before .before .before .before .before .before .before .before .before .before .before .before .before .before .before .before .before .before .before .before .before .before .before .before .before .before .before .before .pre) (c .before .before .before .before .before .before .before .before .before .before .before .before .before .before .before .before .before .before .before .next-due .ensures) (c .before .before .before .before .before .before .before .before .before .before .before .before .before .before .before .before .before .due2 .given .1) (c .before .before .before .before .before .before .before .before .before .before .before .before .before .before .before .before .before .before .before .before .before .before .before .before .before .before .before .before .before .fits .budget)
+add-t24 c = begun-fits (c .before .before .before .before .before .before .before .before .before .before .before .before .before .before .before .before .before .before .before .before .before .before .before .before .before .before .before .pre) (c .before .before .before .before .before .before .before .before .before .before .before .before .before .before .before .before .before .next-due .ensures) (c .before .before .before .before .before .before .before .before .before .before .before .before .before .before .before .due2 .given .1) (c .before .before .before .before .before .before .before .before .before .before .before .before .before .before .before .before .before .before .before .before .before .before .before .before .before .before .before .fits .budget)
 
 after-pass-requires : tie.Need-after-pass-requires
-after-pass-requires c κs = to-follow (c .before .before .before .before .before .before .before .before .before .before .before .before .before .before .before .before .before .before .before .before .before .before .before .before .before .before .before .before .before .before .before .before .before .pre) (c .before .before .before .before .before .before .before .before .before .before .before .before .before .before .before .before .before .before .before .before .before .before .before .next-due .ensures) (c .before .before .before .before .before .before .before .before .before .before .before .before .before .before .before .before .before .before .before .before .before .due2 .given .1) (c .before .before .before .before .before .before .before .before .before .before .before .before .before .run-pass .ensures) (c .before .before .before .before .before .before .before .before .before .before .before .before .before .run-pass .kept .1 .1 .1 .1 .0)
+after-pass-requires c κs = to-follow (c .before .before .before .before .before .before .before .before .before .before .before .before .before .before .before .before .before .before .before .before .before .before .before .before .before .before .before .before .before .before .before .before .pre) (c .before .before .before .before .before .before .before .before .before .before .before .before .before .before .before .before .before .before .before .before .before .before .next-due .ensures) (c .before .before .before .before .before .before .before .before .before .before .before .before .before .before .before .before .before .before .before .before .due2 .given .1) (c .before .before .before .before .before .before .before .before .before .before .before .before .run-pass .ensures) (c .before .before .before .before .before .before .before .before .before .before .before .before .run-pass .kept .1 .1 .1 .1 .1 .0)
 
 same-length-3 : tie.Need-same-length-3
-same-length-3 c = c .before .before .before .before .before .before .before .before .before .before .before .before .before .before .before .before .before .before .before .before .run-pass .kept .1 .1 .1 .0
+same-length-3 c = c .before .before .before .before .before .before .before .before .before .before .before .before .before .before .before .before .before .before .before .before .before .run-pass .kept .1 .1 .1 .1 .0
 
 same-length-4 : tie.Need-same-length-4
-same-length-4 c = c .before .before .before .before .before .before .after-pass .kept .1 .1 .0
+same-length-4 c = c .before .before .before .before .before .before .before .before .after-pass .kept .1 .1 .0
 
 same-length-5 : tie.Need-same-length-5
-same-length-5 c = c .before .before .before .before .before .before .before .before .before .before .before .before .before .before .before .before .before .before .before .before .run-pass .kept .1 .1 .1 .1 .0
+same-length-5 c = c .before .before .before .before .before .before .before .before .before .before .before .before .before .before .before .before .before .before .before .before .before .run-pass .kept .1 .1 .1 .1 .1 .0
 
 same-length-6 : tie.Need-same-length-6
-same-length-6 c = c .before .before .before .before .before .before .before .before .before .before .before .before .before .before .before .before .before .before .before .before .run-pass .kept .1 .1 .1 .1 .1 .0
+same-length-6 c = c .before .before .before .before .before .before .before .before .after-pass .kept .1 .1 .1 .1 .0
 
 same-length-7 : tie.Need-same-length-7
-same-length-7 c = c .before .before .before .before .before .before .after-pass .kept .1 .1 .1 .1 .0 ∙ c .before .before .before .before .before .before .before .before .before .before .before .before .before .before .before .before .before .before .before .before .run-pass .kept .1 .1 .1 .1 .1 .1 .0
+same-length-7 c = c .before .before .before .before .before .before .before .before .after-pass .kept .1 .1 .1 .1 .1 .0 ∙ c .before .before .before .before .before .before .before .before .before .before .before .before .before .before .before .before .before .before .before .before .before .run-pass .kept .1 .1 .1 .1 .1 .1 .0
 
 same-length-8 : tie.Need-same-length-8
-same-length-8 c = c .before .before .before .before .before .before .after-pass .kept .1 .1 .1 .1 .1 .0
+same-length-8 c = c .before .before .before .before .before .before .before .before .after-pass .kept .1 .1 .1 .1 .1 .1 .0
 
 returns-2 : tie.Need-returns-2
-returns-2 c = step-passed (c .before .before .before .before .before .before .before .before .before .before .before .before .before .before .before .before .before .before .before .before .before .before .before .before .before .before .before .before .before .before .before .before .before .before .before .before .before .before .before .before .pre) (c .before .before .before .before .before .before .before .before .before .before .before .before .before .before .before .before .before .before .before .before .before .before .before .before .before .before .before .before .before .before .next-due .ensures) (c .before .before .before .before .before .before .before .before .before .before .before .before .before .before .before .before .before .before .before .before .before .before .before .before .before .before .before .before .due2 .given .1) (c .before .before .before .before .before .before .before .before .before .before .before .before .before .before .before .before .before .before .before .before .run-pass .result) (c .before .before .before .before .before .before .before .before .before .before .before .before .before .before .before .before .before .before .before .before .run-pass .ensures) (c .before .before .before .before .before .before .before .before .before .before .before .before .before .before .before .before .before .before .before .before .run-pass .kept .1 .1 .1 .1 .0) (c .before .before .before .before .before .before .after-pass .ensures) (c .before .before .before .before .before .before .after-pass .kept .1 .1 .0) (c .before .before .before .before .before .before .after-pass .kept .1 .1 .1 .1 .0)
+returns-2 c = step-passed (c .before .before .before .before .before .before .before .before .before .before .before .before .before .before .before .before .before .before .before .before .before .before .before .before .before .before .before .before .before .before .before .before .before .before .before .before .before .before .before .before .before .pre) (c .before .before .before .before .before .before .before .before .before .before .before .before .before .before .before .before .before .before .before .before .before .before .before .before .before .before .before .before .before .before .before .next-due .ensures) (c .before .before .before .before .before .before .before .before .before .before .before .before .before .before .before .before .before .before .before .before .before .before .before .before .before .before .before .before .before .due2 .given .1) (c .before .before .before .before .before .before .before .before .before .before .before .before .before .before .before .before .before .before .before .before .before .run-pass .result) (c .before .before .before .before .before .before .before .before .before .before .before .before .before .before .before .before .before .before .before .before .before .run-pass .ensures) (c .before .before .before .before .before .before .before .before .before .before .before .before .before .before .before .before .before .before .before .before .before .run-pass .kept .1 .1 .1 .1 .1 .0) (c .before .before .before .before .before .before .before .before .after-pass .ensures) (c .before .before .before .before .before .before .before .before .after-pass .kept .1 .1 .0) (c .before .before .before .before .before .before .before .before .after-pass .kept .1 .1 .1 .1 .1 .0)
 
 pub step-spec : {M : Type 1} → statement M
 step-spec =
