@@ -32,6 +32,12 @@ static void *reads(void *unused)
     return unused;
 }
 
+static void *measures(void *unused)
+{
+    answer.number = m7_measure(file, file_size).number;
+    return unused;
+}
+
 static void *writes(void *unused)
 {
     answer = m7_write(table, sizeof table, written, sizeof written);
@@ -261,17 +267,20 @@ int main(int count, char **words)
     }
     nested(99);
     show("m7_read, 99 nested tags", reads);
+    show("m7_measure, 99 nested tags", measures);
     show("m7_write, 99 nested tags", writes);
     file_size = 0;
     while (file_size + 12 <= sizeof file)
         add("'a*-b'='c'; ");
     show("m7_read, 97 macros", reads);
+    show("m7_measure, 97 macros", measures);
     file_size = 0;
     add("'");
     while (file_size < 500)
         add("[a-z]*");
     add("'='';");
     show("m7_read, classes", reads);
+    show("m7_measure, classes", measures);
     show("m7_write, classes", writes);
     worst("a*-", 168, "b");
     worst("a*-", 168, "");

@@ -1,12 +1,39 @@
-/* m7 check: the fault of a macro file, or what in it is seldom meant. */
+/* m7 check: the fault of a macro file, or what it takes and what in it is seldom
+   meant. */
 #include "command.h"
 
 static struct table table;
 
+static const char *ending(size_t count) { return count == 1 ? "" : "s"; }
+
+/* A number of bytes, with a comma before its last three digits. */
+static void show_bytes(uint32_t bytes)
+{
+    if (bytes >= 1000)
+        printf("%u,%03u", (unsigned)(bytes / 1000), (unsigned)(bytes % 1000));
+    else
+        printf("%u", (unsigned)bytes);
+}
+
+/* Of a file without a fault: how large its macros are, and the file written out. */
+static void show_plan(void)
+{
+    m7_plan plan = m7_measure(table.file, table.size);
+    printf("    at most %u element%s and %u tag%s in a macro; ", (unsigned)plan.elements,
+           ending(plan.elements), (unsigned)plan.tags, ending(plan.tags));
+    if (plan.write_number != 0) {
+        printf("it cannot be written out (%u): m7 write shows why\n", (unsigned)plan.write_number);
+        return;
+    }
+    show_bytes(plan.bytes);
+    printf(" of ");
+    show_bytes(M7_FILE_BYTES);
+    printf(" bytes written out\n");
+}
+
 static int check(const char *name, int strict)
 {
     size_t warnings;
-    uint32_t macros;
     int ended = load_table(name, &table);
     if (ended == WRONG)
         return WRONG;
@@ -15,11 +42,12 @@ static int check(const char *name, int strict)
         return REFUSED;
     }
     warnings = show_warnings(stdout, &table);
-    macros = table.answer.length;
-    printf("%s: %u macro%s, no fault", table.name, (unsigned)macros, macros == 1 ? "" : "s");
+    printf("%s: %u macro%s, no fault", table.name, (unsigned)table.answer.length,
+           ending(table.answer.length));
     if (warnings > 0)
-        printf(", %zu warning%s", warnings, warnings == 1 ? "" : "s");
+        printf(", %zu warning%s", warnings, ending(warnings));
     putchar('\n');
+    show_plan();
     return strict && warnings > 0 ? REFUSED : FINE;
 }
 
@@ -44,7 +72,8 @@ const struct command check_command = {
     "Reads each macro file. The first fault is shown as FILE:LINE:COLUMN: NUMBER and\n"
     "its meaning, with the line and a caret; columns count bytes from 1. Of a 12 it\n"
     "also shows which part is not ended. Without a fault it gives the number of\n"
-    "macros, and warns of what is seldom meant:\n"
+    "macros, the most elements and the most tags that one has, and the bytes that the\n"
+    "file has when it is written out, of 32,768. It warns of what is seldom meant:\n"
     "  ignored text that holds &, #, a digit or a quote other than '\n"
     "  a call before a pattern with other text beside it\n"
     "  a skip that holds a quote or a line feed\n"

@@ -260,6 +260,38 @@ typedef struct m7_answer {
 m7_answer m7_read(const uint8_t *file, size_t file_size,
                   uint8_t *table, size_t table_size);
 
+/* What a macro file will take, before it is read:
+
+   number        0, or why m7_read would refuse the file
+   place         of that refusal, as m7_read has it
+   macros        how many macros it has
+   elements      the most elements that the pattern of a macro has: literals,
+                 ?n, classes, calls, ^ and $; a closure is one with what it
+                 repeats; braces, and calls before a pattern, are none
+   tags          the most tags that a macro has
+   bytes         the size of the file that m7_write would write, line feeds
+                 counted
+   write_number  0, or why m7_write would refuse the table: 10 or 18
+   write_place   of that refusal, in the file that would be written
+
+   The most elements and the most tags may be those of different macros; both
+   are 0 without macros. If number is not 0, all that follows place is 0. If
+   write_number is not 0, bytes is 0 and the others stand. */
+typedef struct m7_plan {
+    uint32_t number;
+    uint32_t place;
+    uint32_t macros;
+    uint32_t elements;
+    uint32_t tags;
+    uint32_t bytes;
+    uint32_t write_number;
+    uint32_t write_place;
+} m7_plan;
+
+/* Measures a macro file, which may have any size. No table is made, and no
+   memory but the file is lent. Refusals: 10 to 19, as m7_read gives them. */
+m7_plan m7_measure(const uint8_t *file, size_t file_size);
+
 /* Writes a table out as a macro file: each macro on a line, oldest first.
    Comments, spaces and other text between the parts are not in a table, so
    they are not written; escapes and numbers are written in one way.
@@ -355,7 +387,7 @@ m7_answer m7_words(const uint8_t *line, size_t line_size,
                    const uint8_t *pattern, size_t pattern_size);
 
 /* The version of this header, and that of the library that is linked. */
-#define M7_VERSION "2.0"
+#define M7_VERSION "2.1"
 const char *m7_version(void);
 
 /* What a number means, in a few words of English; of 0 it is "taken". A number

@@ -53,6 +53,17 @@ def tables():
     assert song.written() == b"'a'='b';\n'c'='d';\n"
 
 
+def measured():
+    assert m7.measure(b"'{a}b*'='';'c'=':';") == (2, 2, 1, 22, None)
+    assert m7.measure(b"") == (0, 0, 0, 0, None)
+    assert refused(m7.measure, b"'a**'='b';") == (14, 3, 0)
+    plan = m7.measure(b"'q'='';'{a}'='" + 503 * b":" + b"';")
+    assert plan[:4] == (2, 1, 1, None)
+    assert (plan.unwritten.number, plan.unwritten.place) == (18, 520)
+    table, macros = m7.read(b"'{a}'='b:'#(n=2);")
+    assert m7.measure(m7.write(table)).bytes == len(m7.write(table)) and macros == 1
+
+
 def states():
     assert len(m7.fresh()) == m7.STATE_BYTES
     song = m7.Song(b"'^'<'#(n+) ';")
@@ -118,6 +129,6 @@ def threads():
     assert said == {key: [b"%d " % n + b"b" * key for n in range(1, 201)] for key in range(8)}
 
 
-for check in (answers, tables, states, traces, looked_up, words, threads):
+for check in (answers, tables, measured, states, traces, looked_up, words, threads):
     check()
 print("Python: the module's answers are those of 01")

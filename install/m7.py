@@ -19,6 +19,7 @@ names in M7_LIBRARY. A Song belongs to one thread at a time; different songs may
 run on different threads at once.
 """
 
+import collections
 import ctypes
 import os
 
@@ -36,6 +37,11 @@ class _Answer(ctypes.Structure):
     _fields_ = [(name, ctypes.c_uint32) for name in ("number", "place", "passes", "kind", "length")]
 
 
+class _Plan(ctypes.Structure):
+    _fields_ = [(name, ctypes.c_uint32) for name in ("number", "place", "macros", "elements", "tags",
+                                                     "bytes", "write_number", "write_place")]
+
+
 def _declare(library):
     memory, size = [ctypes.c_char_p, ctypes.c_size_t], ctypes.c_size_t
     for name, lent in (("m7_read", 2 * memory), ("m7_write", 2 * memory), ("m7_fresh", memory),
@@ -43,6 +49,7 @@ def _declare(library):
                        ("m7_words", 2 * memory)):
         function = getattr(library, name)
         function.restype, function.argtypes = _Answer, lent
+    library.m7_measure.restype, library.m7_measure.argtypes = _Plan, memory
     for name in ("m7_table_bytes", "m7_state_bytes", "m7_output_bytes", "m7_trace_bytes",
                  "m7_file_bytes"):
         getattr(library, name).restype = size
@@ -77,7 +84,7 @@ class Refused(Exception):
 
 def _checked(answer):
     if answer.number != 0:
-        raise Refused(answer.number, answer.place, answer.passes)
+        raise Refused(answer.number, answer.place, getattr(answer, "passes", 0))
     return answer
 
 
@@ -102,6 +109,20 @@ def read(file):
     file, table = _bytes(file, "a macro file"), _memory(TABLE_BYTES)
     answer = _checked(_library.m7_read(file, len(file), table, len(table)))
     return table.raw, answer.length
+
+
+Plan = collections.namedtuple("Plan", "macros elements tags bytes unwritten")
+
+
+def measure(file):
+    """What a macro file will take, as a Plan: its macros, the most elements and the most
+    tags of one, and the bytes of the file written out. Where writing it out would be
+    refused, bytes is None and unwritten is that Refused, whose place counts in what
+    would be written; else unwritten is None. Raises Refused where read would."""
+    file = _bytes(file, "a macro file")
+    plan = _checked(_library.m7_measure(file, len(file)))
+    unwritten = Refused(plan.write_number, plan.write_place) if plan.write_number != 0 else None
+    return Plan(plan.macros, plan.elements, plan.tags, None if unwritten else plan.bytes, unwritten)
 
 
 def write(table):

@@ -19,6 +19,7 @@ typedef struct memory {
 static memory table, state, output, trace, file, text;
 static size_t text_size;
 static m7_answer answer;
+static m7_plan plan;
 static int seen[64];
 static int checks;
 
@@ -140,6 +141,21 @@ static uint32_t looking(const char *pattern)
     return answer.number;
 }
 
+/* Measuring alters no memory, and refuses what reading refuses. */
+static uint32_t measuring(void)
+{
+    keep();
+    plan = m7_measure(text.now, text_size);
+    CHECK(same(&text) && same(&table) && same(&state) && same(&output) && same(&file));
+    if (plan.number != 0) {
+        CHECK(plan.macros == 0 && plan.elements == 0 && plan.tags == 0 && plan.bytes == 0);
+        CHECK(plan.write_number == 0 && plan.write_place == 0);
+    }
+    CHECK(reading() == plan.number && answer.place == plan.place);
+    CHECK(answer.length == plan.macros);
+    return plan.number;
+}
+
 /* A macro file that is taken, and a fresh state. */
 static void use(const char *macros)
 {
@@ -205,6 +221,66 @@ static void answers(void)
     use("'^x'<'$MACRO ';'y'='z';");
     answer_bytes("x'a**'", refused);
     answer_bytes("yyyyy", out);
+}
+
+/* THE PLAN */
+
+typedef char plan_has_32_bytes[sizeof(m7_plan) == 32 ? 1 : -1];
+typedef char plan_number_is_first[offsetof(m7_plan, number) == 0 ? 1 : -1];
+typedef char plan_place_is_second[offsetof(m7_plan, place) == 4 ? 1 : -1];
+typedef char macros_is_third[offsetof(m7_plan, macros) == 8 ? 1 : -1];
+typedef char elements_is_fourth[offsetof(m7_plan, elements) == 12 ? 1 : -1];
+typedef char tags_is_fifth[offsetof(m7_plan, tags) == 16 ? 1 : -1];
+typedef char bytes_is_sixth[offsetof(m7_plan, bytes) == 20 ? 1 : -1];
+typedef char write_number_is_seventh[offsetof(m7_plan, write_number) == 24 ? 1 : -1];
+typedef char write_place_is_eighth[offsetof(m7_plan, write_place) == 28 ? 1 : -1];
+
+/* m7_measure as the x86-64 convention has it, as m7_feed above. */
+typedef void (*written_measure)(uint8_t *result, const uint8_t *, size_t);
+typedef m7_plan (*named_measure)(const uint8_t *, size_t);
+
+static void plan_bytes(const uint32_t wanted[8])
+{
+    named_measure named = m7_measure;
+    written_measure written;
+    uint8_t result[64];
+    uint32_t fields[8];
+    size_t i;
+    memcpy(&written, &named, sizeof written);
+    memset(result, 0xA5, sizeof result);
+    written(result, text.now, text_size);
+    memcpy(fields, result, sizeof fields);
+    for (i = 0; i < 8; i++)
+        CHECK(fields[i] == wanted[i]);
+    for (i = sizeof fields; i < sizeof result; i++)
+        CHECK(result[i] == 0xA5);
+}
+
+static void plans(void)
+{
+    static const uint32_t whole[8] = {0, 0, 3, 4, 2, 41, 0, 0};
+    static const uint32_t unread[8] = {M7_NO_UNIT, 11, 0, 0, 0, 0, 0, 0};
+    static const uint32_t unwritten[8] = {0, 0, 2, 1, 1, 0, M7_MACRO_TOO_LONG, 520};
+    static const uint32_t nothing[8] = {0, 0, 0, 0, 0, 0, 0, 0};
+    say("'^a*-b$'='';'{{c}}'='';#(v=1)'d'=':';");
+    plan_bytes(whole);
+    CHECK(measuring() == 0 && plan.macros == 3 && plan.elements == 4 && plan.tags == 2);
+    CHECK(writing() == 0 && answer.length == plan.bytes && plan.bytes == 41);
+    say("'a'='b';'c**'='';");
+    plan_bytes(unread);
+    CHECK(measuring() == M7_NO_UNIT && plan.place == 11);
+    say("'q'='';'{a}'='");
+    add(":", M7_MOST_MACRO_BYTES - 9);
+    add("';", 1);
+    plan_bytes(unwritten);
+    CHECK(measuring() == 0 && plan.bytes == 0);
+    CHECK(writing() == plan.write_number && answer.place == plan.write_place);
+    none();
+    plan_bytes(nothing);
+    plan = m7_measure(NULL, 0);
+    CHECK(plan.number == 0 && plan.macros == 0 && plan.bytes == 0);
+    add("x", M7_FILE_BYTES + 1);
+    CHECK(measuring() == M7_FILE_TOO_LONG && plan.place == M7_FILE_BYTES);
 }
 
 /* SIZES */
@@ -572,6 +648,7 @@ static void all_seen(void)
 int main(void)
 {
     answers();
+    plans();
     sizes();
     nulls();
     nulls_of_words();

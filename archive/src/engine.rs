@@ -16,7 +16,22 @@ pub struct Answer {
     pub length: u32,
 }
 
+/// What a macro file will take: 02, N8.
+#[repr(C)]
+#[derive(Clone, Copy, Debug, Default, PartialEq, Eq)]
+pub struct Plan {
+    pub number: u32,
+    pub place: u32,
+    pub macros: u32,
+    pub elements: u32,
+    pub tags: u32,
+    pub bytes: u32,
+    pub write_number: u32,
+    pub write_place: u32,
+}
+
 extern "C" {
+    fn m7_measure(file: *const u8, file_size: usize) -> Plan;
     fn m7_read(file: *const u8, file_size: usize, table: *mut u8, table_size: usize) -> Answer;
     fn m7_write(table: *const u8, table_size: usize, file: *mut u8, file_size: usize) -> Answer;
     fn m7_fresh(state: *mut u8, state_size: usize) -> Answer;
@@ -47,6 +62,10 @@ pub fn read(file: &[u8], table: &mut [u8]) -> Answer {
 
 pub fn write(table: &[u8], file: &mut [u8]) -> Answer {
     unsafe { m7_write(table.as_ptr(), table.len(), file.as_mut_ptr(), file.len()) }
+}
+
+pub fn measure(file: &[u8]) -> Plan {
+    unsafe { m7_measure(file.as_ptr(), file.len()) }
 }
 
 pub fn fresh(state: &mut [u8]) -> Answer {

@@ -8,6 +8,7 @@ pub mod jobs;
 pub mod lent;
 pub mod perl;
 pub mod picture;
+pub mod plan;
 pub mod process;
 pub mod report;
 pub mod stored;

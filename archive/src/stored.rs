@@ -4,6 +4,7 @@ use crate::engine::{
     self, Answer, FILE_BYTES, OUTPUT_BYTES, STATE_BYTES, TABLE_BYTES, TRACE_BYTES,
 };
 use crate::form::{slot_form, state_of, table_of, SLOT_BYTES};
+use crate::plan::plan_of;
 use m7_reference::answers::{unescape, Case, Check, WordCheck};
 use m7_reference::line::{self, Kind};
 use m7_reference::refusal::Refusal;
@@ -19,6 +20,7 @@ const OLD: u8 = 0xFF;
 
 /// The memories of one case.
 pub struct Host {
+    file: Vec<u8>,
     table: Vec<u8>,
     state: Vec<u8>,
     output: Vec<u8>,
@@ -42,7 +44,8 @@ impl Host {
         engine::fresh(&mut state);
         let (output, trace) = (vec![0; OUTPUT_BYTES], vec![0; TRACE_BYTES]);
         let (pattern, looked) = (Vec::new(), None);
-        Host { table, state, output, trace, read, fed: None, pattern, looked }
+        let file = file.to_vec();
+        Host { file, table, state, output, trace, read, fed: None, pattern, looked }
     }
 
     pub fn feed(&mut self, line: &[u8], budget: u64) -> line::Answer {
@@ -143,6 +146,7 @@ impl Host {
             Check::Trace(on) => self.state().trace == *on,
             Check::Nflag(on) => self.state().nflag == *on,
             Check::Words(check) => self.looks(check),
+            Check::Takes(wanted) => engine::measure(&self.file) == plan_of(wanted),
         }
     }
 }

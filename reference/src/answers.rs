@@ -1,11 +1,13 @@
 //! Stored answers: the text form described in `answers/README.md`.
 
+mod measure;
 mod words;
 
 pub use words::WordCheck;
 
 use crate::line::{Answer, Engine, Fed, Kind};
 use crate::macros::Table;
+use crate::measure::Plan;
 use crate::read::read_file;
 use crate::refusal::Refusal;
 use crate::spell::shortest_length;
@@ -35,6 +37,7 @@ pub enum Check {
     SameAs(Vec<u8>),
     DiffersFrom(Vec<u8>),
     Words(WordCheck),
+    Takes(Result<Plan, Refusal>),
 }
 
 #[derive(Clone, Debug, Default)]
@@ -96,6 +99,9 @@ fn check(word: &str, rest: &str) -> Option<Check> {
         "shortest" => Check::Shortest(words.number()?, words.number()?),
         "same-as" => Check::SameAs(words.text()?),
         "differs-from" => Check::DiffersFrom(words.text()?),
+        "takes" | "takes-unwritten" | "takes-refused" => {
+            Check::Takes(measure::parse(word, &mut words)?)
+        }
         _ => Check::Words(WordCheck::parse(word, &mut words)?),
     };
     words.rest.is_empty().then_some(check)
@@ -194,7 +200,8 @@ fn repeat_end(text: &str) -> Option<usize> {
 }
 
 /// What a case has while it runs.
-struct Running {
+struct Running<'a> {
+    file: &'a [u8],
     read: Result<Table, Refusal>,
     engine: Engine,
     fed: Option<Fed>,
@@ -205,7 +212,8 @@ struct Running {
 pub fn run(case: &Case) -> Result<usize, String> {
     let read = read_file(&case.file);
     let engine = Engine::new(read.clone().unwrap_or_default());
-    let mut running = Running { read, engine, fed: None, looking: Looking::default() };
+    let file = &case.file;
+    let mut running = Running { file, read, engine, fed: None, looking: Looking::default() };
     for (number, check) in &case.checks {
         if let Some(said) = running.says_instead(check) {
             return Err(format!("{} (line {number}): wanted {check:?}, got {said}", case.name));
@@ -221,7 +229,7 @@ impl Check {
     }
 }
 
-impl Running {
+impl Running<'_> {
     /// What the engine says where it differs from the check.
     fn says_instead(&mut self, check: &Check) -> Option<String> {
         match check {
@@ -237,6 +245,7 @@ impl Running {
                 differs(&self.fed.as_ref().map(|fed| &fed.trace), &Some(wanted))
             }
             Check::Words(check) => self.looking.says_instead(check),
+            Check::Takes(wanted) => differs(&crate::measure::measure(self.file), wanted),
             _ => table_instead(check, &self.engine.table),
         }
         .or_else(|| state_instead(check, &self.engine))

@@ -4,7 +4,7 @@
 //! `macros` (what a macro is), `read` and `write` and `spell` (macro files),
 //! `matching` (one division), `replace` (one occurrence), `pass`, `line`,
 //! `trace`.
-//! `words` looks up the words of a line.
+//! `words` looks up the words of a line; `measure` says what a file will take.
 //! `answers`, `generate`, `protocol` and `cases` serve the comparison with
 //! other engines.
 
@@ -16,6 +16,7 @@ pub mod kinds;
 pub mod line;
 pub mod macros;
 pub mod matching;
+pub mod measure;
 pub mod pass;
 pub mod protocol;
 pub mod read;

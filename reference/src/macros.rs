@@ -107,6 +107,11 @@ impl Macro {
     pub fn tags(&self) -> usize {
         tags(&self.pattern)
     }
+
+    /// The number of pattern elements: a closure and its unit are one.
+    pub fn elements(&self) -> usize {
+        self.pattern.iter().filter(|item| matches!(item, Item::Element(_))).count()
+    }
 }
 
 /// The number of tags of a pattern: its left braces.

@@ -1,6 +1,7 @@
 //! The line protocol: one command a line, bytes as hex, one answer a line.
 
 use crate::line::{Answer, Engine, Fed, Kind, PassMade};
+use crate::measure::measure;
 use crate::read::read_file;
 use crate::refusal::Refusal;
 use crate::spell::shortest_length;
@@ -92,6 +93,7 @@ impl Server {
                 "ok".to_string()
             }
             ["write"] => self.write(),
+            ["measure", file] => measured(file),
             ["words", line, pattern] => look_up(line, pattern),
             ["trace"] => trace_words(&self.trace),
             ["spell"] => spell_words(&self.engine),
@@ -160,4 +162,18 @@ fn look_up(line: &str, pattern: &str) -> String {
         Ok(covered) => format!("ok {} {}", covered.words, covered.first.unwrap_or(0)),
         Err(refusal) => refusal_words(refusal),
     }
+}
+
+/// `ok MACROS ELEMENTS TAGS BYTES`, with `no NUMBER PLACE` for the bytes of a
+/// file that cannot be written out; or `no NUMBER PLACE`.
+fn measured(file: &str) -> String {
+    let Some(file) = unhex(file) else {
+        return "error bad hex".to_string();
+    };
+    let plan = match measure(&file) {
+        Ok(plan) => plan,
+        Err(refusal) => return refusal_words(refusal),
+    };
+    let bytes = plan.bytes.map_or_else(refusal_words, |bytes| bytes.to_string());
+    format!("ok {} {} {} {bytes}", plan.macros, plan.elements, plan.tags)
 }

@@ -38,16 +38,22 @@ pub fn written_macro(written: &Macro) -> Vec<u8> {
 pub fn write_table(table: &[Macro]) -> Result<Vec<u8>, Refusal> {
     let mut file = Vec::new();
     for written in table {
-        let start = file.len();
-        file.extend(written_macro(written));
-        let macro_end = start + MACRO_BYTES;
-        if file.len() > macro_end && macro_end <= FILE_BYTES {
-            return Err(Refusal::at(MACRO_TOO_LONG, macro_end));
-        }
+        let spelled = written_macro(written);
+        end_of_line(file.len(), spelled.len())?;
+        file.extend(spelled);
         file.push(b'\n');
-        if file.len() > FILE_BYTES {
-            return Err(Refusal::at(FILE_TOO_LONG, FILE_BYTES));
-        }
     }
     Ok(file)
+}
+
+/// The end of the line of a macro of that length, if the line begins there.
+pub fn end_of_line(start: usize, length: usize) -> Result<usize, Refusal> {
+    if length > MACRO_BYTES && start + MACRO_BYTES <= FILE_BYTES {
+        return Err(Refusal::at(MACRO_TOO_LONG, start + MACRO_BYTES));
+    }
+    let end = start + length + 1;
+    if end > FILE_BYTES {
+        return Err(Refusal::at(FILE_TOO_LONG, FILE_BYTES));
+    }
+    Ok(end)
 }

@@ -53,6 +53,10 @@ fn server_answers() {
     says(&format!("words {} {}", hex(b"SCAT"), hex(b"CA-T")), "ok 0 0");
     says("words 41 -", "no 41 0");
     says("words 4 41", "error bad hex");
+    says(&format!("measure {}", hex(b"'{a}b'='';'c'=':';")), "ok 2 2 1 21");
+    says(&format!("measure {}", hex(b"'a**'='b';")), "no 14 3");
+    let colons = [b"'a'='", &[b':'; 505][..], b"';"].concat();
+    says(&format!("measure {}", hex(&colons)), "ok 1 1 0 no 18 512");
     says("feed x -", "error bad feed");
     says("read xx", "error bad hex");
     says("other", "error unknown command");

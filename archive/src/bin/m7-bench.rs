@@ -15,6 +15,7 @@ use m7_archive::trial::grouped;
 use m7_archive::{files, perl};
 use m7_reference::line::{Engine, Kind};
 use m7_reference::macros::Table;
+use m7_reference::measure::measure;
 use m7_reference::read::read_file;
 use m7_reference::spell::some_file_spells;
 use m7_reference::write::write_table;
@@ -40,6 +41,16 @@ fn reading(report: &mut Report, name: &str, file: &[u8]) {
     });
     let plain = time(400, || {
         black_box(read_file(black_box(file)).is_ok());
+    });
+    beside(report, name, proved, plain);
+}
+
+fn measuring(report: &mut Report, name: &str, file: &[u8]) {
+    let proved = time(400, || {
+        black_box(engine::measure(black_box(file)));
+    });
+    let plain = time(400, || {
+        black_box(measure(black_box(file)).is_ok());
     });
     beside(report, name, proved, plain);
 }
@@ -105,6 +116,9 @@ fn files_and_tables(report: &mut Report) {
     reading(report, "read 32,768 bytes, 64 macros", &longest);
     reading(report, "read 32,736 bytes, 96 macros", &most);
     reading(report, "read the 40 macros for part texts", &parts);
+    measuring(report, "measure 32,768 bytes, 64 macros", &longest);
+    measuring(report, "measure 32,736 bytes, 96 macros", &most);
+    measuring(report, "measure the 40 macros for part texts", &parts);
     checking(report, "check 64 macros of 512 bytes", &longest);
     checking(report, "check 96 macros of 341 bytes", &most);
     checking(report, "check the 40 macros", &parts);

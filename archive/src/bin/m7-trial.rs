@@ -31,6 +31,7 @@ fn main() -> ExitCode {
     println!("{exact} asked under their passes, {less} under one less, {more} under more;");
     let longest = grouped(trial.longest_trace as u64);
     println!("{} lines wrote a trace, the longest of {longest} bytes;", grouped(trial.traced));
+    println!("{} files measured are read, but not written out;", grouped(trial.unwritten));
     println!("seed {seed}, {} calls compared", grouped(trial.counts.all()));
     println!("{} differ", trial.differing);
     ExitCode::from((trial.differing > 0) as u8)

@@ -4,6 +4,7 @@
 mod budgets;
 mod changes;
 mod counts;
+mod measure;
 mod songs;
 mod words;
 
@@ -47,6 +48,8 @@ pub struct Trial {
     /// Lines that wrote a trace, and the longest.
     pub traced: u64,
     pub longest_trace: usize,
+    /// Files measured that are read, and cannot be written out.
+    pub unwritten: u64,
 }
 
 fn taken(length: usize) -> Answer {
@@ -106,6 +109,7 @@ impl Trial {
             differing: 0,
             traced: 0,
             longest_trace: 0,
+            unwritten: 0,
         };
         trial.fresh();
         trial

@@ -67,6 +67,10 @@ impl Songs {
         if random.one_in(4) {
             trial.spoil_trace();
         }
+        trial.measure(&case.file);
+        if random.one_in(64) {
+            trial.measure_written(random);
+        }
         trial.read(Group::Read, &case.file);
         let short = case.file.len() < 10_000;
         if short || random.one_in(4) {

@@ -1,8 +1,9 @@
-// The engine for the host: reading a macro file, writing out a table, the fresh state, feeding a line, and looking words up. Each exported function has a file of its own.
+// The engine for the host: reading a macro file, measuring one, writing out a table, the fresh state, feeding a line, and looking words up. Each exported function has a file of its own.
 mod answers;
 pub mod feed;
 pub mod fresh;
 pub mod looking;
+pub mod measure;
 pub mod read;
 pub mod write;
 

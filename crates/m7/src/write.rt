@@ -37,7 +37,7 @@ pub extern "C" fn m7_write(table: &[u8], file: &mut [u8]) -> Answer
 }
 
 // 18 and 10.
-fn writing_number(f: WritingFault) -> u32
+pub(crate) fn writing_number(f: WritingFault) -> u32
     ensures { λ r. ⌜ r ≡ fileNumber (refusalOf f) ⌝ }
 {
     match f {

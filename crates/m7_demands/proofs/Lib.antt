@@ -3,3 +3,4 @@ pub mod OneFeed
 pub mod LargerLaws
 pub mod Demand3Laws
 pub mod TraceLaws
+pub mod MeasureLaws

@@ -4,3 +4,4 @@ pub mod LargerBudget
 pub mod Demand2
 pub mod Demand3
 pub mod Trace
+pub mod Measure

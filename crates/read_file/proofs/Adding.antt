@@ -12,13 +12,16 @@ use Rattle.macros.specs.Macro.{Macro, Table, pick}
 use Rattle.macros.specs.Read.{Read, noCalls, readFrom}
 use Rattle.macros.specs.ReadFile.Pending.{clear}
 use Rattle.macros.specs.ReadFile.Reader.{between}
-use Rattle.macros.specs.ReadFile.Read.{refusedAt}
 use Rattle.form_table.specs.Form.{slotBytes, body, slot, slots}
 use Rattle.form_items.specs.Items.{Wrote}
 use Rattle.form_table.proofs.Actions.{slot-length}
-use Rattle.read_scan.specs.Scan.{MacroRead, after}
-use Rattle.read_scan.specs.Scan.MacroRead.{refusedAt as noneAt, patternTo, macroTo}
-use Rattle.read_file.specs.File.{started, startedBehind, ended, macroAt, Macroed, MacroFrom, ReadsMacro, usedBytes, slotOf, Seeks, Adds, AddsFrom, noStart, noMacro}
+use Rattle.read_scan.specs.Scan.{MacroRead}
+use Rattle.read_scan.specs.Scan.MacroRead.{refusedAt as noneAt, patternTo, macroTo as oneTo}
+use Rattle.read_file.specs.Next.{nextFrom}
+use Rattle.read_file.specs.Next.Coming.{refusedAt}
+use Rattle.read_file.specs.NextLaw.{readOn}
+use Rattle.read_file.specs.File.{started, startedBehind, comes, ended, macroAt, Macroed, MacroFrom, ReadsMacro, usedBytes, slotOf}
+use Rattle.read_file.specs.File.{Seeks, InSlot, NextSlot, Adds, AddsFrom, noStart, noMacro, noneFound}
 use Rattle.read_scan.specs.declared.FileFault.{FileFault}
 use Rattle.read_scan.specs.declared.FileFault.the-variants.{TooManyMacros}
 use Rattle.read_file.specs.declared.Head.{Head}
@@ -26,9 +29,11 @@ use Rattle.read_file.specs.declared.Built.{Built}
 use Rattle.read_file.specs.declared.Built.the-variants.{Made, Refused as NoMacro}
 use Rattle.read_file.specs.declared.Seek.{Seek}
 use Rattle.read_file.specs.declared.Seek.the-variants.{Start, Done, Skipping}
+use Rattle.read_file.specs.declared.Found.{Found}
+use Rattle.read_file.specs.declared.Found.the-variants.{Macro as MacroUpTo, End, Refused as NotFound}
 use Rattle.read_file.specs.declared.Added.{Added}
-use Rattle.read_file.specs.declared.Added.the-variants.{Refused as NotAll}
 use Rattle.form_items.proofs.Writing.{wrote-none, wrote-behind}
+use Rattle.read_file.proofs.Coming.{read-next}
 
 -- SLOTS
 
@@ -67,19 +72,19 @@ adds-then x g =
       answer = λ ms e. x .answer ms e ∙ g (x .added ++ ms) (length-append (x .added) ms ∙ omega (arith, x .counted));
     }
 
--- WHERE A MACRO BEGINS
+-- THE NEXT MACRO
 
--- reading goes on behind a macro, whether it is known where its pattern ends or not
-after-ended : (s : List ℕ) (ms : List Macro) (o : MacroRead) → after s ms o ≡ after s ms (ended o)
-unfolding after ended
-after-ended s ms (noneAt c q) = refl
-after-ended s ms (patternTo q ps o) = after-ended s ms o
-after-ended s ms (macroTo q m) = refl
+-- whether it is known where its pattern ends or not
+comes-ended : (o : MacroRead) → comes o ≡ comes (ended o)
+unfolding comes ended
+comes-ended (noneAt c q) = refl
+comes-ended (patternTo q ps o) = comes-ended o
+comes-ended (oneTo q m) = refl
 
 -- one of the first 96
-few : (s : List ℕ) (a v : ℕ) (ms : List Macro) → length ms < 96 → startedBehind s a v ms ≡ after s ms (macroAt s a v ms)
+few : (s : List ℕ) (a v : ℕ) (ms : List Macro) → length ms < 96 → startedBehind s a v ms ≡ comes (macroAt s a v ms)
 unfolding startedBehind macroAt pick
-few s a v ms h = rw (lt-ltb _ _ h) (after-ended s ms (started s a v (noCalls ms)))
+few s a v ms h = rw (lt-ltb _ _ h) (comes-ended (started s a v (noCalls ms)))
 
 -- the 97th
 full : (s : List ℕ) (a v : ℕ) (ms : List Macro) → 96 ≤ length ms → startedBehind s a v ms ≡ refusedAt tooManyMacros a
@@ -91,50 +96,81 @@ NoStart (Start a v) = ⊥
 NoStart Done = Unit {0}
 NoStart Skipping = Unit {0}
 
-module _ (s : List ℕ) (c : ℕ) (old out : List ℕ) (n at : ℕ) (x : Adds s c old out n (λ ms. readFrom at (between false clear ms) (drop at s))) (r : Seek) (y : Seeks s at r) where
-  pub adds-ended : {w : Added} → NoStart r → w ≡ noStart r n (length s) → AddsFrom s c old out w
-  adds-ended k e = rw e (by r y k)
+module _ (s : List ℕ) (at n base : ℕ) (old : List ℕ) (r : Seek) (y : Seeks s at r) where
+  pub slot-ended : {w : Found} → NoStart r → w ≡ noStart r (length s) → NextSlot s at n base old old w
+  slot-ended k e = rw e (by r y k)
     where
-      by : (r : Seek) → Seeks s at r → NoStart r → AddsFrom s c old out (noStart r n (length s))
+      by : (r : Seek) → Seeks s at r → NoStart r → NextSlot s at n base old old (noStart r (length s))
       by (Start a v) z k = absurd k
-      by Done z k = adds-then x (λ l e. z l)
-      by Skipping z k = adds-then x (λ l e. z l)
+      by Done z k = (refl, λ ms l. z ms)
+      by Skipping z k = (refl, λ ms l. z ms)
 
   module _ {a q : ℕ} (e : r ≡ Start a q) where
     pub at-start : Seeks s at (Start a q)
     at-start = rw e at y
 
-    there : Adds s c old out n (λ ms. startedBehind s a q ms)
-    there = adds-then x (λ l i. at-start .3 l)
-
-    pub adds-full : 96 ≤ n → AddsFrom s c old out (NotAll TooManyMacros a n)
-    adds-full h = adds-then there (λ l i. full s a q l (omega arith))
+    pub slot-full : 96 ≤ n → NextSlot s at n base old old (NotFound TooManyMacros a)
+    slot-full h = (refl, λ ms l. at-start .3 ms ∙ full s a q ms (omega arith))
 
     module _ (old₂ mid : List ℕ) {m : Built} (y₂ : ReadsMacro s a q old₂ mid m) where
-      z : MacroFrom s a q old₂ mid m
-      z = y₂ .from
-
-      pub adds-fault : {f : FileFault} {v : ℕ} {w : Added} → n < 96 → m ≡ NoMacro f v → w ≡ noMacro m n → AddsFrom s c old out w
-      unfolding after
-      adds-fault {f} {v} h i j =
-          let d : MacroFrom s a q old₂ mid (NoMacro f v) = rw i at z in
-          rw (j ∙ ap (λ (b : Built). noMacro b n) i) (adds-then there (λ l k. few s a q l (omega arith) ∙ ap (after s l) (d .1 l)))
+      pub slot-fault : {f : FileFault} {v : ℕ} {w : Found} → n < 96 → m ≡ NoMacro f v → w ≡ noMacro m → NextSlot s at n base old old w
+      unfolding comes
+      slot-fault {f} {v} h i j =
+          let d : MacroFrom s a q old₂ mid (NoMacro f v) = rw i at (y₂ .from) in
+          rw (j ∙ ap noMacro i) (refl, λ ms l. at-start .3 ms ∙ (few s a q ms (omega arith) ∙ ap comes (d .1 ms)))
 
       module _ {v : ℕ} {h : Head} (i : m ≡ Made v h) where
-        pub one-more : Macroed s a q v old₂ mid h
-        one-more = rw i at z
+        pub one-made : Macroed s a q v old₂ mid h
+        one-made = rw i at (y₂ .from)
 
-        pub adds-more : (fin : List ℕ) → n < 96 → Wrote out fin (n * 1024) (slotOf h mid) → Adds s c old fin (n + 1) (λ ms. readFrom v (between false clear ms) (drop v s))
-        unfolding after
-        adds-more fin l w =
-            let m = one-more in
-            let k : length (slot (m .itself)) ≡ slotBytes = slot-length (m .itself) (omega (arith, m .size, m .fits)) in
-            let p : n * 1024 ≡ slotBytes * c + length (slots (reverse (there .added))) = omega (arith, there .size, there .counted) in
+        pub slot-made : (fin : List ℕ) → n < 96 → Wrote old fin base (slotOf h mid) → NextSlot s at n base old fin (MacroUpTo v)
+        unfolding comes
+        slot-made fin l w =
+            let m = one-made in
             record {
-              added = m .itself ∷ there .added;
-              counted = omega (arith, there .counted);
-              few = omega arith;
-              size = rw (slots-last (m .itself) (there .added), length-append) (omega (arith, k, there .size));
-              wrote = rw (slots-last (m .itself) (there .added)) (wrote-behind (there .wrote) p (rw (its-slot m) at w));
-              answer = λ ms e. there .answer ms e ∙ (few s a q (there .added ++ ms) (omega (arith, length-append (there .added) ms, there .counted)) ∙ ap (after s (there .added ++ ms)) (m .exact (there .added ++ ms)));
+              itself = m .itself;
+              exact = λ ms j. at-start .3 ms ∙ (few s a q ms (omega arith) ∙ ap comes (m .exact ms));
+              wrote = rw (its-slot m) at w;
+              size = slot-length (m .itself) (omega (arith, m .size, m .fits));
+              few = l;
+              further = omega (arith, at-start .0, at-start .1, m .further);
+              reached = m .reached;
             }
+
+-- ONE MACRO MORE
+
+abbrev pub NoneFound : Found → Type 0
+NoneFound (MacroUpTo q) = ⊥
+NoneFound End = Unit {0}
+NoneFound (NotFound f q) = Unit {0}
+
+module _ (s : List ℕ) (c : ℕ) (old out : List ℕ) (n at : ℕ) (x : Adds s c old out n (λ ms. readFrom at (between false clear ms) (drop at s))) (fin : List ℕ) (r : Found) (y : NextSlot s at n (n * 1024) out fin r) where
+  next : Adds s c old out n (λ ms. readOn s ms (nextFrom s at ms))
+  next = adds-then x (λ l e. read-next s at l)
+
+  pub adds-ended : {w : Added} → NoneFound r → w ≡ noneFound r n → AddsFrom s c old fin w
+  unfolding readOn
+  adds-ended k e = rw e (by r y k)
+    where
+      by : (r : Found) → NextSlot s at n (n * 1024) out fin r → NoneFound r → AddsFrom s c old fin (noneFound r n)
+      by (MacroUpTo q) z k = absurd k
+      by End z k = rw (z .0) (adds-then next (λ l e. ap (readOn s l) (z .1 l e)))
+      by (NotFound f q) z k = rw (z .0) (adds-then next (λ l e. ap (readOn s l) (z .1 l e)))
+
+  module _ {q : ℕ} (e : r ≡ MacroUpTo q) where
+    pub one-found : InSlot s at n (n * 1024) out fin q
+    one-found = rw e at y
+
+    pub adds-more : Adds s c old fin (n + 1) (λ ms. readFrom q (between false clear ms) (drop q s))
+    unfolding readOn
+    adds-more =
+        let m = one-found in
+        let p : n * 1024 ≡ slotBytes * c + length (slots (reverse (x .added))) = omega (arith, x .size, x .counted) in
+        record {
+          added = m .itself ∷ x .added;
+          counted = omega (arith, x .counted);
+          few = omega (arith, m .few);
+          size = rw (slots-last (m .itself) (x .added), length-append) (omega (arith, m .size, x .size));
+          wrote = rw (slots-last (m .itself) (x .added)) (wrote-behind (x .wrote) p (m .wrote));
+          answer = λ ms e. x .answer ms e ∙ (read-next s at (x .added ++ ms) ∙ ap (readOn s (x .added ++ ms)) (m .exact (x .added ++ ms) (omega (arith, length-append (x .added) ms, x .counted))));
+        }

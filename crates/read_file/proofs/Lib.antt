@@ -1,4 +1,5 @@
 pub mod Joining
+pub mod Coming
 pub mod Seeking
 pub mod Storing
 pub mod Adding

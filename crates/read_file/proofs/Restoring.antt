@@ -22,9 +22,11 @@ use Rattle.form_table.specs.Form.{slotBytes, tableBytes, slots, form}
 use Rattle.form_table.proofs.Tables.{slots-size, formSize}
 use Rattle.read_scan.specs.Scan.{faultOf}
 use Rattle.form_items.specs.Items.{Wrote}
-use Rattle.read_file.specs.File.{ZeroAt, Adds, AddsFrom, Lent, Onto, macrosBy, tableOf}
+use Rattle.read_file.specs.File.{WholeFile, Adds, AddsFrom, Lent, Onto, notPlain, macrosBy, tableOf}
+use Rattle.read_file.specs.File.WholeFile.{plain, long, zeroed}
 use Rattle.read_scan.specs.declared.FileFault.{FileFault}
-use Rattle.read_scan.specs.declared.FileFault.the-variants.{FileTooLong, ZeroByte}
+use Rattle.read_file.specs.declared.FileTest.{FileTest}
+use Rattle.read_file.specs.declared.FileTest.the-variants.{Plain, Refused as NotPlain}
 use Rattle.read_file.specs.declared.Added.{Added}
 use Rattle.read_file.specs.declared.Added.the-variants.{All, Refused as NotAll}
 use Rattle.read_file.specs.declared.Reading.{Reading}
@@ -33,23 +35,39 @@ use Rattle.read_file.proofs.Adding.{slots-append}
 
 -- THE WHOLE FILE FIRST
 
-long : (ms : Table) (s : List ℕ) → 32768 < length s → readOnto ms s ≡ refusedAt fileTooLong 32768
+too-long : (ms : Table) (s : List ℕ) → 32768 < length s → readOnto ms s ≡ refusedAt fileTooLong 32768
 unfolding readOnto pick
-long ms s h = rw (lt-ltb _ _ h) refl
+too-long ms s h = rw (lt-ltb _ _ h) refl
 
-zeroed : (ms : Table) (s : List ℕ) (p : ℕ) → length s ≤ 32768 → firstZero 0 s ≡ some p → readOnto ms s ≡ refusedAt zeroByte p
+with-zero : (ms : Table) (s : List ℕ) (p : ℕ) → length s ≤ 32768 → firstZero 0 s ≡ some p → readOnto ms s ≡ refusedAt zeroByte p
 unfolding readOnto pick
-zeroed ms s p h e = rw (le-ltb _ _ h, e) refl
+with-zero ms s p h e = rw (le-ltb _ _ h, e) refl
 
 fresh : (ms : Table) (s : List ℕ) → length s ≤ 32768 → firstZero 0 s ≡ none → readOnto ms s ≡ readFrom 0 (between false clear (reverse ms)) s
 unfolding readOnto pick
 fresh ms s h e = rw (le-ltb _ _ h, e) refl
 
-pub onto-long : (s : List ℕ) (c : ℕ) (old : List ℕ) → 32768 < length s → Onto s c old old (NoTable FileTooLong 32768)
-onto-long s c old h ms f e l = (long ms s h, refl)
+abbrev pub Refuses : FileTest → Type 0
+Refuses Plain = ⊥
+Refuses (NotPlain f q) = Unit {0}
 
-pub onto-zero : (s : List ℕ) (c : ℕ) (old : List ℕ) (z : ℕ) → length s ≤ 32768 → ZeroAt s z → z < length s → Onto s c old old (NoTable ZeroByte z)
-onto-zero s c old z h x i ms f e l = (zeroed ms s z h (x .found i), refl)
+pub refuses : {t : FileTest} {f : FileFault} {q : ℕ} → t ≡ NotPlain f q → Refuses t
+refuses e = rw e tt
+
+-- a file that is refused as a whole
+pub onto-not-plain : (s : List ℕ) (c : ℕ) (old : List ℕ) (t : FileTest) {w : Reading} → WholeFile s t → Refuses t → w ≡ notPlain t → Onto s c old old w
+onto-not-plain s c old t x k e = rw e (by t x k)
+  where
+    by : (t : FileTest) → WholeFile s t → Refuses t → Onto s c old old (notPlain t)
+    by t (plain h z) k = absurd k
+    by t (long h) k = λ ms f e l. (too-long ms s h, refl)
+    by t (zeroed q h z) k = λ ms f e l. (with-zero ms s q h z, refl)
+
+-- one that is not
+pub plain-file : (s : List ℕ) (t : FileTest) → WholeFile s t → t ≡ Plain → (length s ≤ 32768) × (firstZero 0 s ≡ none)
+plain-file s t (plain h z) e = (h, z)
+plain-file s t (long h) e = let z : _≡_ {A = ℕ} 0 1 = cc in absurd (omega arith)
+plain-file s t (zeroed q h z) e = let z : _≡_ {A = ℕ} 0 1 = cc in absurd (omega arith)
 
 -- WHAT IS LENT
 
@@ -121,7 +139,7 @@ module _ (ms : Table) (f : Accepted ms) (c : ℕ) (l : length ms ≡ c) where
 
 -- READING
 
-module _ (s : List ℕ) (c : ℕ) (old out : List ℕ) (h : length s ≤ 32768) (z : ℕ) (x : ZeroAt s z) (i : length s ≤ z) {r : Added} (y : AddsFrom s c old out r) where
+module _ (s : List ℕ) (c : ℕ) (old out : List ℕ) (h : length s ≤ 32768) (x : firstZero 0 s ≡ none) {r : Added} (y : AddsFrom s c old out r) where
   pub onto-table : {n : ℕ} → r ≡ All n → Onto s c old out (TableOf n)
   onto-table {n} e = by
     where
@@ -133,7 +151,7 @@ module _ (s : List ℕ) (c : ℕ) (old out : List ℕ) (h : length s ≤ 32768) 
           let b : reverse (a .added ++ reverse ms) ≡ ms ++ reverse (a .added) = reverse-append (a .added) (reverse ms) ∙ ap (λ (t : Table). t ++ reverse (a .added)) (reverse-reverse ms) in
           let d : length (reverse (a .added)) ≡ length (a .added) = length-reverse (a .added) in (
             ms ++ reverse (a .added),
-            fresh ms s h (x .missing i) ∙ (a .answer (reverse ms) (length-reverse ms ∙ l) ∙ ap table b),
+            fresh ms s h x ∙ (a .answer (reverse ms) (length-reverse ms ∙ l) ∙ ap table b),
             omega (arith, a .counted, length-append ms (reverse (a .added)), d),
             joined ms f c l old k out (reverse (a .added)) n (omega (arith, a .size, d)) (omega (arith, a .counted, d)) (a .few) (a .wrote),
           )
@@ -146,7 +164,7 @@ module _ (s : List ℕ) (c : ℕ) (old out : List ℕ) (h : length s ≤ 32768) 
     onto-fault fin v ms g k l =
         let a = not-all in
         let d : length (reverse (a .added)) ≡ length (a .added) = length-reverse (a .added) in (
-          fresh ms s h (x .missing i) ∙ a .answer (reverse ms) (length-reverse ms ∙ l),
+          fresh ms s h x ∙ a .answer (reverse ms) (length-reverse ms ∙ l),
           restored ms g c l old k out (reverse (a .added)) n (omega (arith, a .size, d)) (omega (arith, a .counted, d)) (a .few) (a .wrote) fin v,
         )
 

@@ -11,11 +11,10 @@ use lib.Dec.{eqb, ltb}
 use lib.ListN.{length, getD, drop, drop-of-length-le}
 use lib.Seq.{drop-cons}
 use borrow.Author.Tests.{eqb-true, ne-eqb, not-true, le-ltb, lt-ltb, ltb-true, ltb-false}
-use Rattle.macros.specs.Refusals.{FileRefusal}
 use Rattle.macros.specs.Refusals.FileRefusal.{macroTooLong, tooManyMacros}
 use Rattle.macros.specs.Macro.{Mark, Macro, pick}
 use Rattle.macros.specs.Macro.Mark.{stack, counter}
-use Rattle.macros.specs.Read.{Part, Pending, Next, Reader, step, further, outside, outsideFresh, firstCall, noCalls, readFrom, atEnd, firstZero}
+use Rattle.macros.specs.Read.{Part, Pending, step, further, outside, outsideFresh, firstCall, noCalls, firstZero}
 use Rattle.macros.specs.ReadSoFar.Joinable.{nothing}
 use Rattle.macros.specs.ReadSoFar.CallSite.{callsSoFar}
 use Rattle.macros.specs.ReadSoFar.Phase.{begun}
@@ -23,63 +22,58 @@ use Rattle.macros.specs.ReadSoFar.Part.{pattern, calling}
 use Rattle.macros.specs.ReadFile.Pending.{clear, atMark}
 use Rattle.macros.specs.ReadFile.Reader.{between, inside}
 use Rattle.macros.specs.ReadFile.Next.{go, refuse, refuseBefore}
-use Rattle.macros.specs.ReadFile.Read.{refusedAt}
 use Rattle.form_table.proofs.Basics.{and-left, and-right}
-use Rattle.read_scan.specs.Scan.{after}
 use Rattle.read_call.specs.Call.{markOf}
-use Rattle.read_file.specs.File.{firstPart, started, startedBehind, over, opens, isMark, opensCall, turned, pendingOf, Seeks, ZeroAt}
+use Rattle.read_file.specs.Next.{endsAt, nextBy, nextFrom}
+use Rattle.read_file.specs.File.{firstPart, started, comes, startedBehind, over, opens, isMark, opensCall, turned, pendingOf, Seeks, ZeroAt}
 use Rattle.read_file.specs.declared.Seek.the-variants.{Start, Done, Skipping}
-use Rattle.read_scan.proofs.Laws.{read-go, read-refuse, read-after, run-now}
+use Rattle.read_scan.proofs.Laws.{run-now}
+use Rattle.read_file.proofs.Coming.{next-go, next-refuse, next-before, next-after}
 
 -- WHERE A MACRO BEGINS
-
--- a refusal that shows n bytes behind its place
-read-before : (p n : ℕ) (k : FileRefusal) (r : Reader) (b : ℕ) (bs : List ℕ) → step r b ≡ refuseBefore k n → readFrom p r (b ∷ bs) ≡ refusedAt k (p - n)
-unfolding readFrom
-read-before p n k r b bs e = rw (e, readFrom)
 
 module _ (s : List ℕ) (a : ℕ) (ms : List Macro) where
   -- behind the byte that opens its first part
   begins-inside : (v n : ℕ) (st : Part) → n ≡ v - a → v - a ≤ 512 → firstPart (getD s a 0) ≡ st
-      → readFrom v (inside false n st (noCalls ms)) (drop v s) ≡ after s ms (started s a v (noCalls ms))
+      → nextBy v (inside false n st (noCalls ms)) (drop v s) ≡ comes (started s a v (noCalls ms))
   unfolding started pick
   begins-inside v n st i h e =
-      read-after s (noCalls ms) v false n st (drop v s) refl
-      ∙ ap (after s ms) (sym (rw (le-ltb _ _ h, e, i) (run-now s a (noCalls ms) false v st h)))
+      next-after (noCalls ms) v false n st (drop v s)
+      ∙ ap comes (sym (rw (le-ltb _ _ h, e, i) (run-now s a (noCalls ms) false v st h)))
 
   -- its first quote
   quote-begins : (w : Pending) → a < length s → getD s a 0 ≡ 39
       → step (between false w ms) 39 ≡ pick (ltb (length ms) 96) (go (inside false 1 (pattern nothing []) (noCalls ms))) (refuse tooManyMacros)
-      → readFrom a (between false w ms) (drop a s) ≡ startedBehind s a (a + 1) ms
+      → nextBy a (between false w ms) (drop a s) ≡ startedBehind s a (a + 1) ms
   unfolding startedBehind pick firstPart
   quote-begins w h e f = rw (drop-cons s a 0 h, e) (by (ltb (length ms) 96) refl)
     where
-      by : (y : Bool) → ltb (length ms) 96 ≡ y → readFrom a (between false w ms) (39 ∷ drop (suc a) s) ≡ startedBehind s a (a + 1) ms
+      by : (y : Bool) → ltb (length ms) 96 ≡ y → nextBy a (between false w ms) (39 ∷ drop (suc a) s) ≡ startedBehind s a (a + 1) ms
       by true i =
           let k = begins-inside (suc a) 1 (pattern nothing []) (omega arith) (omega arith) (rw e refl) in
-          read-go a _ _ 39 _ (f ∙ rw i refl) ∙ (k ∙ rw (i, add-one) refl)
-      by false i = read-refuse a tooManyMacros _ 39 _ (f ∙ rw i refl) ∙ rw i refl
+          next-go a 39 _ false w ms _ (f ∙ rw i refl) ∙ (k ∙ rw (i, add-one) refl)
+      by false i = next-refuse a 39 _ false w ms tooManyMacros (f ∙ rw i refl) ∙ rw i refl
 
   -- the `(` of its first call, at a place behind its sign
   call-begins : (at : ℕ) (m : Mark) → a < at → at < length s → getD s at 0 ≡ 40 → firstPart (getD s a 0) ≡ calling (callsSoFar []) (begun m)
-      → readFrom at (between false (atMark m (at - a)) ms) (drop at s) ≡ startedBehind s a (at + 1) ms
-  unfolding startedBehind started pick step outside firstCall after
+      → nextBy at (between false (atMark m (at - a)) ms) (drop at s) ≡ startedBehind s a (at + 1) ms
+  unfolding startedBehind started pick step outside firstCall comes
   call-begins at m l h e f = rw (drop-cons s at 0 h, e) (by (ltb (length ms) 96) refl)
     where
-      by-length : (y : Bool) → ltb (length ms) 96 ≡ true → ltb (at - a) 512 ≡ y → readFrom at (between false (atMark m (at - a)) ms) (40 ∷ drop (suc at) s) ≡ startedBehind s a (at + 1) ms
+      by-length : (y : Bool) → ltb (length ms) 96 ≡ true → ltb (at - a) 512 ≡ y → nextBy at (between false (atMark m (at - a)) ms) (40 ∷ drop (suc at) s) ≡ startedBehind s a (at + 1) ms
       by-length true i j =
           let k = begins-inside (suc at) (suc (at - a)) (calling (callsSoFar []) (begun m)) (omega arith) (omega (arith, ltb-true (at - a) 512 j)) f in
-          read-go at _ _ 40 _ (rw (i, j) refl) ∙ (k ∙ rw (i, add-one) refl)
+          next-go at 40 _ false _ ms _ (rw (i, j) refl) ∙ (k ∙ rw (i, add-one) refl)
       by-length false i j =
           let z : at - (at - a - 512) ≡ a + 512 = omega (arith, ltb-false (at - a) 512 j) in
           let t : ltb 512 (at + 1 - a) ≡ true = lt-ltb 512 (at + 1 - a) (omega (arith, ltb-false (at - a) 512 j)) in
-          read-before at (at - a - 512) macroTooLong _ 40 _ (rw (i, j) refl) ∙ rw (z, i, t) refl
+          next-before at 40 _ false _ ms macroTooLong (at - a - 512) (rw (i, j) refl) ∙ rw (z, i, t) refl
 
-      by : (y : Bool) → ltb (length ms) 96 ≡ y → readFrom at (between false (atMark m (at - a)) ms) (40 ∷ drop (suc at) s) ≡ startedBehind s a (at + 1) ms
+      by : (y : Bool) → ltb (length ms) 96 ≡ y → nextBy at (between false (atMark m (at - a)) ms) (40 ∷ drop (suc at) s) ≡ startedBehind s a (at + 1) ms
       by true i = by-length (ltb (at - a) 512) i refl
       by false i =
           let z : at - (at - a) ≡ a = omega arith in
-          read-before at (at - a) tooManyMacros _ 40 _ (rw i refl) ∙ rw (z, i) refl
+          next-before at 40 _ false _ ms tooManyMacros (at - a) (rw i refl) ∙ rw (z, i) refl
 
 -- BETWEEN MACROS
 
@@ -170,12 +164,12 @@ pub record Sought (s : List ℕ) (p at : ℕ) (k : Bool) (l a : ℕ) : Type 0 wh
   pub behind : a ≤ at
   pub there : at ≤ length s
   pub sign : isMark l ≡ true → (a < at) × (getD s a 0 ≡ l)
-  pub comes : (ms : List Macro) → readFrom p (between false clear ms) (drop p s) ≡ readFrom at (between k (pendingOf l (at - a)) ms) (drop at s)
+  pub onto : (ms : List Macro) → nextFrom s p ms ≡ nextBy at (between k (pendingOf l (at - a)) ms) (drop at s)
 
 -- before the first byte
 pub sought-none : (s : List ℕ) (p : ℕ) → p ≤ length s → Sought s p p false 32 p
-unfolding pendingOf pick
-sought-none s p h = record { begun = omega arith; behind = omega arith; there = h; sign = λ e. absurd (true≢false (sym e)); comes = λ ms. refl }
+unfolding pendingOf pick nextFrom
+sought-none s p h = record { begun = omega arith; behind = omega arith; there = h; sign = λ e. absurd (true≢false (sym e)); onto = λ ms. refl }
 
 -- the sign and its place behind one byte more
 sign-on : (s : List ℕ) (o : Bool) (l a at : ℕ) → a ≤ at → (isMark l ≡ true → (a < at) × (getD s a 0 ≡ l))
@@ -195,19 +189,19 @@ module _ {s : List ℕ} {p at : ℕ} {k : Bool} {l a : ℕ} (g : Sought s p at k
       → o ≡ over (getD s at 0) k → j ≡ turned (getD s at 0) k → l′ ≡ pick o l (getD s at 0) → a′ ≡ pick o a at → Sought s p (at + 1) j l′ a′
   sought-on e f {o} i x y z =
       let w = place-on o p a at (g .begun) (g .behind) in
-      let c : (ms : List Macro) → readFrom at (between k (pendingOf l (at - a)) ms) (drop at s) ≡ readFrom (at + 1) (between (turned (getD s at 0) k) (pendingOf (pick o l (getD s at 0)) (at + 1 - pick o a at)) ms) (drop (at + 1) s) =
-      λ ms. rw (drop-cons s at 0 h, ← pending-on o l (getD s at 0) a at (g .behind), i, add-one) (read-go at _ _ (getD s at 0) (drop (suc at) s) (turn-step k l (at - a) ms (getD s at 0) e f)) in
+      let c : (ms : List Macro) → nextBy at (between k (pendingOf l (at - a)) ms) (drop at s) ≡ nextBy (at + 1) (between (turned (getD s at 0) k) (pendingOf (pick o l (getD s at 0)) (at + 1 - pick o a at)) ms) (drop (at + 1) s) =
+      λ ms. rw (drop-cons s at 0 h, ← pending-on o l (getD s at 0) a at (g .behind), i, add-one) (next-go at (getD s at 0) (drop (suc at) s) k _ ms _ (turn-step k l (at - a) ms (getD s at 0) e f)) in
       rw (x, y, z)
       (record {
         begun = w .0;
         behind = w .1;
         there = omega arith;
         sign = sign-on s o l a at (g .behind) (g .sign);
-        comes = λ ms. g .comes ms ∙ c ms;
+        onto = λ ms. g .onto ms ∙ c ms;
       })
 
   pub seek-quote : opens (getD s at 0) k ≡ true → Seeks s p (Start at (at + 1))
-  seek-quote e = (omega (arith, g .begun, g .behind), omega arith, omega arith, λ ms. g .comes ms ∙ rw skip (quote-begins s at ms (pendingOf l (at - a)) h byte (opening l (at - a) ms)))
+  seek-quote e = (omega (arith, g .begun, g .behind), omega arith, omega arith, λ ms. g .onto ms ∙ rw skip (quote-begins s at ms (pendingOf l (at - a)) h byte (opening l (at - a) ms)))
     where
       skip : k ≡ false
       skip = not-true k (and-left (not k) (eqb (getD s at 0) 39) e)
@@ -216,7 +210,7 @@ module _ {s : List ℕ} {p at : ℕ} {k : Bool} {l a : ℕ} (g : Sought s p at k
       byte = eqb-true (getD s at 0) 39 (and-right (not k) (eqb (getD s at 0) 39) e)
 
   pub seek-call : opensCall (getD s at 0) k l ≡ true → Seeks s p (Start a (at + 1))
-  seek-call e = (g .begun, omega arith, omega arith, λ ms. g .comes ms ∙ rw (skip, pending) (call-begins s a ms at (markOf (eqb l 35)) (its .0) h byte part))
+  seek-call e = (g .begun, omega arith, omega arith, λ ms. g .onto ms ∙ rw (skip, pending) (call-begins s a ms at (markOf (eqb l 35)) (its .0) h byte part))
     where
       skip : k ≡ false
       skip = not-true k (and-left (not k) (isMark l && eqb (getD s at 0) 40) e)
@@ -241,12 +235,12 @@ module _ {s : List ℕ} {p at : ℕ} {k : Bool} {l a : ℕ} (g : Sought s p at k
 
 module _ {s : List ℕ} {p at : ℕ} {k : Bool} {l a : ℕ} (g : Sought s p at k l a) (h : length s ≤ at) where
   pub seek-done : k ≡ false → Seeks s p Done
-  unfolding readFrom atEnd pick
-  seek-done e ms = g .comes ms ∙ rw (e, drop-of-length-le s {i = at} h) refl
+  unfolding nextBy endsAt pick
+  seek-done e ms = g .onto ms ∙ rw (e, drop-of-length-le s {i = at} h) refl
 
   pub seek-skipping : k ≡ true → Seeks s p Skipping
-  unfolding readFrom atEnd pick
-  seek-skipping e ms = let i : at ≡ length s = omega (arith, g .there) in g .comes ms ∙ rw (e, drop-of-length-le s {i = at} h, i) refl
+  unfolding nextBy endsAt pick
+  seek-skipping e ms = let i : at ≡ length s = omega (arith, g .there) in g .onto ms ∙ rw (e, drop-of-length-le s {i = at} h, i) refl
 
 -- THE FIRST BYTE 0
 

@@ -6,7 +6,7 @@ use mathlib.Core.List.{List, [], _∷_, _++_, reverse}
 use mathlib.Core.Option.{none, some}
 use lib.Dec.{eqb, ltb}
 use lib.ListN.{length, getD, take, drop, replicate}
-use Rattle.macros.specs.Bounds.{mostMacros, mostMacroBytes, mostTags}
+use Rattle.macros.specs.Bounds.{mostFileBytes, mostMacros, mostMacroBytes, mostTags}
 use Rattle.macros.specs.Refusals.FileRefusal.{incomplete, macroTooLong, tooManyMacros}
 use Rattle.macros.specs.Macro.{Macro, Table, Action, Call, pick, tags}
 use Rattle.macros.specs.Macro.Mark.{stack, counter}
@@ -19,24 +19,30 @@ use Rattle.macros.specs.ReadFile.Pending.{clear, atMark}
 use Rattle.macros.specs.ReadFile.Reader.{between}
 use Rattle.macros.specs.ReadFile.Read.{refusedAt, table}
 use Rattle.macros.specs.Accepted.{Accepted}
-use Rattle.form_table.specs.Form.{slotBytes, bodyBytes, two, symbolCode, replacementItems, callsItems, header, body, slots, form}
-use Rattle.read_scan.specs.Scan.{MacroRead, faultOf, after, run, Reached}
+use Rattle.form_table.specs.Form.{slotBytes, bodyBytes, two, symbolCode, replacementItems, callsItems, header, body, slot, slots, form}
+use Rattle.read_scan.specs.Scan.{MacroRead, faultOf, run, Reached}
 use Rattle.read_scan.specs.Scan.MacroRead.{refusedAt as noneAt, patternTo, macroTo}
 use Rattle.form_items.specs.Items.{Wrote}
 use Rattle.read_call.specs.Call.{markOf}
 use Rattle.read_action.specs.Action.{symbolOf}
-use Rattle.read_scan.specs.declared.FileFault.the-variants.{Incomplete}
+use Rattle.read_scan.specs.declared.FileFault.the-variants.{FileTooLong, ZeroByte, Incomplete}
 use Rattle.read_scan.specs.declared.Next.{Next}
 use Rattle.read_scan.specs.declared.Next.the-variants.{Byte, Refused as NoByte}
 use Rattle.read_pattern.specs.declared.Whole.{Whole}
 use Rattle.read_pattern.specs.declared.Whole.the-variants.{Pattern, Refused as NoWhole}
 use Rattle.read_call.specs.declared.Ended.{Ended}
 use Rattle.read_call.specs.declared.Ended.the-variants.{Upto, Refused as NoEnd}
+use Rattle.read_file.specs.Next.{Coming, nextFrom}
+use Rattle.read_file.specs.Next.Coming.{macroTo as nextTo, refusedAt as nextRefusedAt, noMore}
 use Rattle.read_file.specs.declared.Head.{Head}
 use Rattle.read_file.specs.declared.Built.{Built}
 use Rattle.read_file.specs.declared.Built.the-variants.{Made, Refused as NoMacro}
 use Rattle.read_file.specs.declared.Seek.{Seek}
 use Rattle.read_file.specs.declared.Seek.the-variants.{Start, Done, Skipping}
+use Rattle.read_file.specs.declared.Found.{Found}
+use Rattle.read_file.specs.declared.Found.the-variants.{Macro as MacroUpTo, End, Refused as NotFound}
+use Rattle.read_file.specs.declared.FileTest.{FileTest}
+use Rattle.read_file.specs.declared.FileTest.the-variants.{Plain, Refused as NotPlain}
 use Rattle.read_file.specs.declared.Added.{Added}
 use Rattle.read_file.specs.declared.Added.the-variants.{All, Refused as NotAll}
 use Rattle.read_file.specs.declared.Reading.{Reading}
@@ -176,17 +182,42 @@ turned b k = pick (eqb b 47) (not k) k
 unfoldable pub pendingOf : ℕ → (n : ℕ) → Pending
 pendingOf l n = pick (eqb l 38) (atMark stack n) (pick (eqb l 35) (atMark counter n) clear)
 
--- the file from the beginning of a macro on, behind the macros ms
-unfoldable pub startedBehind : List ℕ → (a p : ℕ) → List Macro → Read
-startedBehind s a p ms = pick (ltb (length ms) mostMacros) (after s ms (started s a p (noCalls ms))) (refusedAt tooManyMacros a)
+-- reading one macro, as what comes next
+unfoldable pub comes : MacroRead → Coming
+comes (noneAt c q) = nextRefusedAt c q
+comes (patternTo q ps o) = comes o
+comes (macroTo q m) = nextTo q m
+
+-- the macro that begins at a, behind the macros ms: 19 behind 96
+unfoldable pub startedBehind : List ℕ → (a p : ℕ) → List Macro → Coming
+startedBehind s a p ms = pick (ltb (length ms) mostMacros) (comes (started s a p (noCalls ms))) (nextRefusedAt tooManyMacros a)
 
 -- what looking for the next macro from p on says: it begins at a, and reading it goes on at v
 abbrev pub Seeks : List ℕ → ℕ → Seek → Type 0
-Seeks s p (Start a v) =
-    (p ≤ a) × (a < v) × (v ≤ length s)
-    × ((ms : List Macro) → readFrom p (between false clear ms) (drop p s) ≡ startedBehind s a v ms)
-Seeks s p Done = (ms : List Macro) → readFrom p (between false clear ms) (drop p s) ≡ table (reverse ms)
-Seeks s p Skipping = (ms : List Macro) → readFrom p (between false clear ms) (drop p s) ≡ refusedAt incomplete (length s)
+Seeks s p (Start a v) = (p ≤ a) × (a < v) × (v ≤ length s) × ((ms : List Macro) → nextFrom s p ms ≡ startedBehind s a v ms)
+Seeks s p Done = (ms : List Macro) → nextFrom s p ms ≡ noMore
+Seeks s p Skipping = (ms : List Macro) → nextFrom s p ms ≡ nextRefusedAt incomplete (length s)
+
+-- where the next macro may be stored, behind n others: a 97th is not
+abbrev pub Room : (n base : ℕ) → List ℕ → Type 0
+Room n base out = n < mostMacros → base + slotBytes ≤ length out
+
+-- the next macro from p on, up to q, behind n others: it stands in the slot at base
+pub record InSlot (s : List ℕ) (p n base : ℕ) (old out : List ℕ) (q : ℕ) : Type 0 where
+  pub itself : Macro
+  pub exact : (ms : List Macro) → length ms ≡ n → nextFrom s p ms ≡ nextTo q itself
+  pub wrote : Wrote old out base (slot itself)
+  pub size : length (slot itself) ≡ slotBytes
+  pub few : n < mostMacros
+  pub further : p < q
+  pub reached : q ≤ length s
+
+-- what storing it says of the answer and of all lent bytes: a refusal and the file's end leave them as they were
+abbrev pub NextSlot : List ℕ → (p n base : ℕ) → List ℕ → List ℕ → Found → Type 0
+NextSlot s p n base old out (MacroUpTo q) = InSlot s p n base old out q
+NextSlot s p n base old out End = (out ≡ old) × ((ms : List Macro) → length ms ≡ n → nextFrom s p ms ≡ noMore)
+NextSlot s p n base old out (NotFound f q) =
+    (out ≡ old) × ((ms : List Macro) → length ms ≡ n → nextFrom s p ms ≡ nextRefusedAt (faultOf f) q)
 
 -- A FILE
 
@@ -195,6 +226,12 @@ pub record ZeroAt (s : List ℕ) (z : ℕ) : Type 0 where
   pub within : z ≤ length s
   pub found : z < length s → firstZero 0 s ≡ some z
   pub missing : length s ≤ z → firstZero 0 s ≡ none
+
+-- what refuses a file before its macros are read: "10 .., then 11 .., over the whole file first"
+pub data WholeFile (s : List ℕ) : FileTest → Type 0 where
+  plain : length s ≤ mostFileBytes → firstZero 0 s ≡ none → WholeFile s Plain
+  long : mostFileBytes < length s → WholeFile s (NotPlain FileTooLong mostFileBytes)
+  zeroed : (q : ℕ) → length s ≤ mostFileBytes → firstZero 0 s ≡ some q → WholeFile s (NotPlain ZeroByte q)
 
 -- macros read behind any count, these newest first, and stored behind the slots of a table, so that it has n; what the machine then does
 pub record Adds (s : List ℕ) (count : ℕ) (old out : List ℕ) (n : ℕ) (then : List Macro → Read) : Type 0 where
@@ -239,14 +276,23 @@ abbrev pub noEnd : Ended → Built
 noEnd (Upto q e) = NoMacro Incomplete q
 noEnd (NoEnd f q) = NoMacro f q
 
-abbrev pub noStart : Seek → ℕ → ℕ → Added
-noStart (Start a q) n k = NotAll Incomplete q n
-noStart Done n k = All n
-noStart Skipping n k = NotAll Incomplete k n
+abbrev pub noStart : Seek → ℕ → Found
+noStart (Start a q) k = NotFound Incomplete q
+noStart Done k = End
+noStart Skipping k = NotFound Incomplete k
 
-abbrev pub noMacro : Built → ℕ → Added
-noMacro (Made q h) n = NotAll Incomplete q n
-noMacro (NoMacro f q) n = NotAll f q n
+abbrev pub noMacro : Built → Found
+noMacro (Made q h) = NotFound Incomplete q
+noMacro (NoMacro f q) = NotFound f q
+
+abbrev pub noneFound : Found → ℕ → Added
+noneFound (MacroUpTo q) n = NotAll Incomplete q n
+noneFound End n = All n
+noneFound (NotFound f q) n = NotAll f q n
+
+abbrev pub notPlain : FileTest → Reading
+notPlain Plain = NoTable Incomplete 0
+notPlain (NotPlain f q) = NoTable f q
 
 -- the macros that the table has by then
 abbrev pub macrosBy : Added → ℕ

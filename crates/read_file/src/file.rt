@@ -1,6 +1,8 @@
 // One macro from where it begins to its `;`, and a file of them.
 use crate::Added;
 use crate::Built;
+use crate::FileTest;
+use crate::Found;
 use crate::Head;
 use crate::MOST_FILE_BYTES;
 use crate::MOST_MACROS;
@@ -27,7 +29,7 @@ ghost use Rattle.macros.specs.Macro.{pick};
 ghost use Rattle.form_table.specs.Form.{slotBytes, tableBytes, symbolCode};
 ghost use Rattle.read_scan.specs.Scan.{Reached};
 ghost use Rattle.read_action.specs.Action.{symbolOf};
-ghost use Rattle.read_file.specs.File.{PrecededBy, MacroFrom, ReadsMacro, PartsFrom, noPattern, noNext, noEnd, over, opens, opensCall, turned, Seeks, ZeroAt, AddsFrom, noStart, noMacro, macrosBy, tableOf, Lent, Onto};
+ghost use Rattle.read_file.specs.File.{PrecededBy, MacroFrom, ReadsMacro, PartsFrom, noPattern, noNext, noEnd, over, opens, opensCall, turned, Seeks, Room, NextSlot, WholeFile, ZeroAt, AddsFrom, noStart, noMacro, noneFound, notPlain, macrosBy, tableOf, Lent, Onto};
 
 // The code of the symbol `=` or `<` in a slot.
 fn symbol_code(b: u8) -> u8
@@ -219,6 +221,27 @@ fn next_start(s: &[u8], first: usize) -> Seek
     Seek::Done
 }
 
+// Stores the next macro from `at` on in the slot at `base`, behind n others. A refusal and the file's end leave the lent bytes as they were.
+pub fn next_slot(file: &[u8], table: &mut [u8], base: usize, at: usize, n: usize) -> Found
+    requires { ⌜ (at ≤ length (now file)) × Room n base (now table) ⌝ }
+    ensures { λ r. ⌜ NextSlot (now (file .entry)) at n base (now (table .entry)) (now (table .exit)) r ⌝ }
+{
+    let seek = next_start(file, at);
+    let Seek::Start(a, p) = seek else {
+        return no_start(seek, file.len());
+    };
+    if MOST_MACROS <= n {
+        return Found::Refused(FileFault::TooManyMacros, a);
+    }
+    let mut scratch: [u8; 1024] = [0; 1024];
+    let built = read_macro(file, &mut scratch, a, p);
+    let Built::Made(z, head) = built else {
+        return no_macro(built);
+    };
+    store(table, base, &scratch, head);
+    Found::Macro(z)
+}
+
 // A FILE
 
 // The place of the first byte 0, or the file's size.
@@ -235,28 +258,34 @@ fn first_zero(s: &[u8]) -> usize
     i
 }
 
-// Stores each macro of a file behind the table's; the items of each are written into the scratch first.
-fn add_macros(file: &[u8], table: &mut [u8], scratch: &mut [u8], count: usize) -> Added
-    requires { ⌜ (length (now table) ≡ tableBytes) × (slotBytes ≤ length (now scratch)) × (count ≤ mostMacros) ⌝ }
+// What refuses a file before its macros are read: its size, then a byte 0.
+pub fn whole_file(file: &[u8]) -> FileTest
+    ensures { λ r. ⌜ WholeFile (now (file .entry)) r ⌝ }
+{
+    if MOST_FILE_BYTES < file.len() {
+        return FileTest::Refused(FileFault::FileTooLong, MOST_FILE_BYTES);
+    }
+    let zero = first_zero(file);
+    if zero < file.len() {
+        return FileTest::Refused(FileFault::ZeroByte, zero);
+    }
+    FileTest::Plain
+}
+
+// Stores each macro of a file behind the table's.
+fn add_macros(file: &[u8], table: &mut [u8], count: usize) -> Added
+    requires { ⌜ (length (now table) ≡ tableBytes) × (count ≤ mostMacros) ⌝ }
     ensures { λ r. ⌜ AddsFrom (now (file .entry)) count (now (table .entry)) (now (table .exit)) r ⌝ }
 {
     let mut at = 0;
     let mut n = count;
     loop {
-        let seek = next_start(file, at);
-        let Seek::Start(a, p) = seek else {
-            return no_start(seek, n, file.len());
+        let found = next_slot(file, table, n * SLOT_BYTES, at, n);
+        let Found::Macro(next) = found else {
+            return none_found(found, n);
         };
-        if MOST_MACROS <= n {
-            return Added::Refused(FileFault::TooManyMacros, a, n);
-        }
-        let built = read_macro(file, scratch, a, p);
-        let Built::Made(z, head) = built else {
-            return no_macro(built, n);
-        };
-        store(table, n * SLOT_BYTES, scratch, head);
         n = n + 1;
-        at = z;
+        at = next;
     }
 }
 
@@ -265,15 +294,11 @@ pub fn read_onto(file: &[u8], table: &mut [u8], count: usize) -> Reading
     requires { ⌜ Lent (now table) count ⌝ }
     ensures { λ r. ⌜ Onto (now (file .entry)) count (now (table .entry)) (now (table .exit)) r ⌝ }
 {
-    if MOST_FILE_BYTES < file.len() {
-        return Reading::Refused(FileFault::FileTooLong, MOST_FILE_BYTES);
-    }
-    let zero = first_zero(file);
-    if zero < file.len() {
-        return Reading::Refused(FileFault::ZeroByte, zero);
-    }
-    let mut scratch: [u8; 1024] = [0; 1024];
-    let added = add_macros(file, table, &mut scratch, count);
+    let test = whole_file(file);
+    let FileTest::Plain = test else {
+        return not_plain(test);
+    };
+    let added = add_macros(file, table, count);
     let Added::All(n) = added else {
         let by = macros_by(added);
         clear(table, count * SLOT_BYTES, (by - count) * SLOT_BYTES);
@@ -315,23 +340,44 @@ fn no_end(e: Ended) -> Built
 }
 
 // Where no macro begins: the file's end.
-fn no_start(seek: Seek, n: usize, size: usize) -> Added
-    ensures { λ r. ⌜ r ≡ noStart seek n size ⌝ }
+fn no_start(seek: Seek, size: usize) -> Found
+    ensures { λ r. ⌜ r ≡ noStart seek size ⌝ }
 {
     match seek {
-        Seek::Start(_, q) => Added::Refused(FileFault::Incomplete, q, n),
-        Seek::Done => Added::All(n),
-        Seek::Skipping => Added::Refused(FileFault::Incomplete, size, n),
+        Seek::Start(_, q) => Found::Refused(FileFault::Incomplete, q),
+        Seek::Done => Found::End,
+        Seek::Skipping => Found::Refused(FileFault::Incomplete, size),
     }
 }
 
-// A macro's refusal, as the file's, with the macros stored by then.
-fn no_macro(b: Built, n: usize) -> Added
-    ensures { λ r. ⌜ r ≡ noMacro b n ⌝ }
+// A macro's refusal, as what comes next.
+fn no_macro(b: Built) -> Found
+    ensures { λ r. ⌜ r ≡ noMacro b ⌝ }
 {
     match b {
-        Built::Made(q, _) => Added::Refused(FileFault::Incomplete, q, n),
-        Built::Refused(f, q) => Added::Refused(f, q, n),
+        Built::Made(q, _) => Found::Refused(FileFault::Incomplete, q),
+        Built::Refused(f, q) => Found::Refused(f, q),
+    }
+}
+
+// The file's end, or a refusal, with the macros stored by then.
+fn none_found(found: Found, n: usize) -> Added
+    ensures { λ r. ⌜ r ≡ noneFound found n ⌝ }
+{
+    match found {
+        Found::Macro(q) => Added::Refused(FileFault::Incomplete, q, n),
+        Found::End => Added::All(n),
+        Found::Refused(f, q) => Added::Refused(f, q, n),
+    }
+}
+
+// The refusal of a whole file, as reading's.
+fn not_plain(test: FileTest) -> Reading
+    ensures { λ r. ⌜ r ≡ notPlain test ⌝ }
+{
+    match test {
+        FileTest::Plain => Reading::Refused(FileFault::Incomplete, 0),
+        FileTest::Refused(f, q) => Reading::Refused(f, q),
     }
 }
 

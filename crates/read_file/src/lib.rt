@@ -35,6 +35,19 @@ pub(crate) enum Seek {
     Skipping,
 }
 
+// What comes next in a file: a macro, with the place behind its `;`; the file's end; or a refusal with its place.
+pub enum Found {
+    Macro(usize),
+    End,
+    Refused(FileFault, usize),
+}
+
+// Whether a file as a whole is refused, with the place.
+pub enum FileTest {
+    Plain,
+    Refused(FileFault, usize),
+}
+
 // The macros that the table has with all of a file's; or a refusal with its place, and the macros by then.
 pub(crate) enum Added {
     All(usize),

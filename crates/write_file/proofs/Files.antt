@@ -30,39 +30,39 @@ and-false false = refl
 
 module _ (s : List ℕ) (m : Macro) (ms : Table) where
   -- 18
-  long-macro : mostMacroBytes < length (written m) → length s + mostMacroBytes ≤ mostFileBytes → writeFrom s (m ∷ ms) ≡ refused macroTooLong (length s + mostMacroBytes)
+  pub long-macro : mostMacroBytes < length (written m) → length s + mostMacroBytes ≤ mostFileBytes → writeFrom s (m ∷ ms) ≡ refused macroTooLong (length s + mostMacroBytes)
   unfolding writeFrom pick
   long-macro h l = rw (lt-ltb mostMacroBytes (length (written m)) h, le-leb (length s + mostMacroBytes) mostFileBytes l)
 
   -- 10 in a macro
-  long-file : mostFileBytes < length s + mostMacroBytes → mostFileBytes < length s + suc (length (written m)) → writeFrom s (m ∷ ms) ≡ refused fileTooLong mostFileBytes
+  pub long-file : mostFileBytes < length s + mostMacroBytes → mostFileBytes < length s + suc (length (written m)) → writeFrom s (m ∷ ms) ≡ refused fileTooLong mostFileBytes
   unfolding writeFrom pick
   long-file h l = rw (lt-leb (length s + mostMacroBytes) mostFileBytes h, and-false, lt-ltb mostFileBytes (length s + suc (length (written m))) l)
 
   -- 10 at a line feed
-  no-feed : length (written m) ≤ mostMacroBytes → mostFileBytes < length s + suc (length (written m)) → writeFrom s (m ∷ ms) ≡ refused fileTooLong mostFileBytes
+  pub no-feed : length (written m) ≤ mostMacroBytes → mostFileBytes < length s + suc (length (written m)) → writeFrom s (m ∷ ms) ≡ refused fileTooLong mostFileBytes
   unfolding writeFrom pick
   no-feed h l = rw (le-ltb mostMacroBytes (length (written m)) h, lt-ltb mostFileBytes (length s + suc (length (written m))) l)
 
-  fitting : length (written m) ≤ mostMacroBytes → length s + suc (length (written m)) ≤ mostFileBytes → writeFrom s (m ∷ ms) ≡ writeFrom (s ++ (written m ++ (10 ∷ []))) ms
+  pub fitting : length (written m) ≤ mostMacroBytes → length s + suc (length (written m)) ≤ mostFileBytes → writeFrom s (m ∷ ms) ≡ writeFrom (s ++ (written m ++ (10 ∷ []))) ms
   unfolding writeFrom pick
   fitting h l = rw (le-ltb mostMacroBytes (length (written m)) h, le-ltb mostFileBytes (length s + suc (length (written m))) l)
 
 -- THE LIMIT
 
-limit-low : (n : ℕ) → n ≤ 32256 → limitOf n ≡ n + mostMacroBytes
+pub limit-low : (n : ℕ) → n ≤ 32256 → limitOf n ≡ n + mostMacroBytes
 unfolding limitOf pick
 limit-low n h = rw (le-leb n 32256 h)
 
-limit-high : (n : ℕ) → 32256 < n → limitOf n ≡ mostFileBytes
+pub limit-high : (n : ℕ) → 32256 < n → limitOf n ≡ mostFileBytes
 unfolding limitOf pick
 limit-high n h = rw (lt-leb n 32256 h)
 
-fault-low : (n : ℕ) → n ≤ 32256 → faultOf n ≡ MacroTooLong
+pub fault-low : (n : ℕ) → n ≤ 32256 → faultOf n ≡ MacroTooLong
 unfolding faultOf pick
 fault-low n h = rw (le-leb n 32256 h)
 
-fault-high : (n : ℕ) → 32256 < n → faultOf n ≡ FileTooLong
+pub fault-high : (n : ℕ) → 32256 < n → faultOf n ≡ FileTooLong
 unfolding faultOf pick
 fault-high n h = rw (lt-leb n 32256 h)
 
@@ -80,16 +80,16 @@ before old n w size = length-take-le n old (omega arith)
 -- THE ANSWER
 
 module _ (start limit n end : ℕ) where
-  answer-over : limit < n → answerOf start limit n end ≡ Refused (faultOf start) limit
+  pub answer-over : limit < n → answerOf start limit n end ≡ Refused (faultOf start) limit
   unfolding answerOf pick
   answer-over h = rw (lt-ltb limit n h)
 
   module _ (h : n ≤ limit) where
-    answer-no-feed : mostFileBytes < end → answerOf start limit n end ≡ Refused FileTooLong mostFileBytes
+    pub answer-no-feed : mostFileBytes < end → answerOf start limit n end ≡ Refused FileTooLong mostFileBytes
     unfolding answerOf pick
     answer-no-feed l = rw (le-ltb limit n h, lt-ltb mostFileBytes end l)
 
-    answer-fits : end ≤ mostFileBytes → answerOf start limit n end ≡ WrittenOut end
+    pub answer-fits : end ≤ mostFileBytes → answerOf start limit n end ≡ WrittenOut end
     unfolding answerOf pick
     answer-fits l = rw (le-ltb limit n h, le-ltb mostFileBytes end l)
 

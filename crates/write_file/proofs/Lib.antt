@@ -5,3 +5,4 @@ pub mod Slotted
 pub mod Tabled
 pub mod Files
 pub mod Listed
+pub mod Onward

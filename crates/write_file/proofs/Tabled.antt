@@ -19,7 +19,7 @@ use Rattle.form_table.proofs.Sizes.{bodySize}
 use Rattle.form_table.proofs.Actions.{slot-length}
 use Rattle.write_file.proofs.Slotted.{slot-text, slot-parts}
 
-body-room : (m : Macro) → Spellable m → length (body m) ≤ bodyBytes
+pub body-room : (m : Macro) → Spellable m → length (body m) ≤ bodyBytes
 body-room m s = omega (arith, bodySize m, s .1)
 
 spelled-length : (m : Macro) → Spellable m → length (slot m) ≡ slotBytes

@@ -83,6 +83,10 @@ unfoldable pub answerOf : ℕ → ℕ → ℕ → ℕ → Answer
 answerOf start limit n end =
     pick (ltb limit n) (Refused (faultOf start) limit) (pick (ltb mostFileBytes end) (Refused FileTooLong mostFileBytes) (WrittenOut end))
 
+-- a macro's bytes; 513 stand for any more than 512
+unfoldable pub capped : ℕ → ℕ
+capped n = pick (ltb mostMacroBytes n) (suc mostMacroBytes) n
+
 -- what comes of the macros behind a macro with this answer
 abbrev pub onward : List ℕ → Table → Answer → Written
 onward new ms (WrittenOut k) = writeFrom (take k new) ms

@@ -2,7 +2,7 @@
 mod actions;
 mod pattern;
 mod put;
-mod slots;
+pub mod slots;
 
 use slots::write_slots;
 ghost use mathlib.Core.Path.{_≡_};

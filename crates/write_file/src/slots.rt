@@ -17,8 +17,8 @@ ghost use Prim.Native.Nat.{_≤_};
 ghost use lib.ListN.{length};
 ghost use Rattle.write_file.specs.Puts.{Puts};
 ghost use Rattle.write_file.specs.Slots.{beforeEnd, patternEnd, symbolByte, beforeText, leftText, rightText, slotText};
-ghost use Rattle.write_file.specs.Slots.{limitOf, faultOf, answerOf, Parts, Adds, Lists};
-ghost use Rattle.write_file.specs.Contract.{SomeTable};
+ghost use Rattle.write_file.specs.Slots.{limitOf, faultOf, answerOf, capped, Parts, Adds, Lists};
+ghost use Rattle.write_file.specs.Contract.{SomeTable, SomeMacro, SoFar, WritesOn};
 
 fn symbol(code: u8) -> u8
     ensures { λ r. ⌜ r ≡ symbolByte code ⌝ }
@@ -155,4 +155,31 @@ pub(crate) fn write_slots(file: &mut [u8], table: &[u8]) -> Answer
         k += 1;
     }
     Answer::Written(n)
+}
+
+// ONE MACRO MORE, without its bytes
+
+// The bytes of a slot's macro; 513 stand for any more than 512.
+fn written_size(slot: &[u8]) -> usize
+    requires { ⌜ Parts (now slot) ⌝ }
+    ensures { λ r. ⌜ r ≡ capped (length (slotText (now (slot .entry)))) ⌝ }
+{
+    let mut line = [0u8; 512];
+    let n = put_macro(&mut line, 0, slot);
+    if 512 < n {
+        return 513;
+    }
+    n
+}
+
+// What writing out comes to with a slot's macro behind those that came to `so`.
+pub fn write_on(so: Answer, slot: &[u8]) -> Answer
+    requires { ⌜ SoFar so × SomeMacro (now slot) ⌝ }
+    ensures { λ r. ⌜ WritesOn so (now (slot .entry)) r ⌝ }
+{
+    let Answer::Written(start) = so else {
+        return so;
+    };
+    let size = written_size(slot);
+    answer_of(start, limit_of(start), start + size, start + size + 1)
 }

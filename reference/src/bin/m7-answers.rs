@@ -14,6 +14,7 @@ fn print(case: &Case, output: &mut impl Write) -> io::Result<()> {
             Check::Written(_) | Check::WrittenBytes(_) | Check::WritingRefused(_) => {
                 writeln!(output, "write")?
             }
+            Check::Takes(_) => writeln!(output, "measure {}", hex(&case.file))?,
             Check::Traced(_) => writeln!(output, "trace")?,
             Check::Shortest(..) => writeln!(output, "spell")?,
             Check::SameAs(file) | Check::DiffersFrom(file) => {

@@ -2,9 +2,9 @@
 
 use super::{Case, Random};
 
-/// A number from `middle` - 3 to `middle` + 3.
+/// A number from `middle` - 3 to `middle` + 3; 0 for those below it.
 fn near(random: &mut Random, middle: usize) -> usize {
-    middle - 3 + random.below(7)
+    (middle + random.below(7)).saturating_sub(3)
 }
 
 fn case(file: String, lines: Vec<(u64, String)>) -> Case {
@@ -125,6 +125,23 @@ fn file_bytes(random: &mut Random) -> Case {
         }
     };
     case(file, vec![(99, "a".to_string())])
+}
+
+/// Macros that are longer when written: one of them or the file is then near its
+/// bound, or past it. One file in eight has a fault behind them.
+pub fn bound_written(random: &mut Random) -> Vec<u8> {
+    let colons = |n: usize| format!("'{{a}}'='{}';", ":".repeat(n));
+    let few = near(random, 247);
+    let line = 2 * few + "'{a}'='';\n".len();
+    let short = colons(few);
+    let full = short.repeat(32_768 / line);
+    let file = match random.below(3) {
+        0 => format!("{}{}", short.repeat(random.below(66)), colons(near(random, 252))),
+        1 => format!("{full}{}", colons(near(random, 32_768 % line / 2))),
+        _ => format!("{}{}", short.repeat(3), colons(near(random, 252)).repeat(2)),
+    };
+    let end = if random.one_in(8) { "'{b" } else { *random.pick(&["", "'^{{b}}$'='';"]) };
+    format!("{file}{end}").into_bytes()
 }
 
 /// As many closures as a macro can have, over a long line.

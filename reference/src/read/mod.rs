@@ -21,16 +21,42 @@ pub fn read_file(file: &[u8]) -> Read<Table> {
 
 /// The macros that `file` spells, where a table already has `before` macros.
 pub fn read_after(file: &[u8], before: usize) -> Read<Table> {
-    whole_file(file)?;
-    let mut cursor = Cursor::new(file);
-    let mut macros = Vec::new();
-    while let Some(start) = next_macro(&mut cursor)? {
-        if before + macros.len() == MACROS {
+    Reader::new(file, before)?.collect()
+}
+
+/// The macros of a file, one after the other, or the fault that ends them.
+pub struct Reader<'a> {
+    file: &'a [u8],
+    cursor: Cursor<'a>,
+    /// The macros before the next one.
+    before: usize,
+}
+
+impl<'a> Reader<'a> {
+    pub fn new(file: &'a [u8], before: usize) -> Read<Reader<'a>> {
+        whole_file(file)?;
+        Ok(Reader { file, cursor: Cursor::new(file), before })
+    }
+
+    fn next_macro(&mut self) -> Read<Option<Macro>> {
+        let Some(start) = next_start(&mut self.cursor)? else {
+            return Ok(None);
+        };
+        if self.before == MACROS {
             return Err(Refusal::at(TOO_MANY_MACROS, start.place));
         }
-        macros.push(bounded_macro(file, &mut cursor, start)?);
+        self.before += 1;
+        bounded_macro(self.file, &mut self.cursor, start).map(Some)
     }
-    Ok(macros)
+}
+
+/// To be asked no more after a fault.
+impl Iterator for Reader<'_> {
+    type Item = Read<Macro>;
+
+    fn next(&mut self) -> Option<Read<Macro>> {
+        self.next_macro().transpose()
+    }
 }
 
 /// 10, then 11, before anything else is looked at.
@@ -53,7 +79,7 @@ struct Start {
 
 /// Takes the start of the next macro. Before it only `'`, `/`, `&(` and `#(`
 /// count.
-fn next_macro(cursor: &mut Cursor) -> Read<Option<Start>> {
+fn next_start(cursor: &mut Cursor) -> Read<Option<Start>> {
     while cursor.peek()?.is_some() {
         let (place, byte) = cursor.take_raw()?;
         let begins = match byte {

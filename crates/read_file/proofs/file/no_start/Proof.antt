@@ -16,15 +16,15 @@ enum-told-2 c = c .match .keys3
 returns : tie.Need-returns
 returns c =
     let args = c .before .before .before .args in
-    ap (λ (x : Seek). noStart x (args .n) (args .size)) (sym (c .before .seek .given .1))
+    ap (λ (x : Seek). noStart x (args .size)) (sym (c .before .seek .given .1))
 
 returns-2 : tie.Need-returns-2
-returns-2 c = let args = c .before .before .args in ap (λ (x : Seek). noStart x (args .n) (args .size)) (sym (c .enum-told .given .1))
+returns-2 c = let args = c .before .before .args in ap (λ (x : Seek). noStart x (args .size)) (sym (c .enum-told .given .1))
 
 returns-3 : tie.Need-returns-3
 returns-3 c =
     let args = c .before .before .args in
-    ap (λ (x : Seek). noStart x (args .n) (args .size)) (sym (c .enum-told2 .given .1))
+    ap (λ (x : Seek). noStart x (args .size)) (sym (c .enum-told2 .given .1))
 
 pub no-start-spec : {M : Type 1} → statement M
 no-start-spec =

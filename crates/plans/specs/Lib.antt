@@ -1,0 +1,4 @@
+pub mod Measure
+pub mod Numbers
+pub mod MeasureLaw
+pub mod Cases
