@@ -18,6 +18,7 @@ static uint8_t file[M7_FILE_BYTES];
 static uint8_t state[M7_STATE_BYTES];
 static uint8_t output[M7_OUTPUT_BYTES];
 static uint8_t trace[M7_TRACE_BYTES];
+static uint8_t faults[M7_FAULTS_BYTES];
 static uint8_t line[M7_MOST_LINE_BYTES];
 static size_t line_size;
 static size_t file_size;
@@ -29,6 +30,12 @@ static void *nothing(void *unused) { return unused; }
 static void *reads(void *unused)
 {
     answer = m7_read(file, file_size, table, sizeof table);
+    return unused;
+}
+
+static void *recovers(void *unused)
+{
+    answer = m7_recover(file, file_size, table, sizeof table, faults, sizeof faults);
     return unused;
 }
 
@@ -275,12 +282,17 @@ int main(int count, char **words)
     show("m7_read, 97 macros", reads);
     show("m7_measure, 97 macros", measures);
     file_size = 0;
+    while (file_size + 7 <= 256 * 7)
+        add("'a**b';");
+    show("m7_recover, 256 faults", recovers);
+    file_size = 0;
     add("'");
     while (file_size < 500)
         add("[a-z]*");
     add("'='';");
     show("m7_read, classes", reads);
     show("m7_measure, classes", measures);
+    show("m7_recover, classes", recovers);
     show("m7_write, classes", writes);
     worst("a*-", 168, "b");
     worst("a*-", 168, "");

@@ -1,4 +1,4 @@
-/* m7 check: the fault of a macro file, or what it takes and what in it is seldom
+/* m7 check: the faults of a macro file, or what it takes and what in it is seldom
    meant. */
 #include "command.h"
 
@@ -38,7 +38,7 @@ static int check(const char *name, int strict)
     if (ended == WRONG)
         return WRONG;
     if (ended == REFUSED) {
-        show_fault(stdout, &table);
+        show_faults(stdout, &table);
         return REFUSED;
     }
     warnings = show_warnings(stdout, &table);
@@ -69,11 +69,14 @@ static int run(int count, char **words)
 
 const struct command check_command = {
     "check", "TABLE..", "says what is wrong with a macro file",
-    "Reads each macro file. The first fault is shown as FILE:LINE:COLUMN: NUMBER and\n"
-    "its meaning, with the line and a caret; columns count bytes from 1. Of a 12 it\n"
-    "also shows which part is not ended. Without a fault it gives the number of\n"
-    "macros, the most elements and the most tags that one has, and the bytes that the\n"
-    "file has when it is written out, of 32,768. It warns of what is seldom meant:\n"
+    "Reads each macro file. Each fault is shown as FILE:LINE:COLUMN: NUMBER and its\n"
+    "meaning, with the line and a caret; columns count bytes from 1. Of a 12 it also\n"
+    "shows which part is not ended. Behind a fault it goes on after the next ; of the\n"
+    "file, wherever that stands, so one lost quote can show as more than one fault:\n"
+    "mend the first one first. After 10, 11, 19 and a 257th fault it does not go on.\n\n"
+    "Without a fault it gives the number of macros, the most elements and the most\n"
+    "tags that one has, and the bytes that the file has when it is written out, of\n"
+    "32,768. It warns of what is seldom meant:\n"
     "  ignored text that holds &, #, a digit or a quote other than '\n"
     "  a call before a pattern with other text beside it\n"
     "  a skip that holds a quote or a line feed\n"

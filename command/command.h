@@ -134,9 +134,9 @@ struct scan {
     struct part parts[2 * (M7_FILE_BYTES + 2)];
 };
 
-/* Finds the parts in the first `size` bytes of a macro file, in which reading
-   found no fault. */
-void scan_file(struct scan *scan, const uint8_t *file, size_t size);
+/* Finds the parts of a macro file in the bytes `from` to `to`, in which reading that
+   began afresh at `from` found no fault. */
+void scan_file(struct scan *scan, const uint8_t *file, size_t from, size_t to);
 
 /* tables.c */
 
@@ -146,6 +146,7 @@ struct table {
     uint8_t file[M7_FILE_BYTES + 1];
     uint8_t macros[M7_TABLE_BYTES];
     m7_answer answer; /* of reading it */
+    size_t from;      /* where reading began, or went on, before that answer */
 };
 
 /* Loads and reads a macro file: FINE, REFUSED, or WRONG after a message. */
@@ -154,8 +155,16 @@ int load_table(const char *name, struct table *table);
 void show_place(FILE *out, const struct table *table, size_t at, const char *kind);
 /* Prints why a table was refused, where, and which part was open there. */
 void show_fault(FILE *out, const struct table *table);
+/* Prints so the first fault of a table that was refused, and names the help on it. */
+void show_first(FILE *out, const struct table *table);
 /* Where a macro of the file begins, the oldest is 0; the file's end if there is none. */
 size_t macro_start(const struct table *table, size_t number);
+
+/* faults.c */
+
+/* Prints all faults of a table that was refused, how many macros have none, and the
+   help on the faults' numbers; of more than 256 the first. */
+void show_faults(FILE *out, struct table *table);
 
 /* A pass in which a macro occurred: the macro's number, the oldest is 1, and the
    text before and after. */
@@ -220,8 +229,8 @@ enum replayed next_pass(struct replay *replay);
 
 /* warnings.c */
 
-/* Prints what reads without a fault but is seldom meant, up to the first fault;
-   the answer is how many. */
+/* Prints what reads without a fault but is seldom meant, up to the fault of the
+   table's answer; the answer here is how many. */
 size_t show_warnings(FILE *out, const struct table *table);
 
 #endif

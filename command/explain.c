@@ -14,6 +14,7 @@ struct number {
 static const char host[] = "the host, that is the program that calls the library";
 static const char sender[] = "whoever sends the line";
 static const char writer[] = "the table writer, in a macro file or after $MACRO";
+static const char mended[] = "the table writer, in a macro file that is read past its faults";
 static const char work[] = "the table at work on a line";
 static const char reader[] = "whoever looks words up";
 
@@ -139,6 +140,12 @@ static const struct number numbers[] = {
      "digits, also none: CA-T covers CAT, CART and CATARACT. A letter is one byte, as\n"
      "in ISO 8859-1: in UTF-8 those beyond ASCII are more, so convert them by iconv.\n",
      NULL, NULL, NULL, "m7 words 'CA--T'"},
+    {M7_TOO_MANY_FAULTS, mended,
+     "m7 check shows all faults of a macro file: it leaves a macro with a fault out\n"
+     "and goes on behind the next ; of the file, for 256 faults at most. Mend the\n"
+     "first ones and check again: one lost quote can show as many faults. Or the file\n"
+     "is no macro file at all.\n",
+     NULL, NULL, NULL, "a file of 257 lines 'a;"},
 };
 
 enum { NUMBERS = sizeof numbers / sizeof numbers[0] };

@@ -80,7 +80,7 @@ static int run(int count, char **words)
     job.strict = options[2].given != NULL;
     ended = load_table(words[0], &table);
     if (ended == REFUSED)
-        show_fault(stderr, &table);
+        show_first(stderr, &table);
     if (ended == FINE && options[0].given != NULL && !can_save(options[0].given))
         ended = WRONG;
     if (ended == FINE)

@@ -223,11 +223,11 @@ static void macro(struct scan *s)
     ended(s, part);
 }
 
-void scan_file(struct scan *s, const uint8_t *file, size_t size)
+void scan_file(struct scan *s, const uint8_t *file, size_t from, size_t to)
 {
     s->file = file;
-    s->size = size;
-    s->at = 0;
+    s->size = to;
+    s->at = from;
     s->count = 0;
     while (find(s, "'", 1))
         macro(s);

@@ -11,12 +11,13 @@ int load_table(const char *name, struct table *table)
               &table->size))
         return WRONG;
     table->answer = m7_read(table->file, table->size, table->macros, sizeof table->macros);
+    table->from = 0;
     return table->answer.number == 0 ? FINE : REFUSED;
 }
 
 size_t macro_start(const struct table *table, size_t number)
 {
-    scan_file(&scan, table->file, table->size);
+    scan_file(&scan, table->file, 0, table->size);
     for (size_t i = 0; i < scan.count; i++)
         if (scan.parts[i].kind == MACRO && number-- == 0)
             return scan.parts[i].from;
@@ -180,7 +181,7 @@ static void show_class(FILE *out, const struct table *table)
                        : "note: a range in a class goes up within a-z, A-Z or 0-9");
 }
 
-/* What the first fault has to do with, by its number. */
+/* What a fault has to do with, by its number. */
 static void show_notes(FILE *out, const struct table *table)
 {
     const struct part *brace = last_open(1);
@@ -214,7 +215,12 @@ void show_fault(FILE *out, const struct table *table)
     show_head(out, table, table->answer.place);
     fprintf(out, "%u: %s\n", (unsigned)number, m7_meaning(number));
     show_line(out, table->file, table->size, table->answer.place);
-    scan_file(&scan, table->file, table->answer.place);
+    scan_file(&scan, table->file, table->from, table->answer.place);
     show_notes(out, table);
-    fprintf(out, "m7 explain %u says more\n", (unsigned)number);
+}
+
+void show_first(FILE *out, const struct table *table)
+{
+    show_fault(out, table);
+    fprintf(out, "m7 explain %u says more\n", (unsigned)table->answer.number);
 }

@@ -231,7 +231,7 @@ static int run(int count, char **words)
         return usage(&trace_command, "--line %s: a line's number, from 1", options[2].given);
     ended = load_table(words[0], &table);
     if (ended == REFUSED)
-        show_fault(stderr, &table);
+        show_first(stderr, &table);
     if (ended == FINE)
         ended = load_state(options[0].given, state);
     if (ended == FINE)

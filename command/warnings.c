@@ -1,5 +1,5 @@
 /* What reads without a fault but is seldom meant: in a file that is taken, or
-   before the macro with the first fault, which may come from there. */
+   before a macro with a fault, which may come from there. */
 #include "command.h"
 #include <string.h>
 
@@ -125,7 +125,8 @@ static size_t warn_macro(FILE *out, const struct table *table, size_t number, co
 size_t show_warnings(FILE *out, const struct table *table)
 {
     size_t starts[M7_MOST_MACROS], macros = 0, warnings = 0;
-    scan_file(&scan, table->file, table->answer.number == 0 ? table->size : table->answer.place);
+    scan_file(&scan, table->file, table->from,
+              table->answer.number == 0 ? table->size : table->answer.place);
     for (size_t i = 0; i < scan.count; i++) {
         const struct part *part = &scan.parts[i];
         if (part->kind == MACRO && part->open)

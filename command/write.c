@@ -40,7 +40,7 @@ static int run(int count, char **words)
         return usage(&write_command, "name one macro file to write out");
     ended = load_table(words[0], &table);
     if (ended == REFUSED)
-        show_fault(stderr, &table);
+        show_first(stderr, &table);
     if (ended != FINE)
         return ended;
     answer = m7_write(table.macros, sizeof table.macros, file, sizeof file);

@@ -37,10 +37,10 @@
    shared. m7_feed may write its table, state, output and trace: give each
    thread its own.
 
-   A table, a state, an output, a trace and a file to write to must have the
-   sizes M7_TABLE_BYTES, M7_STATE_BYTES, M7_OUTPUT_BYTES, M7_TRACE_BYTES and
-   M7_FILE_BYTES, or the call is refused with 3. A file to read, a line and a
-   word-pattern may have any size.
+   A table, a state, an output, a trace, a file to write to and a list of
+   faults must have the sizes M7_TABLE_BYTES, M7_STATE_BYTES, M7_OUTPUT_BYTES,
+   M7_TRACE_BYTES, M7_FILE_BYTES and M7_FAULTS_BYTES, or the call is refused
+   with 3. A file to read, a line and a word-pattern may have any size.
 
    STORING TABLES AND STATES
 
@@ -134,11 +134,17 @@ extern "C" {
    any size; one of more bytes than this is refused with 10. */
 #define M7_FILE_BYTES 32768
 
+/* The faults of a macro file: their count, then the number and the place of
+   each fault in file order, four bytes each, low byte first; zeros after the
+   last. */
+#define M7_FAULTS_BYTES 2052
+
 /* OTHER BOUNDS */
 
 #define M7_MOST_MACROS 96
 #define M7_MOST_MACRO_BYTES 512
 #define M7_MOST_TAGS 99
+#define M7_MOST_FAULTS 256
 #define M7_MOST_LINE_BYTES 1054
 #define M7_MOST_BUDGET 1000000
 
@@ -159,8 +165,9 @@ extern "C" {
    passes  m7_feed: the passes begun, also of a refused line; else 0
    kind    m7_feed: 1 the line goes out, 2 it is withheld, 3 it was a control
            line, 0 it is refused; else 0
-   length  m7_read: the macros read; m7_write: the bytes written; m7_feed: the
-           bytes of a line that goes out; m7_words: the words covered; else 0 */
+   length  m7_read: the macros read; m7_recover: those kept; m7_write: the bytes
+           written; m7_feed: the bytes of a line that goes out; m7_words: the
+           words covered; else 0 */
 typedef struct m7_answer {
     uint32_t number;
     uint32_t place;
@@ -219,7 +226,10 @@ typedef struct m7_answer {
 
    Of whoever looks words up, after 21 and 22:
    41  The word-pattern is empty, has a byte that is no letter, digit or dash,
-       or has two dashes in a row. */
+       or has two dashes in a row.
+
+   The table writer's, where a file is read past its faults (m7_recover):
+   61  There is a 257th fault. */
 #define M7_BAD_TABLE 1
 #define M7_BAD_STATE 2
 #define M7_BAD_MEMORY 3
@@ -244,6 +254,7 @@ typedef struct m7_answer {
 #define M7_COUNTER_TOO_HIGH 35
 #define M7_TRACE_TOO_LONG 36
 #define M7_BAD_WORD_PATTERN 41
+#define M7_TOO_MANY_FAULTS 61
 
 /* Kinds of an answer to m7_feed. */
 #define M7_OUT 1
@@ -259,6 +270,22 @@ typedef struct m7_answer {
    macros. */
 m7_answer m7_read(const uint8_t *file, size_t file_size,
                   uint8_t *table, size_t table_size);
+
+/* Reads a macro file past its faults. Where m7_read would answer 12 to 18 at a
+   byte, the macro begun there, if any, is left out, the fault is listed, and
+   reading goes on afresh behind the first semicolon at or after that byte,
+   whatever stands around it: it may be escaped or in a skip. If there is none,
+   reading ends.
+   Refusals: 3 (of either memory), 10, 11, then the first that comes up of 19,
+   where a macro begins after 96 kept ones, and 61 at a 257th fault.
+   Taken: the table's memory holds the table of the macros kept, which is one
+   that m7_read could make, and length is their number; the faults' memory
+   holds the list. What both held before has no influence. A file that m7_read
+   takes gives the same table, and a list without faults. To show a fault, take
+   its number and place as those that m7_read answers. */
+m7_answer m7_recover(const uint8_t *file, size_t file_size,
+                     uint8_t *table, size_t table_size,
+                     uint8_t *faults, size_t faults_size);
 
 /* What a macro file will take, before it is read:
 
@@ -387,7 +414,7 @@ m7_answer m7_words(const uint8_t *line, size_t line_size,
                    const uint8_t *pattern, size_t pattern_size);
 
 /* The version of this header, and that of the library that is linked. */
-#define M7_VERSION "2.1"
+#define M7_VERSION "2.2"
 const char *m7_version(void);
 
 /* What a number means, in a few words of English; of 0 it is "taken". A number
@@ -401,6 +428,7 @@ size_t m7_state_bytes(void);
 size_t m7_output_bytes(void);
 size_t m7_trace_bytes(void);
 size_t m7_file_bytes(void);
+size_t m7_faults_bytes(void);
 
 #ifdef __cplusplus
 }

@@ -64,6 +64,19 @@ def measured():
     assert m7.measure(m7.write(table)).bytes == len(m7.write(table)) and macros == 1
 
 
+def mended():
+    whole = m7.recover(b"'a'='b';'c'='d';")
+    assert whole == (m7.read(b"'a'='b';'c'='d';")[0], 2, [])
+    table, macros, faults = m7.recover(b"'a'='b';'c='d';'e**'='';'f'='g';")
+    assert macros == 2 and m7.write(table) == b"'a'='b';\n'f'='g';\n"
+    assert [(fault.number, fault.place) for fault in faults] == [(12, 13), (14, 18)]
+    assert str(faults[1]) == "14: a closure with nothing before it to repeat"
+    assert len(m7.recover(b"'a;" * 256).faults) == 256
+    assert refused(m7.recover, b"'a;" * 257) == (61, 0, 0)
+    assert refused(m7.recover, b"'a**';" + b"'a'='';" * 97) == (19, 678, 0)
+    assert refused(m7.recover, b"'a**';\0") == (11, 6, 0)
+
+
 def states():
     assert len(m7.fresh()) == m7.STATE_BYTES
     song = m7.Song(b"'^'<'#(n+) ';")
@@ -129,6 +142,6 @@ def threads():
     assert said == {key: [b"%d " % n + b"b" * key for n in range(1, 201)] for key in range(8)}
 
 
-for check in (answers, tables, measured, states, traces, looked_up, words, threads):
+for check in (answers, tables, measured, mended, states, traces, looked_up, words, threads):
     check()
 print("Python: the module's answers are those of 01")

@@ -22,6 +22,7 @@ run on different threads at once.
 import collections
 import ctypes
 import os
+import struct
 
 OUT, WITHHELD, CONTROL = 1, 2, 3
 BUDGET = 10000
@@ -46,12 +47,12 @@ def _declare(library):
     memory, size = [ctypes.c_char_p, ctypes.c_size_t], ctypes.c_size_t
     for name, lent in (("m7_read", 2 * memory), ("m7_write", 2 * memory), ("m7_fresh", memory),
                        ("m7_feed", 3 * memory + [ctypes.c_uint32] + 2 * memory),
-                       ("m7_words", 2 * memory)):
+                       ("m7_words", 2 * memory), ("m7_recover", 3 * memory)):
         function = getattr(library, name)
         function.restype, function.argtypes = _Answer, lent
     library.m7_measure.restype, library.m7_measure.argtypes = _Plan, memory
     for name in ("m7_table_bytes", "m7_state_bytes", "m7_output_bytes", "m7_trace_bytes",
-                 "m7_file_bytes"):
+                 "m7_file_bytes", "m7_faults_bytes"):
         getattr(library, name).restype = size
         getattr(library, name).argtypes = []
     library.m7_version.restype = library.m7_meaning.restype = ctypes.c_char_p
@@ -66,6 +67,7 @@ STATE_BYTES = _library.m7_state_bytes()
 OUTPUT_BYTES = _library.m7_output_bytes()
 TRACE_BYTES = _library.m7_trace_bytes()
 FILE_BYTES = _library.m7_file_bytes()
+FAULTS_BYTES = _library.m7_faults_bytes()
 __version__ = _library.m7_version().decode()
 
 
@@ -109,6 +111,22 @@ def read(file):
     file, table = _bytes(file, "a macro file"), _memory(TABLE_BYTES)
     answer = _checked(_library.m7_read(file, len(file), table, len(table)))
     return table.raw, answer.length
+
+
+Recovered = collections.namedtuple("Recovered", "table macros faults")
+
+
+def recover(file):
+    """A macro file read past its faults, as a Recovered: the table of the macros kept, as
+    bytes, their number, and the faults in file order, each a Refused with the number
+    and place that read would raise there. A macro with a fault is left out, and
+    reading goes on behind the next semicolon. Raises Refused with 10, 11, 19, or 61
+    at a 257th fault."""
+    file, table, faults = _bytes(file, "a macro file"), _memory(TABLE_BYTES), _memory(FAULTS_BYTES)
+    answer = _checked(_library.m7_recover(file, len(file), table, len(table), faults, len(faults)))
+    words = struct.unpack("<%dI" % (FAULTS_BYTES // 4), faults.raw)
+    listed = [Refused(words[2 * i + 1], words[2 * i + 2]) for i in range(words[0])]
+    return Recovered(table.raw, answer.length, listed)
 
 
 Plan = collections.namedtuple("Plan", "macros elements tags bytes unwritten")

@@ -33,6 +33,7 @@ const char *m7_meaning(uint32_t number)
     case M7_COUNTER_TOO_HIGH: return "a counter goes past 999,999,999";
     case M7_TRACE_TOO_LONG: return "the trace grows past 65,536 bytes";
     case M7_BAD_WORD_PATTERN: return "a word-pattern that is empty, or not letters, digits and single dashes";
+    case M7_TOO_MANY_FAULTS: return "more than 256 faults in the file";
     default: return "no number of this library";
     }
 }
@@ -42,3 +43,4 @@ size_t m7_state_bytes(void) { return M7_STATE_BYTES; }
 size_t m7_output_bytes(void) { return M7_OUTPUT_BYTES; }
 size_t m7_trace_bytes(void) { return M7_TRACE_BYTES; }
 size_t m7_file_bytes(void) { return M7_FILE_BYTES; }
+size_t m7_faults_bytes(void) { return M7_FAULTS_BYTES; }

@@ -16,7 +16,7 @@ typedef struct memory {
     uint8_t before[M7_TABLE_BYTES + 64];
 } memory;
 
-static memory table, state, output, trace, file, text;
+static memory table, state, output, trace, file, faults, text;
 static size_t text_size;
 static m7_answer answer;
 static m7_plan plan;
@@ -71,6 +71,7 @@ static void keep(void)
     memcpy(output.before, output.now, sizeof output.now);
     memcpy(trace.before, trace.now, sizeof trace.now);
     memcpy(file.before, file.now, sizeof file.now);
+    memcpy(faults.before, faults.now, sizeof faults.now);
     memcpy(text.before, text.now, sizeof text.now);
 }
 
@@ -81,7 +82,7 @@ static void after(void)
     seen[answer.number] = 1;
     if (answer.number != 0) {
         CHECK(same(&table) && same(&state) && same(&output));
-        CHECK(same(&trace) && same(&file));
+        CHECK(same(&trace) && same(&file) && same(&faults));
         CHECK(answer.kind == 0 && answer.length == 0);
     }
 }
@@ -140,6 +141,17 @@ static uint32_t looking(const char *pattern)
     CHECK(answer.passes == 0 && answer.kind == 0);
     return answer.number;
 }
+
+static uint32_t recover_sized(size_t table_size, size_t faults_size)
+{
+    keep();
+    answer = m7_recover(text.now, text_size, table.now, table_size, faults.now, faults_size);
+    after();
+    CHECK(same(&state) && same(&output) && same(&file));
+    return answer.number;
+}
+
+static uint32_t recovering(void) { return recover_sized(M7_TABLE_BYTES, M7_FAULTS_BYTES); }
 
 /* Measuring alters no memory, and refuses what reading refuses. */
 static uint32_t measuring(void)
@@ -296,6 +308,11 @@ static void sizes(void)
     CHECK(write_sized(M7_TABLE_BYTES, M7_FILE_BYTES + 1) == M7_BAD_MEMORY);
     CHECK(fresh_sized(M7_STATE_BYTES - 1) == M7_BAD_MEMORY);
     CHECK(fresh_sized(M7_STATE_BYTES + 1) == M7_BAD_MEMORY);
+    say("'a'='b';");
+    CHECK(recover_sized(M7_TABLE_BYTES - 1, M7_FAULTS_BYTES) == M7_BAD_MEMORY);
+    CHECK(recover_sized(M7_TABLE_BYTES + 1, M7_FAULTS_BYTES) == M7_BAD_MEMORY);
+    CHECK(recover_sized(M7_TABLE_BYTES, M7_FAULTS_BYTES - 1) == M7_BAD_MEMORY);
+    CHECK(recover_sized(M7_TABLE_BYTES, M7_FAULTS_BYTES + 1) == M7_BAD_MEMORY);
     CHECK(feed_sized(M7_TABLE_BYTES - 1, M7_STATE_BYTES, M7_OUTPUT_BYTES,
                      M7_TRACE_BYTES, 9) == M7_BAD_MEMORY);
     CHECK(feed_sized(M7_TABLE_BYTES + 1, M7_STATE_BYTES, M7_OUTPUT_BYTES,
@@ -322,6 +339,10 @@ static void nulls(void)
     answer = m7_read(NULL, 0, table.now, M7_TABLE_BYTES);
     CHECK(answer.number == 0 && answer.length == 0);
     answer = m7_read(NULL, 0, NULL, 0);
+    CHECK(answer.number == M7_BAD_MEMORY);
+    answer = m7_recover(NULL, 0, table.now, M7_TABLE_BYTES, faults.now, M7_FAULTS_BYTES);
+    CHECK(answer.number == 0 && answer.length == 0);
+    answer = m7_recover(NULL, 0, NULL, 0, NULL, 0);
     CHECK(answer.number == M7_BAD_MEMORY);
     answer = m7_write(NULL, 0, NULL, 0);
     CHECK(answer.number == M7_BAD_MEMORY);
@@ -361,11 +382,14 @@ static void table_layout(void)
         CHECK(table.now[i] == 0);
 }
 
-static uint32_t four(size_t place)
+/* The number in the four bytes of a memory at a place. */
+static uint32_t four_in(const memory *m, size_t place)
 {
-    const uint8_t *at = state.now + place;
+    const uint8_t *at = m->now + place;
     return at[0] + 256u * at[1] + 65536u * at[2] + 16777216u * at[3];
 }
+
+static uint32_t four(size_t place) { return four_in(&state, place); }
 
 static void state_layout(void)
 {
@@ -490,6 +514,60 @@ static void written_bounds(void)
     }
     CHECK(reading() == 0 && answer.length == 90);
     CHECK(writing() == M7_FILE_TOO_LONG && answer.place == M7_FILE_BYTES);
+}
+
+/* FAULTS */
+
+/* Whether the list has so many faults, with this number and place as the last, and
+   zeros after it. */
+static int lists(uint32_t count, uint32_t number, uint32_t place)
+{
+    size_t last = 8 * (size_t)count - 4, i;
+    for (i = last + 8; i < M7_FAULTS_BYTES; i++)
+        if (faults.now[i] != 0)
+            return 0;
+    return four_in(&faults, 0) == count && four_in(&faults, last) == number
+           && four_in(&faults, last + 4) == place;
+}
+
+static void faults_listed(void)
+{
+    size_t i;
+    memset(faults.now, 7, sizeof faults.now);
+    memset(table.now, 7, sizeof table.now);
+    say("'a'='b';'c='d';'e**'='';'f'='g';");
+    CHECK(recovering() == 0 && answer.length == 2 && lists(2, M7_NO_UNIT, 18));
+    CHECK(four_in(&faults, 4) == M7_INCOMPLETE && four_in(&faults, 8) == 13);
+    CHECK(faults.now[M7_FAULTS_BYTES] == 7 && table.now[M7_TABLE_BYTES] == 7);
+    CHECK(writing() == 0 && memcmp(file.now, "'a'='b';\n'f'='g';\n", 19) == 0);
+    use("'a'='b';'c'='d';");
+    memcpy(output.now, table.now, M7_TABLE_BYTES);
+    say("'a'='b';'c'='d';");
+    CHECK(recovering() == 0 && answer.length == 2);
+    CHECK(memcmp(output.now, table.now, M7_TABLE_BYTES) == 0);
+    for (i = 0; i < M7_FAULTS_BYTES; i++)
+        CHECK(faults.now[i] == 0);
+}
+
+static void fault_bounds(void)
+{
+    none();
+    add("'a;", M7_MOST_FAULTS);
+    CHECK(recovering() == 0 && lists(M7_MOST_FAULTS, M7_INCOMPLETE, 3 * M7_MOST_FAULTS - 1));
+    CHECK(4 + 8 * M7_MOST_FAULTS == M7_FAULTS_BYTES);
+    add("'a;", 1);
+    CHECK(recovering() == M7_TOO_MANY_FAULTS && answer.place == 0);
+    say("'a**';");
+    add("'a'='';", M7_MOST_MACROS);
+    CHECK(recovering() == 0 && answer.length == M7_MOST_MACROS && lists(1, M7_NO_UNIT, 3));
+    add("'", 1);
+    CHECK(recovering() == M7_TOO_MANY_MACROS && answer.place == 6 + 7 * M7_MOST_MACROS);
+    say("'a**'; ");
+    text.now[6] = 0;
+    CHECK(recovering() == M7_ZERO_BYTE && answer.place == 6);
+    none();
+    add("'", M7_FILE_BYTES + 1);
+    CHECK(recovering() == M7_FILE_TOO_LONG && answer.place == M7_FILE_BYTES);
 }
 
 /* NUMBERS that have not come up */
@@ -622,7 +700,7 @@ static void meanings(void)
         CHECK((strcmp(m7_meaning(number), unknown) != 0) == (seen[number] != 0));
     CHECK(m7_table_bytes() == M7_TABLE_BYTES && m7_state_bytes() == M7_STATE_BYTES);
     CHECK(m7_output_bytes() == M7_OUTPUT_BYTES && m7_trace_bytes() == M7_TRACE_BYTES);
-    CHECK(m7_file_bytes() == M7_FILE_BYTES);
+    CHECK(m7_file_bytes() == M7_FILE_BYTES && m7_faults_bytes() == M7_FAULTS_BYTES);
 }
 
 /* The numbers that the header names, and no others, have come up. */
@@ -634,7 +712,7 @@ static void all_seen(void)
         M7_BAD_BRACE, M7_BAD_CALL, M7_NO_ELEMENT, M7_MACRO_TOO_LONG, M7_TOO_MANY_MACROS,
         M7_LINE_TOO_LONG, M7_BAD_BYTE, M7_BAD_CONTROL, M7_BUDGET_USED_UP,
         M7_NEW_LINE_TOO_LONG, M7_TAG_TOO_LONG, M7_POINTER_TOO_HIGH, M7_COUNTER_TOO_HIGH,
-        M7_TRACE_TOO_LONG, M7_BAD_WORD_PATTERN};
+        M7_TRACE_TOO_LONG, M7_BAD_WORD_PATTERN, M7_TOO_MANY_FAULTS};
     size_t count = sizeof named / sizeof named[0], i;
     for (i = 0; i < count; i++) {
         CHECK(seen[named[i]]);
@@ -642,7 +720,7 @@ static void all_seen(void)
     }
     for (i = 0; i < sizeof seen / sizeof seen[0]; i++)
         CHECK(!seen[i]);
-    CHECK(count == 25);
+    CHECK(count == 26);
 }
 
 int main(void)
@@ -659,6 +737,8 @@ int main(void)
     tag_bounds();
     number_bounds();
     written_bounds();
+    faults_listed();
+    fault_bounds();
     files_refused();
     lines_refused();
     traces();

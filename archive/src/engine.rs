@@ -5,6 +5,8 @@ pub const STATE_BYTES: usize = 26236;
 pub const OUTPUT_BYTES: usize = 1054;
 pub const FILE_BYTES: usize = 32768;
 pub const TRACE_BYTES: usize = 65536;
+/// A count, then 256 times number and place, four bytes each.
+pub const FAULTS_BYTES: usize = 2052;
 
 #[repr(C)]
 #[derive(Clone, Copy, Debug, PartialEq, Eq)]
@@ -31,6 +33,14 @@ pub struct Plan {
 }
 
 extern "C" {
+    fn m7_recover(
+        file: *const u8,
+        file_size: usize,
+        table: *mut u8,
+        table_size: usize,
+        faults: *mut u8,
+        faults_size: usize,
+    ) -> Answer;
     fn m7_measure(file: *const u8, file_size: usize) -> Plan;
     fn m7_read(file: *const u8, file_size: usize, table: *mut u8, table_size: usize) -> Answer;
     fn m7_write(table: *const u8, table_size: usize, file: *mut u8, file_size: usize) -> Answer;
@@ -62,6 +72,19 @@ pub fn read(file: &[u8], table: &mut [u8]) -> Answer {
 
 pub fn write(table: &[u8], file: &mut [u8]) -> Answer {
     unsafe { m7_write(table.as_ptr(), table.len(), file.as_mut_ptr(), file.len()) }
+}
+
+pub fn recover(file: &[u8], table: &mut [u8], faults: &mut [u8]) -> Answer {
+    unsafe {
+        m7_recover(
+            file.as_ptr(),
+            file.len(),
+            table.as_mut_ptr(),
+            table.len(),
+            faults.as_mut_ptr(),
+            faults.len(),
+        )
+    }
 }
 
 pub fn measure(file: &[u8]) -> Plan {

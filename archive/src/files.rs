@@ -25,6 +25,11 @@ pub fn most_macros() -> Vec<u8> {
     (0..96u8).flat_map(|i| macro_of(341, b'A' + i % 26)).collect()
 }
 
+/// 256 faults, the most that are listed, in 32,768 bytes.
+pub fn most_faults() -> Vec<u8> {
+    format!("'a**{};", "x".repeat(123)).repeat(256).into_bytes()
+}
+
 /// Forty macros for part texts.
 pub fn parts() -> Vec<u8> {
     include_bytes!("../bench/parts.m7").to_vec()

@@ -14,6 +14,8 @@ pub struct Point {
 
 const WIDE: f64 = 400.0;
 const HIGH: f64 = 300.0;
+/// Room for the last figure of the panels to the right.
+const MARGIN: f64 = 20.0;
 /// Where the axes of a panel begin and end.
 const LEFT: f64 = 64.0;
 const RIGHT: f64 = 385.0;
@@ -93,7 +95,7 @@ impl Panel<'_> {
 pub fn draw(points: &[Point]) -> String {
     let mut out = format!(
         "<svg xmlns=\"http://www.w3.org/2000/svg\" width=\"{0}\" height=\"{1}\" viewBox=\"0 0 {0} {1}\">\n<style>{STYLE}</style>\n",
-        2.0 * WIDE,
+        2.0 * WIDE + MARGIN,
         2.0 * HIGH + 30.0
     );
     for (index, (table, title, across, up)) in PANELS.iter().enumerate() {

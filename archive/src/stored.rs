@@ -1,11 +1,11 @@
 //! The stored answers of the Rust version, asked of the archive.
 
 use crate::engine::{
-    self, Answer, FILE_BYTES, OUTPUT_BYTES, STATE_BYTES, TABLE_BYTES, TRACE_BYTES,
+    self, Answer, FAULTS_BYTES, FILE_BYTES, OUTPUT_BYTES, STATE_BYTES, TABLE_BYTES, TRACE_BYTES,
 };
-use crate::form::{slot_form, state_of, table_of, SLOT_BYTES};
+use crate::form::{faults_form, slot_form, state_of, table_of, SLOT_BYTES};
 use crate::plan::plan_of;
-use m7_reference::answers::{unescape, Case, Check, WordCheck};
+use m7_reference::answers::{unescape, Case, Check, RecoverCheck, WordCheck};
 use m7_reference::line::{self, Kind};
 use m7_reference::refusal::Refusal;
 use m7_reference::spell::shortest_spelling;
@@ -15,7 +15,7 @@ use m7_reference::words::Covered;
 /// Texts about calls that the archive does not have.
 pub const NOT_ASKED: &[&str] = &[];
 
-/// What the trace memory holds before a line.
+/// What the trace and the faults' memory hold before a call.
 const OLD: u8 = 0xFF;
 
 /// The memories of one case.
@@ -106,6 +106,25 @@ impl Host {
         begins == text && rest.iter().all(|byte| *byte == 0)
     }
 
+    /// Reads the file past its faults; with `kept` the table is then that one.
+    fn recovers(&mut self, check: &RecoverCheck) -> bool {
+        let (mut table, mut faults) = (self.table.clone(), vec![OLD; FAULTS_BYTES]);
+        let answer = engine::recover(&self.file, &mut table, &mut faults);
+        let count = || u32::from_le_bytes([faults[0], faults[1], faults[2], faults[3]]) as usize;
+        match check {
+            RecoverCheck::Kept(n) => {
+                self.table = table;
+                answer.number == 0 && answer.length as usize == *n
+            }
+            RecoverCheck::Refused(wanted) => {
+                let untouched = table == self.table && faults.iter().all(|byte| *byte == OLD);
+                refusal(answer) == Some(*wanted) && untouched
+            }
+            RecoverCheck::Faults(wanted) => answer.number == 0 && faults == faults_form(wanted),
+            RecoverCheck::FaultCount(n) => answer.number == 0 && count() == *n,
+        }
+    }
+
     /// Looks a line's words up, and holds what is stored against the answer.
     fn looks(&mut self, check: &WordCheck) -> bool {
         match check {
@@ -146,6 +165,7 @@ impl Host {
             Check::Trace(on) => self.state().trace == *on,
             Check::Nflag(on) => self.state().nflag == *on,
             Check::Words(check) => self.looks(check),
+            Check::Recover(check) => self.recovers(check),
             Check::Takes(wanted) => engine::measure(&self.file) == plan_of(wanted),
         }
     }

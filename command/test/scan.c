@@ -174,7 +174,7 @@ int main(int count, char **words)
         for (uint32_t damages = size == 0 ? 0 : below(4); damages > 1; damages--)
             damage();
         answer = m7_read(file, size, table, sizeof table);
-        scan_file(&scan, file, answer.number == 0 ? size : answer.place);
+        scan_file(&scan, file, 0, answer.number == 0 ? size : answer.place);
         if (answer.number == 0) {
             taken++;
             each_alone(answer.length);

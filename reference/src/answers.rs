@@ -1,8 +1,10 @@
 //! Stored answers: the text form described in `answers/README.md`.
 
 mod measure;
+mod recover;
 mod words;
 
+pub use recover::RecoverCheck;
 pub use words::WordCheck;
 
 use crate::line::{Answer, Engine, Fed, Kind};
@@ -38,6 +40,7 @@ pub enum Check {
     DiffersFrom(Vec<u8>),
     Words(WordCheck),
     Takes(Result<Plan, Refusal>),
+    Recover(RecoverCheck),
 }
 
 #[derive(Clone, Debug, Default)]
@@ -101,6 +104,9 @@ fn check(word: &str, rest: &str) -> Option<Check> {
         "differs-from" => Check::DiffersFrom(words.text()?),
         "takes" | "takes-unwritten" | "takes-refused" => {
             Check::Takes(measure::parse(word, &mut words)?)
+        }
+        "kept" | "recover-refused" | "faults" | "fault-count" => {
+            Check::Recover(RecoverCheck::parse(word, &mut words)?)
         }
         _ => Check::Words(WordCheck::parse(word, &mut words)?),
     };
@@ -245,6 +251,13 @@ impl Running<'_> {
                 differs(&self.fed.as_ref().map(|fed| &fed.trace), &Some(wanted))
             }
             Check::Words(check) => self.looking.says_instead(check),
+            Check::Recover(check) => {
+                let (said, recovered) = check.said_instead(self.file);
+                if let Some(recovered) = recovered {
+                    self.engine.table = recovered.table;
+                }
+                said
+            }
             Check::Takes(wanted) => differs(&crate::measure::measure(self.file), wanted),
             _ => table_instead(check, &self.engine.table),
         }

@@ -11,6 +11,7 @@ pub const ENTRY_BYTES: usize = 50;
 pub const COUNTER_END: u64 = 999_999_999;
 pub const BUDGET_END: u64 = 1_000_000;
 pub const TRACE_BYTES: usize = 65_536;
+pub const FAULTS: usize = 256;
 
 /// 01, part 8: the budget of the program.
 pub const PROGRAM_BUDGET: u64 = 10_000;

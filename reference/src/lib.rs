@@ -4,7 +4,8 @@
 //! `macros` (what a macro is), `read` and `write` and `spell` (macro files),
 //! `matching` (one division), `replace` (one occurrence), `pass`, `line`,
 //! `trace`.
-//! `words` looks up the words of a line; `measure` says what a file will take.
+//! `words` looks up the words of a line; `measure` says what a file will take,
+//! `recover` reads past faults.
 //! `answers`, `generate`, `protocol` and `cases` serve the comparison with
 //! other engines.
 
@@ -20,6 +21,7 @@ pub mod measure;
 pub mod pass;
 pub mod protocol;
 pub mod read;
+pub mod recover;
 pub mod refusal;
 pub mod replace;
 pub mod spell;

@@ -3,6 +3,7 @@
 use crate::line::{Answer, Engine, Fed, Kind, PassMade};
 use crate::measure::measure;
 use crate::read::read_file;
+use crate::recover::recover;
 use crate::refusal::Refusal;
 use crate::spell::shortest_length;
 use crate::state::State;
@@ -94,6 +95,7 @@ impl Server {
             }
             ["write"] => self.write(),
             ["measure", file] => measured(file),
+            ["recover", file] => self.recover(file),
             ["words", line, pattern] => look_up(line, pattern),
             ["trace"] => trace_words(&self.trace),
             ["spell"] => spell_words(&self.engine),
@@ -111,6 +113,23 @@ impl Server {
             Ok(table) => {
                 self.engine.table = table;
                 format!("ok {}", self.engine.table.len())
+            }
+            Err(refusal) => refusal_words(refusal),
+        }
+    }
+
+    /// As `read`; behind the macros kept the faults, each number and place.
+    fn recover(&mut self, file: &str) -> String {
+        let Some(file) = unhex(file) else {
+            return "error bad hex".to_string();
+        };
+        match recover(&file) {
+            Ok(recovered) => {
+                let faults = recovered.faults.iter();
+                let faults = faults.map(|fault| format!(" {} {}", fault.number, fault.place));
+                let faults: String = faults.collect();
+                self.engine.table = recovered.table;
+                format!("ok {}{faults}", self.engine.table.len())
             }
             Err(refusal) => refusal_words(refusal),
         }

@@ -57,6 +57,9 @@ fn server_answers() {
     says(&format!("measure {}", hex(b"'a**'='b';")), "no 14 3");
     let colons = [b"'a'='", &[b':'; 505][..], b"';"].concat();
     says(&format!("measure {}", hex(&colons)), "ok 1 1 0 no 18 512");
+    says(&format!("recover {}", hex(b"'a'='b';'c';'d'='e';'f")), "ok 2 12 11 12 22");
+    says("write", &format!("ok {}", hex(b"'a'='b';\n'd'='e';\n")));
+    says(&format!("recover {}", hex(&b"'a;".repeat(257))), "no 61 0");
     says("feed x -", "error bad feed");
     says("read xx", "error bad hex");
     says("other", "error unknown command");

@@ -6,7 +6,9 @@
 //! instructions` counts instructions of these two under valgrind.
 
 use m7_archive::clock::{time, Time};
-use m7_archive::engine::{self, FILE_BYTES, OUTPUT_BYTES, STATE_BYTES, TABLE_BYTES, TRACE_BYTES};
+use m7_archive::engine::{
+    self, FAULTS_BYTES, FILE_BYTES, OUTPUT_BYTES, STATE_BYTES, TABLE_BYTES, TRACE_BYTES,
+};
 use m7_archive::jobs::{self, Job, BY_LINES, EVERY_CALL, OVER_LINES};
 use m7_archive::picture::{self, Point};
 use m7_archive::process::{self, Folder};
@@ -17,6 +19,7 @@ use m7_reference::line::{Engine, Kind};
 use m7_reference::macros::Table;
 use m7_reference::measure::measure;
 use m7_reference::read::read_file;
+use m7_reference::recover::recover;
 use m7_reference::spell::some_file_spells;
 use m7_reference::write::write_table;
 use std::hint::black_box;
@@ -41,6 +44,17 @@ fn reading(report: &mut Report, name: &str, file: &[u8]) {
     });
     let plain = time(400, || {
         black_box(read_file(black_box(file)).is_ok());
+    });
+    beside(report, name, proved, plain);
+}
+
+fn recovering(report: &mut Report, name: &str, file: &[u8]) {
+    let (mut table, mut faults) = (vec![0; TABLE_BYTES], vec![0; FAULTS_BYTES]);
+    let proved = time(400, || {
+        black_box(engine::recover(black_box(file), &mut table, &mut faults));
+    });
+    let plain = time(400, || {
+        black_box(recover(black_box(file)).is_ok());
     });
     beside(report, name, proved, plain);
 }
@@ -116,6 +130,8 @@ fn files_and_tables(report: &mut Report) {
     reading(report, "read 32,768 bytes, 64 macros", &longest);
     reading(report, "read 32,736 bytes, 96 macros", &most);
     reading(report, "read the 40 macros for part texts", &parts);
+    recovering(report, "read past faults 32,768 bytes, 64 macros", &longest);
+    recovering(report, "read past 256 faults, 32,768 bytes", &files::most_faults());
     measuring(report, "measure 32,768 bytes, 64 macros", &longest);
     measuring(report, "measure 32,736 bytes, 96 macros", &most);
     measuring(report, "measure the 40 macros for part texts", &parts);

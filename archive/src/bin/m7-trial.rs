@@ -32,6 +32,7 @@ fn main() -> ExitCode {
     let longest = grouped(trial.longest_trace as u64);
     println!("{} lines wrote a trace, the longest of {longest} bytes;", grouped(trial.traced));
     println!("{} files measured are read, but not written out;", grouped(trial.unwritten));
+    println!("{} faults were listed;", grouped(trial.faults_found));
     println!("seed {seed}, {} calls compared", grouped(trial.counts.all()));
     println!("{} differ", trial.differing);
     ExitCode::from((trial.differing > 0) as u8)

@@ -1,10 +1,12 @@
-//! Tables and states as bytes, from the Rust version's values and back. What
-//! comes back is nothing where 01 says 1 or 2.
+//! Tables, states and lists of faults as bytes, from the Rust version's values,
+//! and tables and states back. What comes back is nothing where 01 says 1 or 2.
 
+mod faults;
 mod state;
 mod table;
 mod taken;
 
+pub use faults::faults_form;
 pub use state::{state_form, state_of};
 pub use table::{slot_form, table_form, HEADER_BYTES, SLOT_BYTES};
 pub use taken::table_of;

@@ -62,7 +62,7 @@ fn state_byte(random: &mut Random, place: usize, byte: u8) -> u8 {
 }
 
 /// A size that is not `size`, at most 64 more.
-fn other_size(random: &mut Random, size: usize) -> usize {
+pub fn other_size(random: &mut Random, size: usize) -> usize {
     match random.below(5) {
         0 => size - 1,
         1 => size + 1,

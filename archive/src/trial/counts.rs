@@ -11,6 +11,7 @@ pub enum Group {
     WriteChanged,
     Fresh,
     Measure,
+    Recover,
     Words,
     Feed,
     FeedNone,
@@ -27,6 +28,7 @@ pub enum Group {
     SizeWrite,
     SizeFresh,
     SizeFeed,
+    SizeRecover,
 }
 
 const NAMES: &[&str] = &[
@@ -36,6 +38,7 @@ const NAMES: &[&str] = &[
     "m7_write, the table changed",
     "m7_fresh",
     "m7_measure, beside reading and writing out",
+    "m7_recover, beside reading of what is left",
     "m7_words",
     "m7_feed, the lines of a list in turn",
     "m7_feed, budget 0",
@@ -52,6 +55,7 @@ const NAMES: &[&str] = &[
     "m7_write, a memory of another size",
     "m7_fresh, a memory of another size",
     "m7_feed, a memory of another size",
+    "m7_recover, a memory of another size",
 ];
 
 /// Behind the numbers stand the kinds of a line that was taken.

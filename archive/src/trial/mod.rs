@@ -5,6 +5,7 @@ mod budgets;
 mod changes;
 mod counts;
 mod measure;
+mod recover;
 mod songs;
 mod words;
 
@@ -12,7 +13,7 @@ pub use counts::{grouped, Counts, Group};
 pub use songs::Songs;
 
 use crate::engine::{
-    self, Answer, FILE_BYTES, OUTPUT_BYTES, STATE_BYTES, TABLE_BYTES, TRACE_BYTES,
+    self, Answer, FAULTS_BYTES, FILE_BYTES, OUTPUT_BYTES, STATE_BYTES, TABLE_BYTES, TRACE_BYTES,
 };
 use crate::form::{state_form, table_form};
 use crate::lent::Lent;
@@ -24,7 +25,7 @@ use m7_reference::refusal::Refusal;
 use m7_reference::state::State;
 use m7_reference::write::write_table;
 
-/// What an unused output, file or trace memory holds before a call.
+/// What an unused output, file, trace or faults' memory holds before a call.
 const OLD: u8 = 0xFF;
 
 /// The memories lent, and what they must hold.
@@ -34,6 +35,7 @@ pub struct Trial {
     output: Lent,
     trace: Lent,
     file: Lent,
+    faults: Lent,
     line: Lent,
     pattern: Lent,
     source: Lent,
@@ -50,6 +52,8 @@ pub struct Trial {
     pub longest_trace: usize,
     /// Files measured that are read, and cannot be written out.
     pub unwritten: u64,
+    /// Faults listed.
+    pub faults_found: u64,
 }
 
 fn taken(length: usize) -> Answer {
@@ -97,6 +101,7 @@ impl Trial {
             output: Lent::new(OUTPUT_BYTES),
             trace: Lent::new(TRACE_BYTES),
             file: Lent::new(FILE_BYTES),
+            faults: Lent::new(FAULTS_BYTES),
             line: Lent::new(0),
             pattern: Lent::new(0),
             source: Lent::new(0),
@@ -110,6 +115,7 @@ impl Trial {
             traced: 0,
             longest_trace: 0,
             unwritten: 0,
+            faults_found: 0,
         };
         trial.fresh();
         trial

@@ -63,6 +63,7 @@ impl Songs {
         if random.one_in(16) {
             trial.spoil(random);
         }
+        mend(trial, random, &case.file);
         trial.look(random);
         if random.one_in(4) {
             trial.spoil_trace();
@@ -70,6 +71,9 @@ impl Songs {
         trial.measure(&case.file);
         if random.one_in(64) {
             trial.measure_written(random);
+        }
+        if random.one_in(16) {
+            trial.spoil(random);
         }
         trial.read(Group::Read, &case.file);
         let short = case.file.len() < 10_000;
@@ -89,6 +93,15 @@ impl Songs {
         }
         let line = case.lines.last().map_or(&b"a1-b"[..], |(_, line)| line);
         changes(trial, random, line);
+    }
+}
+
+/// Files read past their faults; the table kept reads back, too.
+fn mend(trial: &mut Trial, random: &mut Random, file: &[u8]) {
+    trial.recover(random);
+    if random.one_in(4) {
+        write_and_back(trial);
+        trial.recover_file(file);
     }
 }
 

@@ -4,3 +4,4 @@ pub mod Measuring
 pub mod FeedBounds
 pub mod FeedResults
 pub mod WordResults
+pub mod RecoverResults

@@ -2,3 +2,4 @@ pub mod Contract
 pub mod Feeding
 pub mod HostRefusal
 pub mod Words
+pub mod Recovering

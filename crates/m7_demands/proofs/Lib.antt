@@ -4,3 +4,4 @@ pub mod LargerLaws
 pub mod Demand3Laws
 pub mod TraceLaws
 pub mod MeasureLaws
+pub mod RecoverLaws

@@ -1,7 +1,7 @@
 //! `m7-answers FILE...` prints stored answers as protocol commands, so that
 //! any engine that serves the protocol can be run on them.
 
-use m7_reference::answers::{parse, Case, Check, WordCheck};
+use m7_reference::answers::{parse, Case, Check, RecoverCheck, WordCheck};
 use m7_reference::protocol::hex;
 use std::io::{self, BufWriter, Write};
 
@@ -13,6 +13,9 @@ fn print(case: &Case, output: &mut impl Write) -> io::Result<()> {
             Check::Line(budget, line) => writeln!(output, "feed {budget} {}", hex(line))?,
             Check::Written(_) | Check::WrittenBytes(_) | Check::WritingRefused(_) => {
                 writeln!(output, "write")?
+            }
+            Check::Recover(RecoverCheck::Kept(_) | RecoverCheck::Refused(_)) => {
+                writeln!(output, "recover {}", hex(&case.file))?
             }
             Check::Takes(_) => writeln!(output, "measure {}", hex(&case.file))?,
             Check::Traced(_) => writeln!(output, "trace")?,

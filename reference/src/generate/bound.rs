@@ -12,6 +12,21 @@ fn case(file: String, lines: Vec<(u64, String)>) -> Case {
     Case { file: file.into_bytes(), lines: lines.into_iter().map(bytes).collect() }
 }
 
+/// A file with about 256 faults or about 96 good macros between faults.
+pub fn bound_faults(random: &mut Random) -> Vec<u8> {
+    let fault = *random.pick(&["'a;", "'a**'='b';", "''='b';", "#(v);", "'a'='{1}';", "'[]';"]);
+    let more = *random.pick(&["'a'='b';", "", "'", "/", "&(s", "';';"]);
+    let file = match random.below(3) {
+        0 => format!("{}{more}", fault.repeat(near(random, 256))),
+        1 => format!("{}{more}", format!("'q'='';{fault}").repeat(near(random, 96))),
+        _ => {
+            let start = near(random, 507);
+            format!("{more}'a'='{}';'c'='d';{more}", "x".repeat(start))
+        }
+    };
+    file.into_bytes()
+}
+
 /// One case near one bound.
 pub fn bound_case(random: &mut Random) -> Case {
     match random.below(10) {

@@ -119,6 +119,53 @@ pub fn shuffled_file(random: &mut Random) -> Vec<u8> {
     file
 }
 
+/// Loses, changes or adds one byte; quotes and semicolons more often.
+fn break_byte(random: &mut Random, file: &mut Vec<u8>) {
+    let marks: Vec<usize> = (0..file.len()).filter(|at| b"';".contains(&file[*at])).collect();
+    if marks.is_empty() {
+        return;
+    }
+    let near_mark = random.one_in(2);
+    let place = if near_mark { *random.pick(&marks) } else { random.below(file.len()) };
+    match random.below(4) {
+        0 | 1 => {
+            file.remove(place);
+        }
+        2 => file[place] = *random.pick(SPECIAL),
+        _ => file.insert(place, *random.pick(SPECIAL)),
+    }
+}
+
+/// A good file of up to 60 macros with 1 to 40 bytes lost, changed or added.
+fn file_with_faults(random: &mut Random) -> Vec<u8> {
+    let (odd, most) = (random.one_in(3), *random.pick(&[2, 4, 8, 60]));
+    let count = 1 + random.below(most);
+    let mut file = good_file(random, odd, count);
+    let times = *random.pick(&[1, 1, 1, 2, 3, 5, 10, 40]);
+    for _ in 0..times {
+        break_byte(random, &mut file);
+    }
+    file
+}
+
+/// A good file with some bytes lost, changed or added; or parts of such files,
+/// with tokens in any order between them.
+pub fn broken_file(random: &mut Random) -> Vec<u8> {
+    if !random.one_in(3) {
+        return file_with_faults(random);
+    }
+    let mut file = Vec::new();
+    for _ in 0..1 + random.below(4) {
+        let (odd, count) = (random.one_in(3), random.below(4));
+        let part = good_file(random, odd, count);
+        file.extend(if random.one_in(3) { part } else { damaged_file(random, part) });
+        if random.one_in(4) {
+            file.extend(shuffled_file(random));
+        }
+    }
+    file
+}
+
 /// A good, damaged or shuffled file.
 pub fn any_file(random: &mut Random) -> Vec<u8> {
     let odd = random.one_in(2);

@@ -14,6 +14,11 @@ impl<'a> Cursor<'a> {
         Cursor { file, place: 0 }
     }
 
+    /// Goes to a place of the file.
+    pub fn go_to(&mut self, place: usize) {
+        self.place = place;
+    }
+
     pub fn place(&self) -> usize {
         self.place
     }

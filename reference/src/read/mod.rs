@@ -45,12 +45,22 @@ impl<'a> Reader<'a> {
         if self.before == MACROS {
             return Err(Refusal::at(TOO_MANY_MACROS, start.place));
         }
+        let read = bounded_macro(self.file, &mut self.cursor, start)?;
         self.before += 1;
-        bounded_macro(self.file, &mut self.cursor, start).map(Some)
+        Ok(Some(read))
+    }
+
+    /// Goes on afresh behind the first `;` at or after a place, if there is one.
+    pub fn resume(&mut self, place: usize) -> bool {
+        let end = self.file[place..].iter().position(|byte| *byte == b';');
+        if let Some(end) = end {
+            self.cursor.go_to(place + end + 1);
+        }
+        end.is_some()
     }
 }
 
-/// To be asked no more after a fault.
+/// After a fault nothing is to be asked before `resume`.
 impl Iterator for Reader<'_> {
     type Item = Read<Macro>;
 

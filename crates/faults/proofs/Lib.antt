@@ -1,0 +1,7 @@
+pub mod Ends
+pub mod Grown
+pub mod Stretches
+pub mod Exactly
+pub mod Keeps
+pub mod Endings
+pub mod Alone

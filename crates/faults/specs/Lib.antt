@@ -1,0 +1,5 @@
+pub mod Refusal
+pub mod Recover
+pub mod RecoverLaw
+pub mod RecoverKeeps
+pub mod Cases

@@ -1,0 +1,4 @@
+pub mod Searching
+pub mod Stretching
+pub mod Standing
+pub mod Closing
