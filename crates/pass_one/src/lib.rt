@@ -1,8 +1,6 @@
 // A pass (01, parts 3 and 5): one macro over one line.
 mod keeping;
-pub mod lacking;
-mod matcher;
-mod unit;
+mod places;
 mod walking;
 
 use form_items::layout::BEFORE_AT;
@@ -11,19 +9,13 @@ use form_items::layout::PATTERN_AT;
 use form_items::two_at;
 use keeping::copy_state;
 use keeping::has_calls;
-use lacking::lacks;
+use pass_lack::lacks;
 use pass_moment::Passed;
 use walking::First;
 use walking::first_match;
 use walking::walk;
 ghost use Rattle.pass_one.specs.Contract.{Lent, Passes};
 ghost use Rattle.pass_one.specs.Places.{SomeSlot, ItemsOf, ToTry, Walking};
-
-// Where a match ends.
-pub(crate) enum Found {
-    Matched(usize),
-    NoMatch,
-}
 
 // A pass. Without a match nothing changes. A pattern that must have a byte which the line lacks has no match.
 pub fn pass(

@@ -1,34 +1,25 @@
 -- What the functions of an occurrence (01, part 4) and of the calls before a pattern (02, N2) promise.
-use Prim.Native.Nat.{ℕ, _+_, _≤_}
+use Prim.Native.Nat.{ℕ, _≤_}
 use mathlib.Core.Path.{_≡_}
-use mathlib.Core.List.{List, [], _∷_}
-use lib.ListN.{length, getD, take, drop}
+use mathlib.Core.List.{List}
+use lib.ListN.{length, getD, drop}
 use Rattle.macros.specs.Bounds.{mostLineBytes}
-use Rattle.macros.specs.Macro.{Piece, Macro}
+use Rattle.macros.specs.Macro.{Macro}
 use Rattle.macros.specs.Formed.{Bytes}
 use Rattle.macros.specs.Accepted.{Spellable}
-use Rattle.form_table.specs.Form.{bodyBytes, pieceItems, slot}
+use Rattle.form_table.specs.Form.{bodyBytes, slot}
 use Rattle.lines.specs.State.{State}
 use Rattle.lines.specs.Matching.{Division, stops}
-use Rattle.lines.specs.Replacing.{Work, Done, startIn, beforeActs, occur}
-use Rattle.lines.specs.Replacing.Done.{bad, good}
-use Rattle.lines.specs.Line.{textOf}
+use Rattle.lines.specs.Replacing.{Work, startIn, beforeActs, occur}
 use Rattle.form_state.specs.Access.{Holds, IsState}
-use Rattle.refusals.specs.Faults.{refusalOf}
 use Rattle.refusals.specs.declared.Outcome.{Outcome}
-use Rattle.refusals.specs.declared.Outcome.the-variants.{Made, Refused}
+use Rattle.pass_tags.specs.Tags.{EndsFrom}
+use Rattle.pass_steps.specs.Moments.{IsMoment, doneOf, sizeOf}
 
 -- the bytes s are the slot of the macro m, which some file spells
 pub record IsSlot (s : List ℕ) (m : Macro) : Type 0 where
   pub spellable : Spellable m
   pub form : slot m ≡ s
-
--- where each piece's span ends stands at the place of its first item; k: the place of these pieces' first
-abbrev pub EndsFrom : List ℕ → ℕ → List Piece → List ℕ → Type 0
-EndsFrom ends k [] [] = Unit {0}
-EndsFrom ends k [] (q ∷ qs) = ⊥
-EndsFrom ends k (e ∷ es) [] = ⊥
-EndsFrom ends k (e ∷ es) (q ∷ qs) = (getD ends k 0 ≡ q) × EndsFrom ends (k + length (pieceItems e)) es qs
 
 -- the ends are those of the division d of the macro m
 pub record IsDivided (s ends : List ℕ) (m : Macro) (d : Division) : Type 0 where
@@ -45,22 +36,6 @@ pub record Lent (s ends t b out : List ℕ) (size : ℕ) : Type 0 where
   pub state : IsState b
   pub room : length out ≡ mostLineBytes
   pub sized : size ≤ mostLineBytes
-
--- the first n bytes are a moment's new line, and b is its state
-pub record IsMoment (out b : List ℕ) (n : ℕ) (w : Work) : Type 0 where
-  pub line : textOf w ≡ take n out
-  pub size : w .size ≡ n
-  pub state : Holds b (w .state)
-
--- what an answer says of the moment v that it leaves
-abbrev pub doneOf : Outcome → Work → Done
-doneOf (Made n) v = good v
-doneOf (Refused f n) v = bad (refusalOf f) v
-
--- the bytes of the new line
-abbrev pub sizeOf : Outcome → ℕ
-sizeOf (Made n) = n
-sizeOf (Refused f n) = n
 
 -- the moment that the memories hold then is that of the definition, done or refused; behind the new line nothing changes
 pub record Occurs (s ends t b b′ out out′ : List ℕ) (size : ℕ) (r : Outcome) : Type 0 where

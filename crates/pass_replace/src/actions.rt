@@ -1,24 +1,37 @@
 // Replacement and commands (01, part 4), from their items.
-use crate::calls::set;
-use crate::calls::shift;
-use crate::calls::store;
-use crate::calls::text_in;
-use crate::tags::Span;
-use crate::tags::tag_of;
-use crate::texts::Text;
-use crate::texts::insert;
-use crate::texts::is_within;
-use crate::texts::part;
-use crate::texts::put_divided;
 use form_bytes::number_at;
 use form_items::action_size;
 use form_state::value;
+use pass_call::set;
+use pass_call::shift;
+use pass_call::store;
+use pass_steps::is_within;
+use pass_tags::Span;
+use pass_tags::Text;
+use pass_tags::part;
+use pass_tags::tag_of;
+use pass_texts::insert;
+use pass_texts::put_divided;
 use refusals::Outcome;
+ghost use mathlib.Core.Path.{_≡_};
+ghost use Prim.Native.Nat.{_≤_, _<_};
+ghost use lib.ListN.{getD};
 ghost use lib.Seq.{slice};
+ghost use Rattle.form_table.specs.Actions.{textIn};
 ghost use Rattle.form_state.specs.Access.{IsState};
-ghost use Rattle.pass_replace.specs.Tags.{Ended, Spans, Cut, Divided};
-ghost use Rattle.pass_replace.specs.Acting.{Fit, Fits, taggedIn, accessIn, actionIn, actsIn, actIn};
-ghost use Rattle.pass_replace.specs.Moments.{Room, Does};
+ghost use Rattle.pass_tags.specs.Tags.{Ended, Spans, Cut, Divided};
+ghost use Rattle.pass_texts.specs.Inserting.{Fit};
+ghost use Rattle.pass_replace.specs.Acting.{Fits, taggedIn, accessIn, actionIn, actsIn, actIn};
+ghost use Rattle.pass_steps.specs.Moments.{Room, Does};
+
+// The text of `&(i:text:)`.
+fn text_in(t: &[u8]) -> &[u8]
+    requires { ⌜ Fit (now t) × (72 ≤ getD (now t) 0 0) × (getD (now t) 0 0 < 80) ⌝ }
+    ensures { λ r. ⌜ now r ≡ textIn (now (t .entry)) ⌝ }
+{
+    let end = 4 + t[3] as usize;
+    &t[4..end]
+}
 
 // An action without its moves: it inserts, stores, sets or inserts a quotient. While a tag is stored the state is not lent: a tag's text stands in the line.
 fn access(

@@ -4,7 +4,7 @@ use Prim.Native.Nat.{ℕ}
 use lib.ListN.{length, replicate, length-replicate}
 use lib.Seq.{length-take-le}
 use Rattle.pass_one.proofs.CallLaws.{pattern-letters}
-use Rattle.pass_one.proofs.LackLaws.{flags-size}
+use Rattle.pass_lack.proofs.LackLaws.{flags-size}
 use Rattle.pass_one.proofs.GoingLaws.{to-try, pass-lacks}
 use Rattle.pass_one.proofs.pass.Statement.{statement}
 use Rattle.pass_one.proofs.pass.Tie as tie

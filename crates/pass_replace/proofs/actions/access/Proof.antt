@@ -4,9 +4,9 @@ use lib.ListN.{getD}
 use Rattle.macros.specs.Formed.{Bytes}
 use Rattle.form_table.specs.Actions.{numberIn}
 use Rattle.form_table.proofs.Actions.{some-size, size-set}
-use Rattle.pass_replace.proofs.Braces.{cut-is, cut-bytes}
-use Rattle.pass_replace.proofs.Moving.{value-small, stored-tag, stored-text}
-use Rattle.pass_replace.proofs.Inserting.{letter-of, access-insert, access-store, access-set, access-divide}
+use Rattle.pass_tags.proofs.Braces.{cut-is, cut-bytes}
+use Rattle.pass_steps.proofs.Codes.{value-small}
+use Rattle.pass_replace.proofs.Acting.{stored-tag, stored-text, letter-of, access-insert, access-store, access-set, access-divide}
 use borrow.Author.Needs.{needs}
 use Rattle.pass_replace.proofs.actions.access.Statement.{statement}
 use Rattle.pass_replace.proofs.actions.access.Tie as tie
@@ -93,7 +93,7 @@ unfolding numberIn
 put-divided-requires c κs =
     let a = c .before .before .before .before .before .before .before .before .before .before .before .before .before .before in
     let t = a .args .t .now in
-    (value-small (a .args .state .now) (getD t 1 0) 0 (a .pre .2) (c .before .value .ensures), rw (c .before .before .before .before .number-at .ensures) (a .pre .1 .number (omega (arith, c .before .before .before .if4 .left)) .0), a .pre .3)
+    (value-small (a .args .state .now) (getD t 1 0) (a .pre .2) (c .before .value .ensures), rw (c .before .before .before .before .number-at .ensures) (a .pre .1 .number (omega (arith, c .before .before .before .if4 .left)) .0), a .pre .3)
 
 same-length-6 : tie.Need-same-length-6
 same-length-6 c = search needs

@@ -1,0 +1,4 @@
+pub mod MarkLaws
+pub mod RepeatLaws
+pub mod TryLaws
+pub mod RowLaws

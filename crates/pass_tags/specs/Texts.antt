@@ -1,0 +1,21 @@
+-- The text that a tag or a stack call stands for (01, part 4: "handed out as a part of the line or of the stack memory").
+use Prim.Native.Nat.{ℕ}
+use mathlib.Core.Path.{_≡_}
+use mathlib.Core.List.{List}
+use lib.Seq.{slice}
+use Rattle.macros.specs.Formed.{Letter}
+use Rattle.lines.specs.State.{currentEntry}
+use Rattle.form_state.specs.Access.{IsState, OfState}
+use Rattle.pass_tags.specs.Tags.{Cut}
+use Rattle.pass_tags.specs.declared.Text.{Text}
+use Rattle.pass_tags.specs.declared.Text.the-variants.{Tag, Entry}
+
+-- what is lent: for a tag the line, with the tag's span in it; for an entry a state
+abbrev pub Lends : (line b : List ℕ) → Text → Type 0
+Lends line b (Tag span) = Cut line (span .from) (span .to)
+Lends line b (Entry i) = IsState b × Letter i
+
+-- the text r is the span of the line, or the current entry of the stack i in the state
+abbrev pub Hands : (line b : List ℕ) → Text → List ℕ → Type 0
+Hands line b (Tag span) r = r ≡ slice (span .from) (span .to) line
+Hands line b (Entry i) r = OfState b (λ st. r ≡ currentEntry st i)
