@@ -3,7 +3,7 @@
 use Prim.Native.Nat.{ℕ, zero, suc, _+_, _≤_, _<_}
 use mathlib.Core.Path.{_≡_, refl, sym, ap, _∙_, subst}
 use mathlib.Core.Bool.{true, false, false≢true}
-use mathlib.Core.Logic.{inl, inr}
+use mathlib.Core.Logic.{_⊎_, inl, inr}
 use mathlib.Core.List.{List, [], _∷_, _++_, append-nil}
 use mathlib.Core.Option.{Option, none, some}
 use native.Mathlib.Numerals.{add-one}
@@ -75,6 +75,16 @@ module _ (flags items : List ℕ) (at : ℕ) (h : at + 1 < length items) where
 
   pub absent-next : SomeAbsent flags (drop (at + 2) items) → SomeAbsent flags (drop at items)
   absent-next a = subst (SomeAbsent flags) (sym (cut items at h)) (inr a)
+
+  pub absent-past : (Absent flags (getD items at 0) (getD items (at + 1) 0) → ⊥) → SomeAbsent flags (drop at items) → SomeAbsent flags (drop (at + 2) items)
+  absent-past n a = by (subst (SomeAbsent flags) (cut items at h) a)
+    where
+      by : Absent flags (getD items at 0) (getD items (at + 1) 0) ⊎ SomeAbsent flags (drop (at + 2) items) → SomeAbsent flags (drop (at + 2) items)
+      by (inl x) = absurd (n x)
+      by (inr x) = x
+
+pub absent-over : (flags items : List ℕ) (at : ℕ) → length items ≤ at → SomeAbsent flags (drop at items) → ⊥
+absent-over flags items at h a = subst (SomeAbsent flags) (drop-of-length-le items {i = at} h) a
 
 -- THE DIVISIONS
 

@@ -1,7 +1,7 @@
 -- The items of a pattern by twos, a code and an operand.
 use Prim.Native.Nat.{ℕ, _≤_, _<_}
 use mathlib.Core.Path.{_≡_}
-use mathlib.Core.Bool.{Bool, true}
+use mathlib.Core.Bool.{Bool, true, false}
 use mathlib.Core.List.{List, [], _∷_}
 use Rattle.macros.specs.Formed.{Letter}
 
@@ -18,3 +18,7 @@ LetterIn c i = 16 ≤ c → c < 24 → Letter i
 -- what an answer of true says
 abbrev pub WhenTrue : Bool → Type 0 → Type 0
 WhenTrue r P = r ≡ true → P
+
+-- the answer is true exactly if P holds
+abbrev pub Exactly : Bool → Type 0 → Type 0
+Exactly r P = (r ≡ true → P) × (r ≡ false → P → ⊥)

@@ -4,7 +4,7 @@ use pass_marks::clear;
 ghost use mathlib.Core.Path.{_≡_};
 ghost use Prim.Native.Nat.{_≤_};
 ghost use lib.ListN.{length, set};
-ghost use Rattle.pass_lack.specs.Twos.{WhenTrue, LetterIn, Pairs};
+ghost use Rattle.pass_lack.specs.Twos.{Exactly, LetterIn, Pairs};
 ghost use Rattle.pass_lack.specs.Lacking.{flagsOf, Absent, SomeAbsent};
 
 // The line has the byte b.
@@ -31,7 +31,7 @@ pub fn note(line: &[u8], present: &mut [u8])
 // Whether an item is a literal that must stand, once or more, and the line lacks it.
 fn lacks_item(code: u8, b: u8, present: &[u8]) -> bool
     requires { ⌜ length (now present) ≡ 256 ⌝ }
-    ensures { λ r. ⌜ WhenTrue r (Absent (now (present .entry)) code b) ⌝ }
+    ensures { λ r. ⌜ Exactly r (Absent (now (present .entry)) code b) ⌝ }
 {
     if code < LITERAL {
         return false;
@@ -45,7 +45,7 @@ fn lacks_item(code: u8, b: u8, present: &[u8]) -> bool
 // Whether a pattern must have a byte that the line lacks.
 pub fn lacks(items: &[u8], present: &[u8]) -> bool
     requires { ⌜ Pairs LetterIn (now items) × (length (now items) ≤ 1014) × (length (now present) ≡ 256) ⌝ }
-    ensures { λ r. ⌜ WhenTrue r (SomeAbsent (now (present .entry)) (now (items .entry))) ⌝ }
+    ensures { λ r. ⌜ Exactly r (SomeAbsent (now (present .entry)) (now (items .entry))) ⌝ }
 {
     let mut at = 0;
     while at < items.len() {

@@ -1,6 +1,6 @@
 -- The marks of failed pairs of a closure and a place, of which 01 knows nothing: they spare the matcher work.
 -- A pair has failed if the rest of the pattern from this closure on, with any number of its copies still to come,
--- has no division at that place (`Sound`, `pass_match: Marks`).
+-- has no division at that place (`Sound`, `pass_one: Marks`).
 -- The closure's item begins at the byte `at` of the items, two bytes to an item; the place of the line is q.
 -- A row has 132 bytes, 1,056 bits: for even `at` and q below 1,056 different pairs have different bits.
 use Prim.Native.Nat.{ℕ, _+_, _*_, _/_, _%_, _^_, _<_}

@@ -1,5 +1,5 @@
 -- The marks as a set of pairs: of a closure, by the first byte of its item, and a place of the line.
--- What a pair in the set says of the pattern, that no division goes through that closure and place, is `Sound` (`pass_match: Marks`).
+-- What a pair in the set says of the pattern, that no division goes through that closure and place, is `Sound` (`pass_one: Marks`).
 use Prim.Native.Nat.{ℕ, _%_, _≤_, _<_}
 use mathlib.Core.Path.{_≡_}
 use mathlib.Core.Logic.{_⊎_}

@@ -26,10 +26,10 @@ use Rattle.form_state.specs.Access.{Holds}
 use Rattle.pass_moment.specs.Moments.{pastPlaces}
 use Rattle.pass_unit.specs.Pattern.{IsPattern, IsRest}
 use Rattle.pass_one.specs.Finding.{Ready, pickLast, lastOf, FoundAt, countedOf, Differs, LastPlace, Finds}
-use Rattle.pass_match.specs.Trying.{answer, lastStop, Said, Trying, Tried}
+use Rattle.pass_one.specs.Trying.{answer, lastStop, Said, Trying, Tried}
 use Rattle.pass_unit.proofs.TextLaws.{byte-here, byte-past}
-use Rattle.pass_match.specs.declared.Found.{Found}
-use Rattle.pass_match.specs.declared.Found.the-variants.{Matched, NoMatch}
+use Rattle.pass_one.specs.declared.Found.{Found}
+use Rattle.pass_one.specs.declared.Found.the-variants.{Matched, NoMatch}
 
 -- the whole pattern begins at 0
 whole : (items : List ℕ) (es : List Piece) → IsPattern items es → IsRest items 0 es

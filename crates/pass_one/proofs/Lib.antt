@@ -1,3 +1,7 @@
+pub mod MarkLaws
+pub mod RepeatLaws
+pub mod TryLaws
+pub mod RowLaws
 pub mod FindLaws
 pub mod CallLaws
 pub mod GrowLaws

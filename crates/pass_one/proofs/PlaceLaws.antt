@@ -16,15 +16,14 @@ use Rattle.refusals.specs.declared.WorkFault.{WorkFault}
 use Rattle.refusals.specs.declared.WorkFault.the-variants.{NewLineTooLong}
 use Rattle.refusals.specs.declared.Outcome.{Outcome}
 use Rattle.refusals.specs.declared.Outcome.the-variants.{Made, Refused as MadeRefused}
-use Rattle.pass_tags.specs.Tags.{EndsFrom}
-use Rattle.pass_replace.specs.Contract.{IsSlot, IsDivided, Lent, Occurs}
+use Rattle.pass_replace.specs.Contract.{EndsFrom, IsSlot, IsDivided, Lent, Occurs}
 use Rattle.pass_steps.specs.Moments.{IsMoment, doneOf, sizeOf}
-use Rattle.pass_match.specs.declared.Found.{Found}
-use Rattle.pass_match.specs.declared.Found.the-variants.{Matched, NoMatch}
+use Rattle.pass_one.specs.declared.Found.{Found}
+use Rattle.pass_one.specs.declared.Found.the-variants.{Matched, NoMatch}
 use Rattle.pass_moment.specs.declared.Moment.{Moment}
 use Rattle.pass_moment.specs.declared.Refusal.the-variants.{NotRefused}
 use Rattle.pass_one.specs.Finding.{Ready, FoundAt, countedOf, Finds, Differs}
-use Rattle.pass_match.specs.Trying.{Tried}
+use Rattle.pass_one.specs.Trying.{Tried}
 use Rattle.pass_one.specs.Seen.{Seen, Renewing, Renewed}
 use Rattle.pass_moment.specs.Moments.{movedTo, refusedAt, afterOf, Copies, StepsOver}
 use Rattle.pass_one.specs.Places.{matchAt, AtPlace, Makes, MovesTo, Goes, GoesBy}

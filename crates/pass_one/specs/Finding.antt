@@ -16,10 +16,10 @@ use Rattle.lines.specs.Matching.{Division, endOf, stops}
 use Rattle.lines.specs.Choosing.{chosen}
 use Rattle.lines.specs.Pass.{match}
 use Rattle.form_state.specs.Access.{Holds, IsState}
-use Rattle.pass_tags.specs.Tags.{EndsFrom}
-use Rattle.pass_match.specs.Marks.{rowsBytes, Sound}
-use Rattle.pass_match.specs.declared.Found.{Found}
-use Rattle.pass_match.specs.declared.Found.the-variants.{Matched, NoMatch}
+use Rattle.pass_replace.specs.Contract.{EndsFrom}
+use Rattle.pass_one.specs.Marks.{rowsBytes, Sound}
+use Rattle.pass_one.specs.declared.Found.{Found}
+use Rattle.pass_one.specs.declared.Found.the-variants.{Matched, NoMatch}
 use Rattle.pass_unit.specs.Pattern.{IsPattern}
 
 -- the matcher's memories: `ends` has a place for each byte of the items, `marks` 66 bytes

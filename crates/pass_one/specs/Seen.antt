@@ -8,7 +8,7 @@ use Rattle.macros.specs.Macro.{Piece}
 use Rattle.form_table.specs.Form.{bodyBytes}
 use Rattle.lines.specs.State.{State, currentEntry, counterOf}
 use Rattle.form_state.specs.Access.{Holds, IsState}
-use Rattle.pass_match.specs.Marks.{rowsBytes, Sound}
+use Rattle.pass_one.specs.Marks.{rowsBytes, Sound}
 use Rattle.pass_unit.specs.Pattern.{IsPattern}
 use Rattle.pass_lack.specs.Twos.{Pairs}
 

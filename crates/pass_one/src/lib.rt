@@ -1,6 +1,6 @@
 // A pass (01, parts 3 and 5): one macro over one line.
 mod keeping;
-mod places;
+mod matcher;
 mod walking;
 
 use form_items::layout::BEFORE_AT;
@@ -16,6 +16,12 @@ use walking::first_match;
 use walking::walk;
 ghost use Rattle.pass_one.specs.Contract.{Lent, Passes};
 ghost use Rattle.pass_one.specs.Places.{SomeSlot, ItemsOf, ToTry, Walking};
+
+// Where a match ends.
+pub(crate) enum Found {
+    Matched(usize),
+    NoMatch,
+}
 
 // A pass. Without a match nothing changes. A pattern that must have a byte which the line lacks has no match.
 pub fn pass(

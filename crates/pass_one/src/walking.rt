@@ -1,10 +1,10 @@
 // A pass, place by place.
+use crate::Found;
 use crate::keeping::renew;
-use crate::places::counted;
-use crate::places::differs;
-use crate::places::last_place;
-use pass_match::Found;
-use pass_match::elements;
+use crate::matcher::counted;
+use crate::matcher::differs;
+use crate::matcher::elements;
+use crate::matcher::last_place;
 use pass_moment::Moment;
 use pass_moment::Passed;
 use pass_moment::after;

@@ -19,7 +19,7 @@ use Rattle.form_table.specs.Actions.{numberIn, textIn, actionSize}
 use Rattle.pass_texts.proofs.Inserting.{puts-does}
 use Rattle.form_table.proofs.Actions.{some-size}
 use Rattle.pass_steps.specs.Moments.{sizeOf, Does, Inserts, Changes, Onward}
-use Rattle.pass_tags.specs.Tags.{tagIn}
+use Rattle.pass_replace.specs.Tags.{tagIn}
 use Rattle.pass_replace.specs.Acting.{taggedIn, actIn, storedIn, dividesIn, accessIn, actionIn, actsIn, Fits}
 use Rattle.pass_call.specs.Moving.{movesIn, setsIn}
 use Rattle.pass_texts.specs.Inserting.{insertsIn, Fit}
@@ -27,7 +27,7 @@ use Rattle.pass_replace.specs.Acting.Fits.{none, next}
 use Rattle.refusals.specs.declared.WorkFault.{WorkFault}
 use Rattle.refusals.specs.declared.Outcome.{Outcome}
 use Rattle.refusals.specs.declared.Outcome.the-variants.{Made, Refused}
-use Rattle.pass_steps.proofs.Stepping.{does-then, does-stop, does-by, does-none, does-onward, changes-does}
+use Rattle.pass_steps.proofs.Stepping.{does-then, does-stop, does-by, does-none, does-onward, changes-by, changes-does}
 
 -- WHAT IS STORED
 
@@ -48,20 +48,18 @@ letter-of t f h = f .letter (λ e. omega arith) (λ e. omega arith)
 
 -- AN ACTION, by its code
 
-module _ (tag t : List ℕ) {out b b₁ : List ℕ} {k : ℕ} {r : Outcome} where
-  pub access-insert : {out₁ : List ℕ} → getD t 0 0 < 64 → Does (insertsIn tag t) out b k out₁ b₁ r → Does (accessIn tag t) out b k out₁ b₁ r
+module _ (tag t : List ℕ) {b b₁ : List ℕ} {k : ℕ} {r : Outcome} where
+  pub access-insert : {out out₁ : List ℕ} → getD t 0 0 < 64 → Does (insertsIn tag t) out b k out₁ b₁ r → Does (accessIn tag t) out b k out₁ b₁ r
   unfolding accessIn pick
   access-insert h p = does-by (λ w. rw (lt-ltb (getD t 0 0) 64 h)) p
 
-  pub access-store : (x : List ℕ) → 64 ≤ getD t 0 0 → getD t 0 0 < 80 → k ≤ mostLineBytes → x ≡ storedIn tag t → Changes (stores (getD t 1 0) x) b k b₁ r → Does (accessIn tag t) out b k out b₁ r
+  pub access-store : (x : List ℕ) → 64 ≤ getD t 0 0 → getD t 0 0 < 80 → x ≡ storedIn tag t → Changes (stores (getD t 1 0) x) b k b₁ r → Changes (accessIn tag t) b k b₁ r
   unfolding accessIn pick
-  access-store x g h l e p =
-      does-by (λ w. rw (le-ltb (getD t 0 0) 64 g, lt-ltb (getD t 0 0) 80 h, ← e)) (changes-does out p l)
+  access-store x g h e p = changes-by (λ w. rw (le-ltb (getD t 0 0) 64 g, lt-ltb (getD t 0 0) 80 h, ← e)) p
 
-  pub access-set : {x : ℕ} → 80 ≤ getD t 0 0 → getD t 0 0 < 104 → k ≤ mostLineBytes → x ≡ numberIn t → Changes (setsIn (getD t 0 0) (getD t 1 0) x) b k b₁ r
-      → Does (accessIn tag t) out b k out b₁ r
+  pub access-set : {x : ℕ} → 80 ≤ getD t 0 0 → getD t 0 0 < 104 → x ≡ numberIn t → Changes (setsIn (getD t 0 0) (getD t 1 0) x) b k b₁ r → Changes (accessIn tag t) b k b₁ r
   unfolding accessIn pick
-  access-set h g l e p = does-by (λ w. rw (le-ltb (getD t 0 0) 64 (omega arith), le-ltb (getD t 0 0) 80 h, lt-ltb (getD t 0 0) 104 g, ← e)) (changes-does out p l)
+  access-set h g e p = changes-by (λ w. rw (le-ltb (getD t 0 0) 64 (omega arith), le-ltb (getD t 0 0) 80 h, lt-ltb (getD t 0 0) 104 g, ← e)) p
 
 module _ (tag t : List ℕ) {out b : List ℕ} {k : ℕ} {r : Outcome} where
   pub access-divide : (v x : ℕ) {out₁ : List ℕ} → 104 ≤ getD t 0 0 → IsState b → OfState b (λ st. v ≡ counterOf st (getD t 1 0) .value) → x ≡ numberIn t → Inserts (dividedText v x) out k out₁ r

@@ -26,7 +26,7 @@ use Rattle.lines.specs.Replacing.Done.{bad, good}
 use Rattle.lines.proofs.KeepTests.{within-between}
 use Rattle.form_table.specs.Actions.{numberIn, textIn, Held}
 use Rattle.form_table.proofs.Actions.{even-taken, action-size, action-some, action-rest}
-use Rattle.pass_tags.specs.Tags.{tagIn}
+use Rattle.pass_replace.specs.Tags.{tagIn}
 use Rattle.pass_replace.specs.Acting.{taggedIn, actIn, storedIn, dividesIn, accessIn, actionIn, actsIn, Fits}
 use Rattle.pass_steps.specs.Codes.{markIn}
 use Rattle.pass_call.specs.Moving.{moveIn, movesIn, setsIn}

@@ -1,3 +1,4 @@
+pub mod Braces
 pub mod Acting
 pub mod Decoding
 pub mod Parts

@@ -11,11 +11,11 @@ use Rattle.form_table.specs.Check.{twoAt}
 use Rattle.lines.specs.Matching.{Division, stops}
 use Rattle.lines.specs.Replacing.{Work, occur}
 use Rattle.pass_replace.specs.Contract.{IsSlot, IsDivided, Lent, Occurs}
-use Rattle.pass_tags.specs.Tags.{Divided}
+use Rattle.pass_replace.specs.Tags.{Divided}
 use Rattle.pass_replace.specs.Acting.{actIn, actsIn, Fits}
 use Rattle.pass_steps.specs.Moments.{Does}
 use Rattle.refusals.specs.declared.Outcome.{Outcome}
-use Rattle.pass_tags.proofs.Braces.{tag-is}
+use Rattle.pass_replace.proofs.Braces.{tag-is}
 use Rattle.pass_replace.proofs.Decoding.{actions-do, both-do}
 use Rattle.pass_replace.proofs.Parts.{slot-long, pattern-long, parts-short, pattern-here, actions-here, actions-all, actions-fitting}
 

@@ -17,7 +17,7 @@ use Rattle.lines.specs.Line.{textOf}
 use Rattle.form_state.specs.Access.{Holds}
 use Rattle.pass_steps.specs.Moments.{IsMoment, Does}
 use Rattle.pass_replace.specs.Contract.{Prepared, Prepares}
-use Rattle.pass_tags.specs.Tags.{tagIn, Divided}
+use Rattle.pass_replace.specs.Tags.{tagIn, Divided}
 use Rattle.pass_replace.specs.Acting.{actIn, actsIn, Fits}
 use Rattle.refusals.specs.declared.Outcome.{Outcome}
 use Rattle.refusals.specs.declared.Outcome.the-variants.{Made}

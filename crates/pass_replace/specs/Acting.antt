@@ -10,7 +10,7 @@ use Rattle.lines.specs.Dividing.{dividedText}
 use Rattle.lines.specs.Replacing.{Work, Done, _>>=_, puts, stores}
 use Rattle.lines.specs.Replacing.Done.{good}
 use Rattle.form_table.specs.Actions.{numberIn, textIn, actionSize}
-use Rattle.pass_tags.specs.Tags.{tagIn}
+use Rattle.pass_replace.specs.Tags.{tagIn}
 use Rattle.pass_texts.specs.Inserting.{insertsIn, Fit}
 use Rattle.pass_call.specs.Moving.{movesIn, setsIn}
 

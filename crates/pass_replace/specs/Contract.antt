@@ -1,25 +1,31 @@
 -- What the functions of an occurrence (01, part 4) and of the calls before a pattern (02, N2) promise.
-use Prim.Native.Nat.{ℕ, _≤_}
+use Prim.Native.Nat.{ℕ, _+_, _≤_}
 use mathlib.Core.Path.{_≡_}
-use mathlib.Core.List.{List}
+use mathlib.Core.List.{List, [], _∷_}
 use lib.ListN.{length, getD, drop}
 use Rattle.macros.specs.Bounds.{mostLineBytes}
-use Rattle.macros.specs.Macro.{Macro}
+use Rattle.macros.specs.Macro.{Piece, Macro}
 use Rattle.macros.specs.Formed.{Bytes}
 use Rattle.macros.specs.Accepted.{Spellable}
-use Rattle.form_table.specs.Form.{bodyBytes, slot}
+use Rattle.form_table.specs.Form.{bodyBytes, pieceItems, slot}
 use Rattle.lines.specs.State.{State}
 use Rattle.lines.specs.Matching.{Division, stops}
 use Rattle.lines.specs.Replacing.{Work, startIn, beforeActs, occur}
 use Rattle.form_state.specs.Access.{Holds, IsState}
 use Rattle.refusals.specs.declared.Outcome.{Outcome}
-use Rattle.pass_tags.specs.Tags.{EndsFrom}
 use Rattle.pass_steps.specs.Moments.{IsMoment, doneOf, sizeOf}
 
 -- the bytes s are the slot of the macro m, which some file spells
 pub record IsSlot (s : List ℕ) (m : Macro) : Type 0 where
   pub spellable : Spellable m
   pub form : slot m ≡ s
+
+-- where each piece's span ends stands at the place of its first item; k: the place of these pieces' first
+abbrev pub EndsFrom : List ℕ → ℕ → List Piece → List ℕ → Type 0
+EndsFrom ends k [] [] = Unit {0}
+EndsFrom ends k [] (q ∷ qs) = ⊥
+EndsFrom ends k (e ∷ es) [] = ⊥
+EndsFrom ends k (e ∷ es) (q ∷ qs) = (getD ends k 0 ≡ q) × EndsFrom ends (k + length (pieceItems e)) es qs
 
 -- the ends are those of the division d of the macro m
 pub record IsDivided (s ends : List ℕ) (m : Macro) (d : Division) : Type 0 where

@@ -1,5 +1,6 @@
 // Replacing (01, part 4): what an occurrence inserts and changes; and what the calls before a pattern change (02, N2).
 mod actions;
+mod tags;
 
 use actions::act;
 use form_items::layout::BEFORE_AT;

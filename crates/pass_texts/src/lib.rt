@@ -1,10 +1,10 @@
 // What an action inserts (01, part 4).
 use form_state::value;
+use pass_steps::Span;
+use pass_steps::Text;
 use pass_steps::copy;
 use pass_steps::is_within;
-use pass_tags::Span;
-use pass_tags::Text;
-use pass_tags::part;
+use pass_steps::part;
 use refusals::Outcome;
 use refusals::WorkFault;
 ghost use mathlib.Core.Path.{_≡_};
@@ -15,7 +15,7 @@ ghost use Rattle.macros.specs.Bounds.{mostCounter};
 ghost use Rattle.macros.specs.Write.{digits};
 ghost use Rattle.lines.specs.Dividing.{dividedText};
 ghost use Rattle.form_state.specs.Access.{IsState};
-ghost use Rattle.pass_tags.specs.Tags.{Cut};
+ghost use Rattle.pass_steps.specs.Texts.{Cut};
 ghost use Rattle.pass_texts.specs.Inserting.{Fit, insertsIn};
 ghost use Rattle.pass_steps.specs.Moments.{Room, Inserts, Does};
 ghost use Rattle.pass_texts.specs.Digits.{Digits, Figures};

@@ -16,7 +16,7 @@ lacks-requires : tie.Need-lacks-requires
 lacks-requires c κs = let y = c .before .before .before .before .before .before .pre in let i = c .items-of .ensures in (pattern-letters _ (y .macro .0 .pattern) (i .pattern (y .macro .0) (y .macro .1)), i .fits, ap length (y .flags) ∙ flags-size _)
 
 returns : tie.Need-returns
-returns c = pass-lacks _ _ _ _ _ _ _ (c .before .before .before .before .before .before .before .before .pre) (c .before .before .items-of .ensures) (c .before .lacks .ensures (c .if1 .taken))
+returns c = pass-lacks _ _ _ _ _ _ _ (c .before .before .before .before .before .before .before .before .pre) (c .before .before .items-of .ensures) (c .before .lacks .ensures .0 (c .if1 .taken))
 
 mul-rows : tie.Need-mul-rows
 mul-rows c = omega (arith, c .before .before .items-of .ensures .fits)

@@ -7,7 +7,7 @@ use Rattle.form_state.specs.Access.{IsState}
 use Rattle.form_table.specs.Actions.{actionSize}
 use Rattle.form_table.proofs.Actions.{tail-part}
 use Rattle.pass_replace.specs.Acting.{actsIn, Fits}
-use Rattle.pass_tags.proofs.Braces.{span-cut}
+use Rattle.pass_replace.proofs.Braces.{span-cut}
 use Rattle.pass_steps.proofs.Stepping.{does-room}
 use Rattle.pass_replace.proofs.Acting.{acts-tagged, Rest, rest-all, rest-end, rest-stop, rest-next, fit-here, fit-next, fit-end}
 use Rattle.pass_replace.proofs.actions.act.Statement.{statement}

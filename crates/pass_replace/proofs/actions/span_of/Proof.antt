@@ -3,7 +3,7 @@ use native.Mathlib.Omega.{arith}
 use lib.ListN.{getD}
 use Rattle.form_table.proofs.Basics.{within-low, within-high}
 use Rattle.form_table.proofs.Actions.{some-size, size-tag}
-use Rattle.pass_tags.proofs.Braces.{spans-by, spans-nothing}
+use Rattle.pass_replace.proofs.Braces.{spans-by, spans-nothing}
 use Rattle.pass_replace.proofs.Acting.{tagged-inserted, tagged-stored, tagged-none}
 use borrow.Author.Needs.{needs}
 use Rattle.pass_replace.proofs.actions.span_of.Statement.{statement}

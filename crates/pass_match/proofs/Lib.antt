@@ -1,4 +1,0 @@
-pub mod MarkLaws
-pub mod RepeatLaws
-pub mod TryLaws
-pub mod RowLaws
