@@ -7,7 +7,7 @@ use mathlib.Core.List.{List, []}
 use native.Mathlib.Omega.{arith}
 use lib.ListN.{length, take, replicate, length-replicate}
 use Rattle.kinds.specs.Kind.{kindTable}
-use Rattle.pass_one.specs.Lacking.{flagsOf}
+use Rattle.pass_lack.specs.Lacking.{flagsOf}
 use Rattle.macros.specs.Bounds.{mostLineBytes, mostTraceBytes}
 use Rattle.macros.specs.Macro.{Table}
 use Rattle.macros.specs.Formed.{Bytes}

@@ -19,8 +19,8 @@ use Rattle.lines.specs.Line.{passOf, isControl}
 use Rattle.form_state.specs.Access.{IsState}
 use Rattle.pass_replace.specs.Contract.{IsSlot}
 use Rattle.pass_one.specs.Contract.{sizeOf}
-use Rattle.pass_one.specs.Lacking.{flagsOf}
-use Rattle.pass_one.proofs.LackLaws.{flags-size}
+use Rattle.pass_lack.specs.Lacking.{flagsOf}
+use Rattle.pass_lack.proofs.LackLaws.{flags-size}
 use Rattle.refusals.specs.declared.WorkFault.{WorkFault}
 use Rattle.pass_moment.specs.declared.Passed.{Passed}
 use Rattle.pass_moment.specs.declared.Passed.the-variants.{Over as Passing, Refused as Refuses}

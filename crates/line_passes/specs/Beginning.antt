@@ -12,7 +12,8 @@ use Rattle.lines.specs.Pass.{occurred, outcome}
 use Rattle.lines.specs.Line.{Pass, isIn, prepares, passOf, textOf}
 use Rattle.form_state.specs.Access.{Holds}
 use Rattle.refusals.specs.declared.Outcome.{Outcome}
-use Rattle.pass_replace.specs.Contract.{IsSlot, Prepared, doneOf}
+use Rattle.pass_steps.specs.Moments.{doneOf}
+use Rattle.pass_replace.specs.Contract.{IsSlot, Prepared}
 use Rattle.pass_moment.specs.declared.Passed.{Passed}
 use Rattle.pass_moment.specs.declared.Passed.the-variants.{Over, Refused}
 use Rattle.pass_one.specs.Contract.{Lent, SaysOccurred, sizeOf, doneOf as passedOf}

@@ -14,7 +14,7 @@ use Rattle.lines.specs.Line.{Pass, Line, isControl, passes, hadOccurrence, pass
 use Rattle.lines.specs.Trace.{threeLines, traceOf, isOn, cutIf}
 use Rattle.form_state.specs.Access.{Holds, IsState, OfState}
 use Rattle.pass_one.specs.Contract.{sizeOf}
-use Rattle.pass_one.specs.Lacking.{flagsOf}
+use Rattle.pass_lack.specs.Lacking.{flagsOf}
 use Rattle.pass_moment.specs.declared.Passed.{Passed}
 use Rattle.pass_moment.specs.declared.Passed.the-variants.{Over as Passes, Refused as Refuses}
 use Rattle.line_memory.specs.Memory.{IsTable, Counted, padded}

@@ -5,7 +5,7 @@ mod slots;
 
 use kinds::kind_table;
 use line_memory::lay_out;
-use pass_one::lacking::note;
+use pass_lack::note;
 use passes::all_passes;
 use refusals::WorkFault;
 ghost use mathlib.Core.Path.{_≡_};

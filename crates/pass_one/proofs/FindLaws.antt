@@ -24,10 +24,10 @@ use Rattle.lines.specs.Pass.{barred, unlessBarred, counting, match}
 use Rattle.lines.proofs.MoreLaws.{stopsOf}
 use Rattle.form_state.specs.Access.{Holds}
 use Rattle.pass_moment.specs.Moments.{pastPlaces}
-use Rattle.pass_one.specs.Pattern.{IsPattern, IsRest}
+use Rattle.pass_unit.specs.Pattern.{IsPattern, IsRest}
 use Rattle.pass_one.specs.Finding.{Ready, pickLast, lastOf, FoundAt, countedOf, Differs, LastPlace, Finds}
 use Rattle.pass_one.specs.Trying.{answer, lastStop, Said, Trying, Tried}
-use Rattle.pass_one.proofs.TextLaws.{byte-here, byte-past}
+use Rattle.pass_unit.proofs.TextLaws.{byte-here, byte-past}
 use Rattle.pass_one.specs.declared.Found.{Found}
 use Rattle.pass_one.specs.declared.Found.the-variants.{Matched, NoMatch}
 

@@ -15,7 +15,8 @@ use Rattle.lines.specs.Choosing.{chosen}
 use Rattle.lines.specs.Replacing.{Work, startIn}
 use Rattle.lines.specs.Pass.{match, counting, pass}
 use Rattle.form_state.specs.Access.{Holds}
-use Rattle.pass_replace.specs.Contract.{IsSlot, IsMoment}
+use Rattle.pass_replace.specs.Contract.{IsSlot}
+use Rattle.pass_steps.specs.Moments.{IsMoment}
 use Rattle.pass_replace.proofs.Preparing.{zeros}
 use Rattle.pass_moment.specs.declared.Passed.{Passed}
 use Rattle.pass_moment.specs.declared.Passed.the-variants.{Over}
@@ -24,18 +25,19 @@ use Rattle.pass_one.specs.declared.Found.the-variants.{Matched, NoMatch}
 use Rattle.pass_one.specs.declared.walking.First.{First}
 use Rattle.pass_one.specs.declared.walking.First.the-variants.{At, Nowhere}
 use Rattle.pass_moment.specs.declared.Moment.{Moment}
-use Rattle.pass_one.specs.Contract.{rowsBytes, Lent, HeldBy, Passes, sizeOf}
+use Rattle.pass_one.specs.Marks.{rowsBytes, Sound}
+use Rattle.pass_one.specs.Contract.{Lent, HeldBy, Passes, sizeOf}
 use Rattle.pass_moment.specs.declared.Refusal.{Refusal}
 use Rattle.pass_moment.specs.declared.Refusal.the-variants.{NotRefused, RefusedBy}
-use Rattle.pass_one.specs.Lacking.{flagsOf, SomeAbsent}
-use Rattle.pass_one.specs.Marks.{Sound}
-use Rattle.pass_one.specs.Finding.{IsPattern, Ready, Differs, LastPlace, Finds}
+use Rattle.pass_lack.specs.Lacking.{flagsOf, SomeAbsent}
+use Rattle.pass_unit.specs.Pattern.{IsPattern}
+use Rattle.pass_one.specs.Finding.{Ready, Differs, LastPlace, Finds}
 use Rattle.pass_one.specs.Trying.{Tried}
 use Rattle.pass_one.specs.Seen.{Seen}
 use Rattle.pass_moment.specs.Moments.{pastPlaces, startAt, Starts, StepsOver, answerOf, passedOf}
 use Rattle.pass_one.specs.Places.{matchAt, ItemsOf, ToTry, AtPlace, Makes, Goes, GoesBy, NoneBelow, Searches, Walking, Origin, Came, Reached, Going}
 use Rattle.pass_one.proofs.MarkLaws.{sound-zero}
-use Rattle.pass_one.proofs.LackLaws.{absent-none}
+use Rattle.pass_lack.proofs.LackLaws.{absent-none}
 use Rattle.pass_one.proofs.FindLaws.{find-first, tried-none}
 use Rattle.pass_one.proofs.MomentLaws.{below-or, pass-starts, pass-none, pass-goes-on}
 use Rattle.pass_one.proofs.PlaceLaws.{drop-on, finds-none, goes-free, makes}
