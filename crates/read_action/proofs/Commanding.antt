@@ -20,15 +20,16 @@ use Rattle.macros.specs.ReadSoFar.Step.{on, stop}
 use Rattle.form_table.specs.Form.{callsItems, callItems}
 use Rattle.read_scan.specs.Scan.{MacroRead, run, noted, Here, Passes, Reached}
 use Rattle.form_items.specs.Items.{Wrote}
-use Rattle.read_call.specs.Call.{CalledFrom, Called, markOf, nextEnd, leftBy}
+use Rattle.read_call.specs.Call.{CalledFrom, Called, markOf}
+use Rattle.read_ends.specs.Ends.{nextEnd, leftBy}
 use Rattle.read_action.specs.Action.{Ahead, Lists, Does, CommandFrom, ListedFrom, CommandsRead, BeforeFrom, BeforeRead, siteBy, lastByte, strayByte, tagsAhead, listed}
 use Rattle.read_scan.specs.declared.FileFault.{FileFault}
 use Rattle.read_scan.specs.declared.FileFault.the-variants.{Incomplete}
 use Rattle.read_scan.specs.declared.Next.{Next}
 use Rattle.read_scan.specs.declared.Next.the-variants.{Byte, Refused as NoByte}
-use Rattle.read_call.specs.declared.Ended.{Ended}
-use Rattle.read_call.specs.declared.Ended.the-variants.{Upto, Refused as NoEnd}
-use Rattle.read_call.proofs.Leaving.{zeroed}
+use Rattle.read_ends.specs.declared.Ended.{Ended}
+use Rattle.read_ends.specs.declared.Ended.the-variants.{Upto, Refused as NoEnd}
+use Rattle.read_ends.proofs.Leaving.{zeroed}
 use Rattle.read_scan.proofs.Laws.{here-on, here-stop, here-same, reached-behind, reached-at}
 use Rattle.form_items.proofs.Writing.{wrote-none, wrote-more}
 

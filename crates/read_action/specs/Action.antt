@@ -19,12 +19,13 @@ use Rattle.read_scan.specs.Scan.MacroRead.{refusedAt}
 use Rattle.form_table.specs.Form.{replacementItems, callsItems}
 use Rattle.read_scan.specs.Scan.{faultOf, run, Reached, Here}
 use Rattle.form_items.specs.Items.{Wrote}
-use Rattle.read_call.specs.Call.{markOf, Zeroed}
+use Rattle.read_call.specs.Call.{markOf}
+use Rattle.read_ends.specs.Ends.{Zeroed}
 use Rattle.read_scan.specs.declared.FileFault.{FileFault}
 use Rattle.read_scan.specs.declared.Next.{Next}
 use Rattle.read_scan.specs.declared.Next.the-variants.{Byte, Refused as NoByte}
-use Rattle.read_call.specs.declared.Ended.{Ended}
-use Rattle.read_call.specs.declared.Ended.the-variants.{Upto, Refused as NoEnd}
+use Rattle.read_ends.specs.declared.Ended.{Ended}
+use Rattle.read_ends.specs.declared.Ended.the-variants.{Upto, Refused as NoEnd}
 
 -- BETWEEN PATTERN AND REPLACEMENT
 

@@ -27,13 +27,13 @@ use Rattle.form_faults.specs.Form.{faultItems, faultsBytes, faultsForm, listByt
 use Rattle.form_faults.proofs.Laws.{form-length, four-length, items-append, items-length}
 use Rattle.read_scan.specs.Scan.{faultOf}
 use Rattle.read_scan.specs.declared.FileFault.{FileFault}
-use Rattle.read_file.specs.Next.{nextFrom}
-use Rattle.read_file.specs.Next.Coming.{refusedAt, noMore}
+use Rattle.read_start.specs.Next.{nextFrom}
+use Rattle.read_start.specs.Next.Coming.{refusedAt, noMore}
 use Rattle.read_file.specs.File.{InSlot, NextSlot}
 use Rattle.read_file.specs.declared.Found.{Found as FoundNext}
 use Rattle.read_file.specs.declared.Found.the-variants.{Macro as MacroUpTo, End, Refused as NotFound}
 use Rattle.read_file.proofs.Adding.{slots-append}
-use Rattle.read_file.proofs.Coming.{next-place}
+use Rattle.read_start.proofs.Coming.{next-place}
 use Rattle.read_past.specs.Past.{Answered, Lists, Moved, Notes, Standing, noFault, orZero, overWith, resumesAt, withFaults}
 use Rattle.read_past.specs.Past.Notes.{listed as noted, oneTooMany, unlisted}
 use Rattle.read_past.specs.declared.Moment.{Moment}

@@ -18,8 +18,8 @@ use Rattle.form_faults.specs.Form.{faultsBytes, faultsForm}
 use Rattle.read_scan.specs.Scan.{faultOf}
 use Rattle.read_file.specs.declared.Found.{Found}
 use Rattle.read_file.specs.declared.Found.the-variants.{Macro as MacroUpTo, End, Refused as NotFound}
-use Rattle.read_file.specs.declared.FileTest.{FileTest}
-use Rattle.read_file.specs.declared.FileTest.the-variants.{Plain, Refused as NotPlain}
+use Rattle.read_start.specs.declared.FileTest.{FileTest}
+use Rattle.read_start.specs.declared.FileTest.the-variants.{Plain, Refused as NotPlain}
 use Rattle.read_past.specs.declared.Moment.{Moment}
 use Rattle.read_past.specs.declared.Moment.the-variants.{On, Ended, Refused as Stops}
 use Rattle.read_past.specs.declared.Past.{Past}
