@@ -3,24 +3,23 @@
 use mathlib.Core.Path.{_≡_, refl, sym}
 use mathlib.Core.Bool.{Bool, true, false, _||_, true≢false}
 use mathlib.Core.List.{List, [], _∷_}
-use Prim.Native.Nat.{ℕ, _+_, _-_, _≤_, _<_}
-use native.Mathlib.Omega.{arith}
-use lib.Dec.{eqb, ltb}
-use borrow.Author.Tests.{ne-eqb, le-ltb, lt-ltb}
-use Rattle.macros.specs.Refusals.FileRefusal.{incomplete, noUnit, badBrace, noElement, macroTooLong}
-use Rattle.macros.specs.Macro.{Mark, PatternUnit, Piece, pick, among, within, asciiLower, markByte, tags, depth, elements}
+use Prim.Native.Nat.{ℕ, _+_, _-_}
+use lib.Dec.{eqb}
+use borrow.Author.Tests.{ne-eqb}
+use Rattle.macros.specs.Refusals.FileRefusal.{incomplete, noUnit}
+use Rattle.macros.specs.Macro.{Mark, PatternUnit, Piece, pick, among, within, asciiLower, markByte}
 use Rattle.macros.specs.Macro.Closure.{once, oneOrMore, zeroOrMore}
 use Rattle.macros.specs.Macro.PatternUnit.{literal, kind, callOf}
-use Rattle.macros.specs.Macro.Piece.{element, start, end, left, right}
-use Rattle.macros.specs.Read.{Prior, partByte, skips, breaks, escaped, signs, kindDigit, hold, patternEnd, sign, fresh, closes, patternByte, openedByte, otherwise}
+use Rattle.macros.specs.Macro.Piece.{element, start, end}
+use Rattle.macros.specs.Read.{Prior, partByte, skips, breaks, escaped, signs, kindDigit, hold, sign, fresh, closes, patternByte, openedByte, otherwise}
 use Rattle.macros.specs.ReadSoFar.Joinable.{nothing, unit, starred, query, marked}
 use Rattle.macros.specs.ReadSoFar.Last.{free}
-use Rattle.macros.specs.ReadSoFar.Part.{pattern, patternEscape, opened, members, patternCall, patternCalled, awaitSymbol}
+use Rattle.macros.specs.ReadSoFar.Part.{pattern, patternEscape, opened, members, patternCall, patternCalled}
 use Rattle.macros.specs.ReadSoFar.Step.{on}
-use Rattle.read_scan.specs.Scan.MacroRead.{refusedAt, patternTo}
+use Rattle.read_scan.specs.Scan.MacroRead.{refusedAt}
 use Rattle.read_scan.specs.Scan.{run, At, Here, wrongCall}
 use Rattle.read_element.specs.Element.{markAt}
-use Rattle.read_scan.proofs.Laws.{here-noted, here-late, at-on, at-same, here-on, here-stop, here-same, otherwise-wrong}
+use Rattle.read_scan.proofs.Laws.{at-on, at-same, here-on, here-stop, here-same, otherwise-wrong}
 
 or-more : (x y z r : Bool) → (x || (y || (z || false))) ≡ true → (x || (y || (z || r))) ≡ true
 or-more true y z r e = refl

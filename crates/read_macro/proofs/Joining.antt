@@ -27,7 +27,8 @@ use Rattle.read_scan.specs.Scan.{MacroRead, readMacro, run, Here, Reached}
 use Rattle.form_items.specs.Items.{Wrote}
 use Rattle.read_pattern.specs.Pattern.{Begins, Patterned}
 use Rattle.read_call.specs.Call.{markOf}
-use Rattle.read_action.specs.Action.{FrontAt, ReplacedFrom, Replaced, CommandsFrom, BeforeFrom, symbolOf}
+use Rattle.read_action.specs.Action.{FrontAt, ReplacedFrom, Replaced, symbolOf}
+use Rattle.read_command.specs.Commands.{CommandsFrom, BeforeFrom}
 use Rattle.read_macro.specs.OneMacro.{ended, macroAt, Preceded, PrecededBy, MacroFrom, ReadsMacro, PartsFrom, noPattern, noNext, noEnd}
 use Rattle.read_start.specs.Start.{firstPart, started}
 use Rattle.read_scan.specs.declared.FileFault.{FileFault}

@@ -1,9 +1,9 @@
 // Reads one macro from where it begins to its `;`. What each answer says of the machine of the definitions stands in specs/.
 use form_items::clear;
-use read_action::actions::calls_before;
-use read_action::actions::commands;
 use read_action::actions::find_replacement;
 use read_action::actions::replacement;
+use read_command::commands::calls_before;
+use read_command::commands::commands;
 use read_ends::Ended;
 use read_pattern::Whole;
 use read_pattern::pattern::whole;
