@@ -24,9 +24,10 @@ use Rattle.read_scan.specs.Scan.MacroRead.{refusedAt}
 use Rattle.form_bytes.specs.Fours.{four}
 use Rattle.form_table.specs.Form.{callItems, moveCode}
 use Rattle.read_scan.specs.Scan.{run, Here, Calls, Reached, faultOf, wrongCall}
-use Rattle.read_number.specs.Number.{Counts, Digits, Kept, Behind, most}
+use Rattle.read_number.specs.Number.{Counts, Digits, Kept, Behind, most, Unclosed, numberEnd}
 use Rattle.form_items.specs.Items.{Wrote}
-use Rattle.read_call.specs.Call.{Names, Letter, Naming, Comes, Called, Ends, Sets, SetFrom, TagFrom, TagNaming, TagLetter, Unclosed, nextEnd, numberEnd, nameEnd, nextName}
+use Rattle.read_call.specs.Call.{Names, Letter, Naming, Comes, Called, Ends, Sets, SetFrom, TagFrom, TagNaming, TagLetter, nameEnd, nextName}
+use Rattle.read_ends.specs.Ends.{nextEnd}
 use Rattle.read_scan.specs.declared.FileFault.{FileFault}
 use Rattle.read_scan.specs.declared.FileFault.the-variants.{BadCall}
 use Rattle.read_scan.specs.declared.Next.{Next}
@@ -35,8 +36,8 @@ use Rattle.read_number.specs.declared.Number.{Number}
 use Rattle.read_number.specs.declared.Number.the-variants.{Got, Refused as NoNumber}
 use Rattle.read_call.specs.declared.Name.{Name}
 use Rattle.read_call.specs.declared.Name.the-variants.{Got as GotName, Refused as NoName}
-use Rattle.read_call.specs.declared.Ended.{Ended}
-use Rattle.read_call.specs.declared.Ended.the-variants.{Upto, Refused as NoEnd}
+use Rattle.read_ends.specs.declared.Ended.{Ended}
+use Rattle.read_ends.specs.declared.Ended.the-variants.{Upto, Refused as NoEnd}
 use Rattle.read_scan.proofs.Laws.{here-on, here-stop, reached-behind}
 use Rattle.read_number.proofs.Numbers.{most-low, most-high, eats-equals, eats-increment}
 use Rattle.form_items.proofs.Writing.{wrote-more}

@@ -21,13 +21,14 @@ use Rattle.read_scan.specs.Scan.MacroRead.{refusedAt}
 use Rattle.form_table.specs.Form.{callItems, moveCode, evened}
 use Rattle.read_scan.specs.Scan.{run, At, Here, Passes, Stays, Calls, Reached, faultOf, wrongCall}
 use Rattle.form_items.specs.Items.{Wrote}
-use Rattle.read_call.specs.Call.{Comes, Ends, Texting, TextRead, TextFrom, StoreFrom, PutStore, padding, nextEnd}
+use Rattle.read_call.specs.Call.{Comes, Ends, Texting, TextRead, TextFrom, StoreFrom, PutStore, padding}
+use Rattle.read_ends.specs.Ends.{nextEnd}
 use Rattle.read_scan.specs.declared.FileFault.{FileFault}
 use Rattle.read_scan.specs.declared.FileFault.the-variants.{Incomplete, BadCall}
 use Rattle.read_scan.specs.declared.Next.{Next}
 use Rattle.read_scan.specs.declared.Next.the-variants.{Byte, Refused as NoByte}
-use Rattle.read_call.specs.declared.Ended.{Ended}
-use Rattle.read_call.specs.declared.Ended.the-variants.{Upto, Refused as NoEnd}
+use Rattle.read_ends.specs.declared.Ended.{Ended}
+use Rattle.read_ends.specs.declared.Ended.the-variants.{Upto, Refused as NoEnd}
 use Rattle.read_scan.proofs.Laws.{here-on, here-stop, at-on, reached-behind}
 use Rattle.form_items.proofs.Writing.{wrote-none, wrote-one, wrote-more, wrote-before}
 use Rattle.read_call.proofs.Phases.{space-call}

@@ -4,9 +4,8 @@ use mathlib.Core.Path.{_≡_}
 use mathlib.Core.Bool.{Bool, true, false, _&&_}
 use mathlib.Core.List.{List, [], _∷_, reverse}
 use mathlib.Core.Option.{Option, none, some}
-use mathlib.Core.Logic.{_⊎_}
 use lib.Dec.{eqb}
-use lib.ListN.{length, replicate}
+use lib.ListN.{length}
 use Rattle.macros.specs.Macro.{Mark, Sign, Move, Call, pick, within, asciiLower, digit, tags}
 use Rattle.macros.specs.Macro.Mark.{stack, counter}
 use Rattle.macros.specs.Macro.Move.{still, before, after}
@@ -22,22 +21,21 @@ use Rattle.read_scan.specs.Scan.MacroRead.{refusedAt}
 use Rattle.form_bytes.specs.Fours.{four}
 use Rattle.form_table.specs.Form.{callItems, moveCode}
 use Rattle.read_scan.specs.Scan.{faultOf, run, Reached, Here}
+use Rattle.read_ends.specs.Ends.{Zeroed}
 use Rattle.read_number.specs.Number.{Eats, most}
 use Rattle.form_items.specs.Items.{Wrote}
 use Rattle.read_scan.specs.declared.FileFault.{FileFault}
 use Rattle.read_scan.specs.declared.FileFault.the-variants.{Incomplete}
 use Rattle.read_scan.specs.declared.Next.{Next}
 use Rattle.read_scan.specs.declared.Next.the-variants.{Byte, Refused as NoByte}
-use Rattle.read_number.specs.declared.Number.{Number}
-use Rattle.read_number.specs.declared.Number.the-variants.{Got, Refused as NoNumber}
 use Rattle.read_call.specs.declared.Site.{Site as CodeSite}
 use Rattle.read_call.specs.declared.Site.the-variants.{BeforePattern, Replacement, Command}
 use Rattle.read_call.specs.declared.Name.{Name}
 use Rattle.read_call.specs.declared.Name.the-variants.{Got as GotName, Refused as NoName}
 use Rattle.read_call.specs.declared.Tail.{Tail}
 use Rattle.read_call.specs.declared.Tail.the-variants.{Text, Set, Insert, Wrong}
-use Rattle.read_call.specs.declared.Ended.{Ended}
-use Rattle.read_call.specs.declared.Ended.the-variants.{Upto, Refused as NoEnd}
+use Rattle.read_ends.specs.declared.Ended.{Ended}
+use Rattle.read_ends.specs.declared.Ended.the-variants.{Upto, Refused as NoEnd}
 
 -- `#` if true, else `&`
 abbrev pub markOf : Bool → Mark
@@ -134,16 +132,6 @@ Ends s a p old out n x si k F (NoEnd f q) =
 abbrev pub CalledFrom : List ℕ → ℕ → ℕ → List ℕ → List ℕ → ℕ → Mark → Site → ℕ → Ended → Type 0
 CalledFrom s a p old out n m si k r = Ends s a p old out n 0 si k (λ pl. calling pl (begun m)) r
 
--- the lent bytes behind an answer: a refusal leaves zeros
-abbrev pub leftBy : List ℕ → Ended → List ℕ
-leftBy out (Upto q e) = out
-leftBy out (NoEnd f q) = replicate (length out) 0
-
--- that a refusal leaves zeros
-abbrev pub Zeroed : List ℕ → List ℕ → Ended → Type 0
-Zeroed old out (Upto q e) = Unit {0}
-Zeroed old out (NoEnd f q) = out ≡ replicate (length old) 0
-
 -- what reading a whole call says of the answer and of all lent bytes
 pub record CallRead (s : List ℕ) (a p : ℕ) (old out : List ℕ) (n : ℕ) (m : Mark) (si : Site) (k : ℕ) (r : Ended) : Type 0 where
   pub from : CalledFrom s a p old out n m si k r
@@ -182,11 +170,6 @@ Asks mk si sg c m (Insert code) =
     × (callItems (insert mk i v) ≡ code ∷ i ∷ [])
 Asks mk si sg c m Wrong =
     (i : ℕ) (v : Move) → m ≡ moveCode v → (isStill v ≡ true → (isSign c && sg) ≡ false) → callByte si (named mk i v) c ≡ wrong
-
--- that a number, which has a digit if m, is not closed by z, or is none from 1 to top
-abbrev pub Unclosed : ℕ → ℕ → Bool → ℕ → ℕ → Bool → Type 0
-Unclosed b z m v top true = (b ≡ z → ⊥) ⊎ ((b ≡ z) × ((m ≡ false) ⊎ ((m ≡ true) × ((v < 1) ⊎ (top < v)))))
-Unclosed b z m v top false = (b ≡ z) × (m ≡ true) × (1 ≤ v) × (v ≤ top)
 
 -- behind a tag's number w, of which v is kept
 abbrev pub TagFrom : List ℕ → ℕ → ℕ → List ℕ → List ℕ → ℕ → ℕ → ℕ → Ended → Type 0
@@ -240,16 +223,6 @@ StoreFrom s a p old out n i m r =
     (v : Move) → m ≡ moveCode v → (si : Site) (k : ℕ) → Ends s a p old out n 4 si k (λ pl. callText pl i v []) r
 
 -- REFUSALS HANDED ON
-
--- a refusal of a byte handed on
-abbrev pub nextEnd : Next → Ended
-nextEnd (Byte b q) = NoEnd Incomplete q
-nextEnd (NoByte f q) = NoEnd f q
-
--- a refusal of a number handed on
-abbrev pub numberEnd : Number → Ended
-numberEnd (Got n m b q) = NoEnd Incomplete q
-numberEnd (NoNumber f q) = NoEnd f q
 
 -- a refusal of a letter with its sign handed on
 abbrev pub nameEnd : Name → Ended

@@ -1,6 +1,5 @@
 // Reads calls. What each answer says of the machine of the definitions stands in specs/.
 pub mod calls;
-pub mod ends;
 
 use read_scan::FileFault;
 
@@ -30,10 +29,4 @@ pub(crate) enum Tail {
     Set(u8, u64),
     Insert(u8),
     Wrong,
-}
-
-// The place behind what was read, and the end of the items written; or a refusal with its place.
-pub enum Ended {
-    Upto(usize, usize),
-    Refused(FileFault, usize),
 }
