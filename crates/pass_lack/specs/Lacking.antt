@@ -1,9 +1,12 @@
 -- Which bytes a line has, and a pattern that must have another one.
 use Prim.Native.Nat.{ℕ, _≤_}
+use mathlib.Core.Bool.{Bool, true, false, not}
 use mathlib.Core.Path.{_≡_}
 use mathlib.Core.Logic.{_⊎_}
 use mathlib.Core.List.{List, [], _∷_}
-use lib.ListN.{getD, set, replicate}
+use lib.Dec.{eqb, ltb}
+use lib.ListN.{length, getD, set, replicate}
+use Rattle.macros.specs.Macro.{pick}
 
 -- the flags with those of the bytes of a text
 unfoldable pub flagged : List ℕ → List ℕ → List ℕ
@@ -25,3 +28,12 @@ abbrev pub SomeAbsent : List ℕ → List ℕ → Type 0
 SomeAbsent flags [] = ⊥
 SomeAbsent flags (c ∷ []) = ⊥
 SomeAbsent flags (c ∷ b ∷ l) = Absent flags c b ⊎ SomeAbsent flags l
+
+-- whether what the first item asks is not at the place p: place 0 for `^` (code 3), its byte for a literal that must stand
+unfoldable pub differsIn : List ℕ → List ℕ → ℕ → Bool
+differsIn items t p =
+    pick (ltb (length items) 2) false
+    (pick (eqb (getD items 0 0) 3) (ltb 0 p)
+    (pick (ltb (getD items 0 0) 8) false
+    (pick (ltb 9 (getD items 0 0)) false
+    (pick (ltb p (length t)) (not (eqb (getD items 1 0) (getD t p 0))) true))))

@@ -15,10 +15,6 @@ Pairs P (c ∷ i ∷ l) = P c i × Pairs P l
 abbrev pub LetterIn : ℕ → ℕ → Type 0
 LetterIn c i = 16 ≤ c → c < 24 → Letter i
 
--- what an answer of true says
-abbrev pub WhenTrue : Bool → Type 0 → Type 0
-WhenTrue r P = r ≡ true → P
-
 -- the answer is true exactly if P holds
 abbrev pub Exactly : Bool → Type 0 → Type 0
 Exactly r P = (r ≡ true → P) × (r ≡ false → P → ⊥)

@@ -1,11 +1,12 @@
-// Which bytes a line has, and whether a pattern must have one that is not among them.
+// Which bytes a line has, and whether a pattern must have one that is not among them, or that is not at a place.
 use form_items::codes::LITERAL;
+use form_items::codes::START;
 use pass_marks::clear;
 ghost use mathlib.Core.Path.{_≡_};
 ghost use Prim.Native.Nat.{_≤_};
 ghost use lib.ListN.{length, set};
 ghost use Rattle.pass_lack.specs.Twos.{Exactly, LetterIn, Pairs};
-ghost use Rattle.pass_lack.specs.Lacking.{flagsOf, Absent, SomeAbsent};
+ghost use Rattle.pass_lack.specs.Lacking.{flagsOf, Absent, SomeAbsent, differsIn};
 
 // The line has the byte b.
 fn flag(present: &mut [u8], b: u8)
@@ -55,4 +56,26 @@ pub fn lacks(items: &[u8], present: &[u8]) -> bool
         at += 2;
     }
     false
+}
+
+// Whether the pattern begins with a literal that must stand at p and does not, or with `^` where p is not 0: most places are decided so.
+pub fn differs(items: &[u8], line: &[u8], p: usize) -> bool
+    ensures { λ r. ⌜ r ≡ differsIn (now (items .entry)) (now (line .entry)) p ⌝ }
+{
+    if items.len() < 2 {
+        return false;
+    }
+    if items[0] == START {
+        return 0 < p;
+    }
+    if items[0] < 8 {
+        return false;
+    }
+    if 9 < items[0] {
+        return false;
+    }
+    if line.len() <= p {
+        return true;
+    }
+    items[1] != line[p]
 }

@@ -1,7 +1,7 @@
 -- The state under which marks were made, and when it stands for the state now.
 use Prim.Native.Nat.{ℕ, _*_, _≤_, _<_}
 use mathlib.Core.Path.{_≡_}
-use mathlib.Core.Bool.{Bool, false}
+use mathlib.Core.Bool.{Bool, true, false}
 use mathlib.Core.List.{List}
 use lib.ListN.{length, drop}
 use Rattle.macros.specs.Macro.{Piece}
@@ -11,6 +11,10 @@ use Rattle.form_state.specs.Access.{Holds, IsState}
 use Rattle.pass_one.specs.Marks.{rowsBytes, Sound}
 use Rattle.pass_unit.specs.Pattern.{IsPattern}
 use Rattle.pass_lack.specs.Twos.{Pairs}
+
+-- what an answer of true says
+abbrev pub WhenTrue : Bool → Type 0 → Type 0
+WhenTrue r P = r ≡ true → P
 
 -- what an answer of false says
 abbrev pub WhenFalse : Bool → Type 0 → Type 0

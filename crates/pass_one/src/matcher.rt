@@ -17,7 +17,7 @@ ghost use mathlib.Core.Path.{_≡_};
 ghost use lib.ListN.{length};
 ghost use Rattle.macros.specs.Bounds.{mostLineBytes};
 ghost use Rattle.form_table.specs.Form.{bodyBytes};
-ghost use Rattle.pass_one.specs.Finding.{Differs, LastPlace, countedOf};
+ghost use Rattle.pass_one.specs.Finding.{LastPlace, countedOf};
 ghost use Rattle.pass_one.specs.Trying.{endedIn, Trying, Counting, Repeating, Tried, Most, Copied};
 ghost use Rattle.pass_unit.specs.Pieces.{again};
 
@@ -142,28 +142,6 @@ fn closure(
         return found;
     }
     closure(items, kinds, state, line, at, next, w, q, low, marks, ends)
-}
-
-// Whether the pattern begins with a literal that must stand at p and does not, or with `^` where p is not 0: most places are decided so.
-pub(crate) fn differs(items: &[u8], line: &[u8], p: usize) -> bool
-    ensures { λ r. ⌜ Differs (now (items .entry)) (now (line .entry)) p r ⌝ }
-{
-    if items.len() < 2 {
-        return false;
-    }
-    if items[0] == START {
-        return 0 < p;
-    }
-    if items[0] < 8 {
-        return false;
-    }
-    if 9 < items[0] {
-        return false;
-    }
-    if line.len() <= p {
-        return true;
-    }
-    items[1] != line[p]
 }
 
 // The last place where a match can begin: a pattern that begins with `^` has place 0 alone.

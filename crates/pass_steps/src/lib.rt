@@ -1,4 +1,4 @@
-// For what an action does: a text stored at a place, the text of a tag or of an entry as a part of what is lent, and whether a code is one of several.
+// For what an action does: a text stored at a place, the text of a tag or of an entry, and whether a code is one of several.
 use form_state::entry;
 ghost use mathlib.Core.Path.{_≡_};
 ghost use Prim.Native.Nat.{_+_, _≤_};
