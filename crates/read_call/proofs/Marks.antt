@@ -22,7 +22,8 @@ use Rattle.form_table.specs.Form.{callItems, moveCode}
 use Rattle.read_scan.specs.Scan.{run, Here, Calls, faultOf, wrongCall}
 use Rattle.read_number.specs.Number.{Counts, Digits, Kept, most, numberEnd}
 use Rattle.form_items.specs.Items.{Wrote}
-use Rattle.read_call.specs.Call.{Names, Letter, Naming, Comes, Ends, CalledFrom, NamedFrom, Sets, SetFrom, TagFrom, StoreFrom, Asks, Starts, signsIn, markOf, nameEnd}
+use Rattle.read_call.specs.Call.{Names, Letter, Naming, CalledFrom, NamedFrom, Sets, SetFrom, TagFrom, Asks, Starts, signsIn, markOf, nameEnd}
+use Rattle.read_text.specs.Text.{Comes, Ends, StoreFrom}
 use Rattle.read_ends.specs.Ends.{nextEnd}
 use Rattle.read_scan.specs.declared.FileFault.{FileFault}
 use Rattle.read_scan.specs.declared.Next.{Next}
@@ -37,8 +38,10 @@ use Rattle.read_ends.specs.declared.Ended.{Ended}
 use Rattle.read_ends.specs.declared.Ended.the-variants.{Upto, Refused as NoEnd}
 use Rattle.read_scan.proofs.Laws.{here-on}
 use Rattle.read_number.proofs.Numbers.{tagState, eats-tagged, eats-equals, eats-increment, eats-divisor}
-use Rattle.read_call.proofs.Naming.{turn-text, call-next, here-into, code-none, code-some}
-use Rattle.read_call.proofs.Ending.{ends-from, ends-none, ends-wrong, ends-closed, joined, names-stack, names-counter}
+use Rattle.read_text.proofs.Turns.{turn-text, call-next, here-into}
+use Rattle.read_text.proofs.Closing.{ends-from, ends-none, ends-wrong, ends-closed}
+use Rattle.read_call.proofs.Naming.{code-none, code-some}
+use Rattle.read_call.proofs.Ending.{joined, names-stack, names-counter}
 
 -- BYTES BEHIND A LETTER
 

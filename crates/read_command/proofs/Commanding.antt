@@ -20,7 +20,8 @@ use Rattle.macros.specs.ReadSoFar.Step.{on, stop}
 use Rattle.form_table.specs.Form.{callsItems, callItems}
 use Rattle.read_scan.specs.Scan.{MacroRead, run, noted, Here, Passes, Reached}
 use Rattle.form_items.specs.Items.{Wrote}
-use Rattle.read_call.specs.Call.{CalledFrom, Called, markOf}
+use Rattle.read_call.specs.Call.{CalledFrom, markOf}
+use Rattle.read_text.specs.Text.{Called}
 use Rattle.read_ends.specs.Ends.{nextEnd, leftBy}
 use Rattle.read_command.specs.Commands.{Ahead, Lists, Does, CommandFrom, ListedFrom, CommandsRead, BeforeFrom, BeforeRead, siteBy, lastByte, strayByte, tagsAhead, listed}
 use Rattle.read_scan.specs.declared.FileFault.{FileFault}

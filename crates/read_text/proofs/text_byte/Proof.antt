@@ -1,9 +1,9 @@
 use mathlib.Core.Path.{sym, _∙_}
 use native.Mathlib.Omega.{arith}
 use Rattle.read_scan.proofs.Laws.{reached-behind}
-use Rattle.read_call.proofs.Texts.{text-break, text-long, text-plain, text-none, text-escaped}
-use Rattle.read_call.proofs.calls.text_byte.Statement.{statement}
-use Rattle.read_call.proofs.calls.text_byte.Tie as tie
+use Rattle.read_text.proofs.Texts.{text-break, text-long, text-plain, text-none, text-escaped}
+use Rattle.read_text.proofs.text_byte.Statement.{statement}
+use Rattle.read_text.proofs.text_byte.Tie as tie
 
 is-break-requires : tie.Need-is-break-requires
 is-break-requires c κs = tt

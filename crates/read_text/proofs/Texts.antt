@@ -21,8 +21,8 @@ use Rattle.read_scan.specs.Scan.MacroRead.{refusedAt}
 use Rattle.form_table.specs.Form.{callItems, moveCode, evened}
 use Rattle.read_scan.specs.Scan.{run, At, Here, Passes, Stays, Calls, Reached, faultOf, wrongCall}
 use Rattle.form_items.specs.Items.{Wrote}
-use Rattle.read_call.specs.Call.{Comes, Ends, Texting, TextRead, TextFrom, StoreFrom, PutStore, padding}
-use Rattle.read_ends.specs.Ends.{nextEnd}
+use Rattle.read_text.specs.Text.{Comes, Ends, Texting, TextRead, TextFrom, StoreFrom, StoreRead, PutStore, padding}
+use Rattle.read_ends.specs.Ends.{nextEnd, leftBy}
 use Rattle.read_scan.specs.declared.FileFault.{FileFault}
 use Rattle.read_scan.specs.declared.FileFault.the-variants.{Incomplete, BadCall}
 use Rattle.read_scan.specs.declared.Next.{Next}
@@ -31,9 +31,10 @@ use Rattle.read_ends.specs.declared.Ended.{Ended}
 use Rattle.read_ends.specs.declared.Ended.the-variants.{Upto, Refused as NoEnd}
 use Rattle.read_scan.proofs.Laws.{here-on, here-stop, at-on, reached-behind}
 use Rattle.form_items.proofs.Writing.{wrote-none, wrote-one, wrote-more, wrote-before}
-use Rattle.read_call.proofs.Phases.{space-call}
-use Rattle.read_call.proofs.Naming.{call-skips}
-use Rattle.read_call.proofs.Ending.{ends-none, ends-wrong, ends-closed}
+use Rattle.read_ends.proofs.Leaving.{zeroed}
+use Rattle.read_text.proofs.Phases.{space-call}
+use Rattle.read_text.proofs.Turns.{call-skips}
+use Rattle.read_text.proofs.Closing.{ends-none, ends-wrong, ends-closed}
 
 -- ONE BYTE
 
@@ -280,3 +281,9 @@ module _ (s : List ℕ) (a p : ℕ) (old mid : List ℕ) (n i m : ℕ) {r : Ende
 
         pub store-put : {out : List ℕ} {e′ : ℕ} → b ≡ 41 → n + 4 ≤ length old → length mid ≡ length old → PutStore mid out n e i m e′ → StoreFrom s a p old out n i m (Upto (u + 1) e′)
         store-put h l g w = store-done h l (omega (arith, w .3)) (omega (arith, w .4)) (w .5) (w .0) (w .6) (w .7)
+
+-- what is left in the lent bytes
+pub store-left : {s : List ℕ} {a p : ℕ} {old : List ℕ} (mid : List ℕ) {out : List ℕ} {n i m : ℕ} (r : Ended) → StoreFrom s a p old mid n i m r → out ≡ leftBy mid r → length mid ≡ length old
+    → StoreRead s a p old out n i m r
+store-left mid (Upto q e) x o l = record { from = rw o x; zeros = tt }
+store-left {s} {a} {p} {old} mid (NoEnd f q) x o l = record { from = λ v e si k. x v e si k; zeros = zeroed old mid (NoEnd f q) o l }

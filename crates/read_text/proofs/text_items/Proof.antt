@@ -1,9 +1,9 @@
-use Rattle.read_call.proofs.Texts.{store-fault, store-text, store-none, store-byte, store-wrong, store-put}
+use Rattle.read_text.proofs.Texts.{store-fault, store-text, store-none, store-byte, store-wrong, store-put}
 use native.Mathlib.Omega.{arith}
 use denote.Ref.{now}
 use borrow.Author.Needs.{needs}
-use Rattle.read_call.proofs.calls.text_call.Statement.{statement}
-use Rattle.read_call.proofs.calls.text_call.Tie as tie
+use Rattle.read_text.proofs.text_items.Statement.{statement}
+use Rattle.read_text.proofs.text_items.Tie as tie
 
 add-put-text : tie.Need-add-put-text
 add-put-text c = omega arith
@@ -105,8 +105,8 @@ returns-4 c =
     let put-store = c .before .before .put-store in
     store-put (now (args .s)) (args .a) (args .at) (now (args .out)) (put-text .last .1 .0) (args .n) (args .i) (args .m) (put-text .ensures) (text .given .1) (call-byte .ensures) (next .given .1) (if1 .left) (omega (arith, pre .1)) (put-text .kept .1 .0) (put-store .ensures)
 
-pub text-call-spec : {M : Type 1} → statement M
-text-call-spec =
+pub text-items-spec : {M : Type 1} → statement M
+text-items-spec =
     tie.close
     (tie.spec
     add-put-text

@@ -1,9 +1,9 @@
 use Prim.Native.Nat.{_-_}
 use native.Mathlib.Omega.{arith}
 use lib.ListN.{length, length-set}
-use Rattle.read_call.proofs.Texts.{Reading, reading-none, reading-fault, reading-byte, reading-done, reading-fault-2, reading-text, reading-on}
-use Rattle.read_call.proofs.calls.put_text.Statement.{statement}
-use Rattle.read_call.proofs.calls.put_text.Tie as tie
+use Rattle.read_text.proofs.Texts.{Reading, reading-none, reading-fault, reading-byte, reading-done, reading-fault-2, reading-text, reading-on}
+use Rattle.read_text.proofs.put_text.Statement.{statement}
+use Rattle.read_text.proofs.put_text.Tie as tie
 
 abbrev Inv-loop : tie.InvT-loop
 Inv-loop s out₀ a first n at₀ k₀ out at k = Reading s a first out₀ out n at k

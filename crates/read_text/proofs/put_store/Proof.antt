@@ -1,7 +1,7 @@
 use native.Mathlib.Omega.{arith}
 use borrow.Author.Needs.{needs}
-use Rattle.read_call.proofs.calls.put_store.Statement.{statement}
-use Rattle.read_call.proofs.calls.put_store.Tie as tie
+use Rattle.read_text.proofs.put_store.Statement.{statement}
+use Rattle.read_text.proofs.put_store.Tie as tie
 
 add-pad : tie.Need-add-pad
 add-pad c = search needs

@@ -2,11 +2,11 @@ use Rattle.macros.specs.Macro.{pick}
 use native.Mathlib.Omega.{arith}
 use borrow.Author.Tests.{eq-eqb, ne-eqb}
 use denote.Ref.{now}
-use Rattle.read_call.specs.Call.{padding}
-use Rattle.read_call.proofs.Texts.{pad-none, pad-one}
+use Rattle.read_text.specs.Text.{padding}
+use Rattle.read_text.proofs.Texts.{pad-none, pad-one}
 use borrow.Author.Needs.{needs}
-use Rattle.read_call.proofs.calls.pad.Statement.{statement}
-use Rattle.read_call.proofs.calls.pad.Tie as tie
+use Rattle.read_text.proofs.pad.Statement.{statement}
+use Rattle.read_text.proofs.pad.Tie as tie
 
 sub-if1 : tie.Need-sub-if1
 sub-if1 c = omega arith
