@@ -9,11 +9,12 @@ use native.Mathlib.Numerals.{add-one}
 use native.Mathlib.Omega.{arith}
 use mathlib.Core.Bool.{Bool, true, false, not}
 use borrow.Author.Tests.{eq-eqb, ne-eqb, not-true, not-false}
+use Rattle.macros.specs.Bounds.{mostMacroBytes}
 use Rattle.macros.specs.Macro.{among, pick}
 use Rattle.macros.specs.Write.{byte, escapeByte}
 use lib.ListN.{length, take, drop, getD, set, length-append, drop-of-length-le}
 use lib.Seq.{take-suc, take-suc-set, drop-cons}
-use Rattle.write_file.specs.Puts.{shortText, Ends, Puts, Rest}
+use Rattle.write_file.specs.Puts.{shortText, Ends, Puts, Rest, Counts, CountsOn}
 use Rattle.write_file.specs.declared.put.Short.{Short}
 use Rattle.write_file.specs.declared.put.Short.the-variants.{Nothing, One, Two, Three, Four}
 
@@ -89,18 +90,6 @@ short-few (Four a b c d) = omega arith
 
 -- THE MARKS
 
-pub among-here : (l : List ℕ) (i b : ℕ) → i < length l → b ≡ getD l i 0 → among (drop i l) b ≡ true
-unfolding among
-among-here l i b h e = rw (drop-cons l i 0 h, eq-eqb b (getD l i 0) e)
-
-pub among-on : (l : List ℕ) (i b : ℕ) → i < length l → (b ≡ getD l i 0 → ⊥) → among (drop i l) b ≡ among (drop (i + 1) l) b
-unfolding among
-among-on l i b h f = rw (drop-cons l i 0 h, ne-eqb b (getD l i 0) f, add-one)
-
-pub among-end : (l : List ℕ) (i b : ℕ) → length l ≤ i → among (drop i l) b ≡ false
-unfolding among
-among-end l i b h = rw (drop-of-length-le l {i = i} h)
-
 pub plain : (t : Bool) (b : ℕ) → not t ≡ true → b ∷ [] ≡ byte t b
 unfolding byte
 plain t b n = ap (λ (w : Bool). byte w b) {y = t} (sym (not-true t n))
@@ -134,3 +123,32 @@ rest-next f w p = λ new r q. f new r (by-bytes (sym w) (also p q))
 
 pub rest-done : {m n : ℕ} {whole old rest now : List ℕ} → Rest m whole old n rest now → rest ≡ [] → Puts m whole old now n
 rest-done {n = n} {now = now} f w = f now n (by-bytes (sym w) put-none)
+
+-- COUNTING
+
+pub count-none : {n : ℕ} → Counts n [] n
+count-none {n} = record { ends = record { count = λ h. sym (add-zero n); full = λ h. omega arith } }
+
+-- the bytes by another name
+pub count-as : {n r : ℕ} {bytes other : List ℕ} → bytes ≡ other → Counts n bytes r → Counts n other r
+count-as {n} {r} e p = subst (λ (z : List ℕ). Counts n z r) e p
+
+-- as many bytes
+pub count-like : {n r : ℕ} {bytes other : List ℕ} → length bytes ≡ length other → Counts n bytes r → Counts n other r
+count-like e p = record { ends = by-size e (p .ends) }
+
+pub counted : {n size r : ℕ} (bytes : List ℕ) → size ≡ length bytes → Ends mostMacroBytes n size r → Counts n bytes r
+counted bytes e p = record { ends = by-size e p }
+
+-- a count behind a count
+pub count-also : {n k j : ℕ} {bytes more : List ℕ} → Counts n bytes k → Counts k more j → Counts n (bytes ++ more) j
+count-also {bytes = bytes} {more = more} p q = record { ends = by-size (sym (length-append bytes more)) (ends-also (p .ends) (q .ends)) }
+
+pub counts-all : {n : ℕ} {bytes : List ℕ} → CountsOn n bytes n bytes
+counts-all = λ r p. p
+
+pub counts-next : {m n k : ℕ} {whole rest bytes more : List ℕ} → CountsOn m whole n rest → rest ≡ bytes ++ more → Counts n bytes k → CountsOn m whole k more
+counts-next f w p = λ r q. f r (count-as (sym w) (count-also p q))
+
+pub counts-done : {m n : ℕ} {whole rest : List ℕ} → CountsOn m whole n rest → rest ≡ [] → Counts m whole n
+counts-done {n = n} f w = f n (count-as (sym w) count-none)

@@ -1,15 +1,19 @@
 // A pattern, from its items.
 use crate::put::Short;
-use crate::put::in_list;
+use crate::put::count;
+use crate::put::end_of;
 use crate::put::marked;
 use crate::put::put;
+use form_marks::is_class_mark;
+use form_marks::is_pattern_mark;
 ghost use mathlib.Core.Path.{_≡_};
 ghost use mathlib.Core.List.{_∷_};
 ghost use Prim.Native.Nat.{_%_, _≤_, _<_};
 ghost use lib.Dec.{ltb};
 ghost use lib.ListN.{length};
 ghost use Rattle.macros.specs.Macro.{pick};
-ghost use Rattle.write_file.specs.Puts.{shortText, Puts};
+ghost use Rattle.macros.specs.Write.{byte};
+ghost use Rattle.write_file.specs.Puts.{shortText, Puts, Counts};
 ghost use Rattle.write_file.specs.Items.{closureText, unitText, braceByte, memberText, headText, tailText, patternText};
 
 // `*` or `*-`, by an element's code.
@@ -30,7 +34,7 @@ fn unit(code: u8, b: u8) -> Short
     ensures { λ r. ⌜ shortText r ≡ unitText code b ⌝ }
 {
     if code < 12 {
-        return marked(in_list(b"$^*[?&#{}/\\';-\n\t", b), b);
+        return marked(is_pattern_mark(b), b);
     }
     if code < 16 {
         return Short::Two(b'?', 48 + b % 10);
@@ -46,7 +50,7 @@ fn member(code: u8, b: u8) -> Short
     ensures { λ r. ⌜ shortText r ≡ memberText code b ⌝ }
 {
     if code == 32 {
-        return marked(in_list(b"]-~\\';\n\t", b), b);
+        return marked(is_class_mark(b), b);
     }
     if code == 33 {
         return Short::Two(b, b'-');
@@ -133,4 +137,79 @@ fn element_code(held: u8, code: u8) -> u8
         return code;
     }
     held
+}
+
+// COUNTING, without a file
+
+// The bytes of a byte that is one of the marks or not.
+fn marked_size(mark: bool, b: u8) -> usize
+    ensures { λ r. ⌜ (r ≡ length (byte mark b)) × (r ≤ 4) ⌝ }
+{
+    if mark {
+        return 2;
+    }
+    1
+}
+
+// The bytes of a literal, `?n` or a call.
+fn unit_size(code: u8, b: u8) -> usize
+    ensures { λ r. ⌜ (r ≡ length (unitText code b)) × (r ≤ 4) ⌝ }
+{
+    if code < 12 {
+        return marked_size(is_pattern_mark(b), b);
+    }
+    if code < 16 {
+        return 2;
+    }
+    4
+}
+
+// The bytes of a member, of one end of a range, or of the class's end.
+fn member_size(code: u8, b: u8) -> usize
+    ensures { λ r. ⌜ (r ≡ length (memberText code b)) × (r ≤ 4) ⌝ }
+{
+    if code == 32 {
+        return marked_size(is_class_mark(b), b);
+    }
+    if code == 33 {
+        return 2;
+    }
+    1
+}
+
+// The bytes of an item without its closure.
+fn head_size(code: u8, b: u8) -> usize
+    ensures { λ r. ⌜ (r ≡ length (headText code b)) × (r ≤ 4) ⌝ }
+{
+    if code < 8 {
+        return 1;
+    }
+    if code < 24 {
+        return unit_size(code, b);
+    }
+    if code < 28 {
+        return 1;
+    }
+    if code < 32 {
+        return 2;
+    }
+    member_size(code, b)
+}
+
+// Counts the bytes of a pattern's items.
+pub(crate) fn count_pattern(start: usize, items: &[u8]) -> usize
+    requires { ⌜ length (now items) % 2 ≡ 0 ⌝ }
+    ensures { λ r. ⌜ Counts start (patternText 0 (now (items .entry))) r ⌝ }
+{
+    let mut n = start;
+    let mut held: u8 = 0;
+    let mut at = 0;
+    while at < items.len() {
+        let code = items[at];
+        let m = end_of(512, n, head_size(code, items[at + 1]));
+        n = count(m, tail(held, code));
+        held = element_code(held, code);
+        at += 2;
+    }
+    n
 }

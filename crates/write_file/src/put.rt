@@ -4,9 +4,8 @@ ghost use mathlib.Core.Path.{_≡_};
 ghost use mathlib.Core.List.{[], _∷_, _++_};
 ghost use Prim.Native.Nat.{_+_, _≤_, _<_};
 ghost use lib.ListN.{length, take};
-ghost use Rattle.macros.specs.Macro.{among};
 ghost use Rattle.macros.specs.Write.{byte, digits};
-ghost use Rattle.write_file.specs.Puts.{shortText, Ends, Puts};
+ghost use Rattle.write_file.specs.Puts.{shortText, Ends, Puts, Counts};
 
 // Up to four bytes.
 pub enum Short {
@@ -17,7 +16,8 @@ pub enum Short {
     Four(u8, u8, u8, u8),
 }
 
-fn size_of(s: Short) -> usize
+// The number of its bytes.
+pub(crate) fn size_of(s: Short) -> usize
     ensures { λ r. ⌜ r ≡ length (shortText s) ⌝ }
 {
     match s {
@@ -43,8 +43,8 @@ fn bytes_of(s: Short) -> [u8; 4]
 }
 
 // The number of bytes when some are put behind the first n, past the end of the room if n is.
-fn end_of(room: usize, n: usize, size: usize) -> usize
-    requires { ⌜ (room ≤ 32768) × (size ≤ 4) ⌝ }
+pub(crate) fn end_of(room: usize, n: usize, size: usize) -> usize
+    requires { ⌜ (room ≤ 32768) × (size ≤ 8) ⌝ }
     ensures { λ r. ⌜ Ends room n size r ⌝ }
 {
     if room < n {
@@ -69,20 +69,6 @@ pub(crate) fn put(file: &mut [u8], n: usize, s: Short) -> usize
         i += 1;
     }
     end
-}
-
-// Whether a byte stands in a list.
-pub(crate) fn in_list(list: &[u8], b: u8) -> bool
-    ensures { λ r. ⌜ r ≡ among (now (list .entry)) b ⌝ }
-{
-    let mut i = 0;
-    while i < list.len() {
-        if b == list[i] {
-            return true;
-        }
-        i += 1;
-    }
-    false
 }
 
 // A byte, with a `\` if it is one of the marks.
@@ -132,4 +118,24 @@ pub(crate) fn put_number(file: &mut [u8], n: usize, v: u32) -> usize
     }
     let m = put_number(file, n, v / 10);
     put(file, m, Short::One(figure(v % 10)))
+}
+
+// COUNTING, without a file: more bytes than a macro may have are handed on as a number past 512
+
+// Counts bytes of a macro behind its first n.
+pub(crate) fn count(n: usize, s: Short) -> usize
+    ensures { λ r. ⌜ Counts n (shortText s) r ⌝ }
+{
+    end_of(512, n, size_of(s))
+}
+
+// Counts the digits of a number.
+pub(crate) fn count_number(n: usize, v: u32) -> usize
+    ensures { λ r. ⌜ Counts n (digits v) r ⌝ }
+{
+    if v < 10 {
+        return count(n, Short::One(0));
+    }
+    let m = count_number(n, v / 10);
+    count(m, Short::One(0))
 }

@@ -1,8 +1,10 @@
 // The macros of a table, from their slots.
 use crate::Answer;
 use crate::WritingFault;
+use crate::actions::count_actions;
 use crate::actions::put_actions;
 use crate::actions::put_quoted;
+use crate::pattern::count_pattern;
 use crate::pattern::put_pattern;
 use crate::put::Short;
 use crate::put::put;
@@ -159,13 +161,19 @@ pub(crate) fn write_slots(file: &mut [u8], table: &[u8]) -> Answer
 
 // ONE MACRO MORE, without its bytes
 
-// The bytes of a slot's macro; 513 stand for any more than 512.
+// The bytes of a slot's macro; 513 stand for any more than 512. Six are its quotes, symbol and `;`.
 fn written_size(slot: &[u8]) -> usize
     requires { ⌜ Parts (now slot) ⌝ }
     ensures { λ r. ⌜ r ≡ capped (length (slotText (now (slot .entry)))) ⌝ }
 {
-    let mut line = [0u8; 512];
-    let n = put_macro(&mut line, 0, slot);
+    let b = before_end(slot);
+    let p = pattern_end(slot);
+    let r = p + two_at(slot, REPLACEMENT_AT);
+    let e = r + two_at(slot, COMMANDS_AT);
+    let called = count_actions(6, &slot[HEADER_BYTES..b]);
+    let matched = count_pattern(called, &slot[b..p]);
+    let replaced = count_actions(matched, &slot[p..r]);
+    let n = count_actions(replaced, &slot[r..e]);
     if 512 < n {
         return 513;
     }

@@ -9,18 +9,15 @@ use borrow.Author.Needs.{needs}
 use Rattle.write_file.proofs.pattern.member.Statement.{statement}
 use Rattle.write_file.proofs.pattern.member.Tie as tie
 
-slice-aggregate-in-list : tie.Need-slice-aggregate-in-list
-slice-aggregate-in-list c = search needs
-
-in-list-requires : tie.Need-in-list-requires
-in-list-requires c κs = tt
+is-class-mark-requires : tie.Need-is-class-mark-requires
+is-class-mark-requires c κs = tt
 
 marked-requires : tie.Need-marked-requires
 marked-requires c κs = tt
 
 returns : tie.Need-returns
 unfolding memberText classMarks pick
-returns c = simp (eq-eqb _ _ (c .before .before .before .if1 .taken)) (by-mark _ _ (c .marked .ensures) (c .before .in-list .ensures))
+returns c = simp (eq-eqb _ _ (c .before .before .if1 .taken)) (by-mark _ _ (c .marked .ensures) (c .before .is-class-mark .ensures))
 
 returns-2 : tie.Need-returns-2
 unfolding shortText memberText pick
@@ -38,8 +35,7 @@ pub member-spec : {M : Type 1} → statement M
 member-spec =
     tie.close
     (tie.spec
-    slice-aggregate-in-list
-    in-list-requires
+    is-class-mark-requires
     marked-requires
     returns
     returns-2

@@ -9,21 +9,18 @@ use borrow.Author.Needs.{needs}
 use Rattle.write_file.proofs.pattern.unit.Statement.{statement}
 use Rattle.write_file.proofs.pattern.unit.Tie as tie
 
-slice-aggregate-in-list : tie.Need-slice-aggregate-in-list
-slice-aggregate-in-list c = search needs
-
-in-list-requires : tie.Need-in-list-requires
-in-list-requires c κs = tt
+is-pattern-mark-requires : tie.Need-is-pattern-mark-requires
+is-pattern-mark-requires c κs = tt
 
 marked-requires : tie.Need-marked-requires
 marked-requires c κs = tt
 
 returns : tie.Need-returns
 unfolding unitText patternMarks pick
-returns c = simp (lt-ltb _ _ (c .before .before .before .if1 .taken)) (by-mark _ _ (c .marked .ensures) (c .before .in-list .ensures))
+returns c = simp (lt-ltb _ _ (c .before .before .if1 .taken)) (by-mark _ _ (c .marked .ensures) (c .before .is-pattern-mark .ensures))
 
-add-t9 : tie.Need-add-t9
-add-t9 c = search needs
+add-t6 : tie.Need-add-t6
+add-t6 c = search needs
 
 returns-2 : tie.Need-returns-2
 unfolding shortText unitText pick
@@ -41,11 +38,10 @@ pub unit-spec : {M : Type 1} → statement M
 unit-spec =
     tie.close
     (tie.spec
-    slice-aggregate-in-list
-    in-list-requires
+    is-pattern-mark-requires
     marked-requires
     returns
-    add-t9
+    add-t6
     returns-2
     returns-3
     returns-4)
