@@ -20,8 +20,9 @@ use Rattle.macros.specs.WriteRefusals.WritesWell.{whole, long, full}
 use Rattle.macros.specs.Accepted.{Spellable}
 use Rattle.macros.proofs.WriteRefusals.{writes-whole}
 use Rattle.form_table.specs.Form.{slot, headerBytes}
-use Rattle.write_file.specs.Puts.{Counts}
-use Rattle.write_file.specs.Items.{patternText, actionsText}
+use Rattle.write_put.specs.Puts.{Counts}
+use Rattle.write_pattern.specs.Items.{patternText}
+use Rattle.write_actions.specs.Items.{actionsText}
 use Rattle.write_file.specs.Slots.{beforeEnd, patternEnd, replacementEnd, commandsEnd, part, beforeText, leftText, rightText}
 use Rattle.write_file.specs.Slots.{limitOf, faultOf, answerOf, capped, refusalOf, slotText, Parts}
 use Rattle.write_file.specs.Contract.{Reply, meaning, reply, SomeMacro, SoFar, WritesOn}

@@ -2,8 +2,9 @@
 use mathlib.Core.Path.{refl, ap}
 use native.Mathlib.Omega.{arith}
 use denote.Ref.{now}
-use Rattle.write_file.specs.Items.{patternText, actionsText}
-use Rattle.write_file.proofs.Putting.{count-as, count-also}
+use Rattle.write_pattern.specs.Items.{patternText}
+use Rattle.write_actions.specs.Items.{actionsText}
+use Rattle.write_put.proofs.Putting.{count-as, count-also}
 use Rattle.write_file.proofs.Slotted.{ordered, part-here, replacement-here, commands-here, pattern-fits}
 use Rattle.write_file.proofs.Onward.{size-over, size-within}
 use Rattle.write_file.proofs.slots.written_size.Statement.{statement}
