@@ -196,12 +196,13 @@ pub record FromStart (tb : List ℕ) (count : ℕ) (old : Left) (n : ℕ) (trace
 abbrev pub runOf : List ℕ → ℕ → Left → ℕ → ℕ → Bool → Run
 runOf tb count old n budget traced = record { table = tb; count = count; state = old .state; sent = record { line = take n (old .text); budget = budget }; traced = traced }
 
--- the memory of a trace, cleared if the line is traced
-unfoldable pub clearedIf : Bool → List ℕ → List ℕ
-clearedIf true trace = replicate (length trace) 0
-clearedIf false trace = trace
-
+-- whether a line is refused
 abbrev pub isRefused : Ended → Bool
 isRefused (Done n o p) = false
 isRefused (Control n p) = false
 isRefused (Refused w p) = true
+
+-- whether the trace of its passes goes again
+abbrev pub dropsTrace : (traced refused : Bool) → Bool
+dropsTrace true refused = refused
+dropsTrace false refused = false
