@@ -11,30 +11,27 @@ use denote.Enum.Declared.{tagOf}
 use lib.Dec.{ltb}
 use lib.ListN.{length, take}
 use lib.Seq.{length-take-le}
-use Rattle.macros.specs.Macro.{Table}
 use Rattle.macros.specs.Formed.{Bytes}
-use Rattle.lines.specs.State.{State}
 use Rattle.lines.specs.Trace.{isOn}
-use Rattle.lines.specs.Feeding.{orderOf}
 use Rattle.lines.specs.Feeding.{Order as Ordered}
 use Rattle.form_state.specs.Access.{Holds, IsState, OfState}
-use Rattle.line_memory.specs.Memory.{IsTable, Counted, laidIf}
+use Rattle.line_memory.specs.Memory.{Counted, laidIf}
 use Rattle.line_memory.proofs.Copying.{padded-whole}
 use Rattle.line_control.specs.Contract.{Obeys, Orders}
 use Rattle.line_control.specs.declared.Order.{Order}
 use Rattle.line_control.specs.declared.Order.the-variants.{Taken, Refused as Wrong}
 use Rattle.line_control.specs.declared.Why.{Why as ControlWhy}
 use Rattle.line_passes.specs.Contract.{Lies, LineLeft}
-use Rattle.line_passes.proofs.Ended.{the-type}
-use Rattle.line_passes.specs.declared.Ended.{Ended}
-use Rattle.line_passes.specs.declared.Ended.the-variants.{Done, Control as AtControl, Refused as AtRefusal}
-use Rattle.line_passes.specs.declared.Why.{Why as WorkWhy}
+use Rattle.line_stand.proofs.Ended.{the-type}
+use Rattle.line_stand.specs.declared.Ended.{Ended}
+use Rattle.line_stand.specs.declared.Ended.the-variants.{Done, Control as AtControl, Refused as AtRefusal}
+use Rattle.line_stand.specs.declared.Why.{Why as WorkWhy}
 use Rattle.line_answer.specs.Fed.{sizeOf}
 use Rattle.line_answer.specs.declared.Fed.{Fed}
 use Rattle.line_answer.specs.declared.Fed.the-variants.{Out, Withheld, Control, Refused}
 use Rattle.line_answer.specs.declared.Why.{Why}
 use Rattle.line_end.specs.Answers.{controlWhy, workWhy, withheldBy, doneFed, ruledFed, fedOf, isWrong, isTaken, leavesTrace}
-use Rattle.line_end.specs.Contract.{Obeying, Unruled, Obeyed, sizeAt, Replying, Replied}
+use Rattle.line_end.specs.Contract.{Obeying, Obeyed, sizeAt, Replying, Replied}
 
 -- THE FLAGS
 

@@ -5,10 +5,10 @@ use Rattle.line_control.specs.declared.Order.{Order}
 use Rattle.line_control.specs.declared.Order.the-variants.{Taken, Refused as Wrong}
 use Rattle.line_control.specs.declared.Why.{Why as ControlWhy}
 use Rattle.line_control.specs.declared.Why.the-variants.{BadControl, InMacro}
-use Rattle.line_passes.specs.declared.Ended.{Ended}
-use Rattle.line_passes.specs.declared.Ended.the-variants.{Done, Control as AtControl, Refused as AtRefusal}
-use Rattle.line_passes.specs.declared.Why.{Why as WorkWhy}
-use Rattle.line_passes.specs.declared.Why.the-variants.{BudgetUsedUp, AtWork, TraceTooLong}
+use Rattle.line_stand.specs.declared.Ended.{Ended}
+use Rattle.line_stand.specs.declared.Ended.the-variants.{Done, Control as AtControl, Refused as AtRefusal}
+use Rattle.line_stand.specs.declared.Why.{Why as WorkWhy}
+use Rattle.line_stand.specs.declared.Why.the-variants.{BudgetUsedUp, AtWork, TraceTooLong}
 use Rattle.line_answer.specs.declared.Why.{Why}
 use Rattle.line_answer.specs.declared.Why.the-variants.{BadControl as NoControl, InMacro as NoMacro, BudgetUsedUp as UsedUp, AtWork as Stopped, TraceTooLong as TraceFull}
 use Rattle.line_answer.specs.declared.Fed.{Fed}

@@ -15,8 +15,8 @@ use Rattle.line_control.specs.Contract.{Obeys}
 use Rattle.line_control.specs.declared.Order.{Order}
 use Rattle.line_control.specs.declared.Order.the-variants.{Taken}
 use Rattle.line_passes.specs.Contract.{Lies}
-use Rattle.line_passes.specs.declared.Ended.{Ended}
-use Rattle.line_passes.specs.declared.Ended.the-variants.{Done, Control as AtControl, Refused as AtRefusal}
+use Rattle.line_stand.specs.declared.Ended.{Ended}
+use Rattle.line_stand.specs.declared.Ended.the-variants.{Done, Control as AtControl, Refused as AtRefusal}
 use Rattle.line_answer.specs.Fed.{sizeOf}
 use Rattle.line_answer.specs.declared.Fed.{Fed}
 use Rattle.line_end.specs.Answers.{fedOf, isTaken, leavesTrace}

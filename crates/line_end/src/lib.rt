@@ -10,7 +10,7 @@ use line_answer::Fed;
 use line_control::Order;
 use line_control::control;
 use line_memory::lay_out_if;
-use line_passes::Ended;
+use line_stand::Ended;
 ghost use mathlib.Core.Path.{_≡_};
 ghost use lib.ListN.{length};
 ghost use Rattle.form_state.specs.Form.{stateBytes};

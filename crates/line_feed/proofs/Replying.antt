@@ -9,12 +9,11 @@ use native.Mathlib.Omega.{arith}
 use borrow.Author.Tests.{ltb-true, ltb-false, le-leb, lt-leb}
 use lib.Dec.{ltb}
 use lib.ListN.{length, take, replicate, length-replicate}
-use lib.Seq.{take-at, take-all, length-take-le}
+use lib.Seq.{take-all, length-take-le}
 use Rattle.macros.specs.Bounds.{mostLineBytes, mostBudget, mostTraceBytes}
 use Rattle.macros.specs.Refusals.{Refusal}
 use Rattle.macros.specs.Refusals.Refusal.{ofWork}
 use Rattle.macros.specs.Macro.{Table, pick}
-use Rattle.macros.specs.Formed.{Bytes}
 use Rattle.lines.specs.State.{State}
 use Rattle.lines.specs.Line.{Sent, Pass, Ending, Line, passesOf, hadOccurrence, ending}
 use Rattle.lines.specs.Trace.{traceOf, isOn, historyOf, traceIf}
@@ -22,10 +21,10 @@ use Rattle.lines.proofs.TraceSteps.{WritesIf, answer-writes}
 use Rattle.lines.specs.Line.Ending.{done}
 use Rattle.lines.specs.Feeding.{Kind, Answer, orderOf, kindOfDone, refusal, outputOf, tracing, ofOrder, answered, answer, hasBadByte}
 use Rattle.lines.specs.Feeding.{feed as fed}
-use Rattle.lines.specs.Feeding.Kind.{refusedWith, out, withheld, controlled}
+use Rattle.lines.specs.Feeding.Kind.{refusedWith, out, withheld}
 use Rattle.lines.specs.Feeding.Order.{wrong, orders}
 use Rattle.form_state.specs.Access.{Holds, IsState, OfState}
-use Rattle.line_memory.specs.Memory.{Memories, Feeding, IsTable, Counted, padded, laidIf}
+use Rattle.line_memory.specs.Memory.{Memories, IsTable, Counted, padded, laidIf}
 use Rattle.line_memory.proofs.Copying.{padded-whole, padded-front}
 use Rattle.line_control.specs.Contract.{Obeys}
 use Rattle.line_control.specs.Contract.{refusalOf as controlRefusal}
@@ -33,12 +32,12 @@ use Rattle.line_control.specs.declared.Why.{Why as ControlWhy}
 use Rattle.line_control.specs.declared.Why.the-variants.{BadControl, InMacro}
 use Rattle.line_control.specs.declared.Order.{Order as Obedience}
 use Rattle.line_control.specs.declared.Order.the-variants.{Taken, Refused as Wrong}
-use Rattle.line_passes.specs.Contract.{Run, Left, Started, Comes, Lies, LineLeft, IsDone, IsControl, IsRefused, Runs}
+use Rattle.line_passes.specs.Contract.{Run, Left, Started, Lies, IsDone, IsControl, IsRefused, Runs}
 use Rattle.line_passes.specs.Contract.{refusalOf as workRefusal}
-use Rattle.line_passes.specs.declared.Why.{Why as WorkWhy}
-use Rattle.line_passes.specs.declared.Why.the-variants.{BudgetUsedUp, AtWork, TraceTooLong}
-use Rattle.line_passes.specs.declared.Ended.{Ended}
-use Rattle.line_passes.specs.declared.Ended.the-variants.{Done, Control as AtControl, Refused as AtRefusal}
+use Rattle.line_stand.specs.declared.Why.{Why as WorkWhy}
+use Rattle.line_stand.specs.declared.Why.the-variants.{BudgetUsedUp, AtWork, TraceTooLong}
+use Rattle.line_stand.specs.declared.Ended.{Ended}
+use Rattle.line_stand.specs.declared.Ended.the-variants.{Done, Control as AtControl, Refused as AtRefusal}
 use Rattle.line_passes.proofs.Starting.{state-length}
 use Rattle.line_test.specs.Test.{firstDue, isLong, isBad, Firsts}
 use Rattle.line_test.specs.declared.First.{First}
@@ -48,7 +47,7 @@ use Rattle.line_answer.specs.Fed.{refusalOf, kindOf, sizeOf}
 use Rattle.line_answer.specs.declared.Why.{Why}
 use Rattle.line_answer.specs.declared.Fed.{Fed}
 use Rattle.line_answer.specs.declared.Fed.the-variants.{Out, Withheld, Control, Refused}
-use Rattle.line_end.specs.Answers.{controlWhy, workWhy, withheldBy, doneFed, ruledFed, fedOf, isTaken, leavesTrace}
+use Rattle.line_end.specs.Answers.{controlWhy, workWhy, withheldBy, doneFed, ruledFed, fedOf, isTaken}
 use Rattle.line_end.proofs.Ending.{leaves-taken, leaves-none}
 use Rattle.line_end.specs.Contract.{Obeying, Unruled, Obeyed, sizeAt, Replying, Replied}
 use Rattle.line_feed.specs.Contract.{Untraced, untraced, LentUntraced, laidOut, tracedOut, Answers, Feeds}

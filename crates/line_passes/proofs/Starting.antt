@@ -2,7 +2,7 @@
 -- Assumes nothing.
 use Prim.Native.Nat.{ℕ, _-_, _≤_}
 use mathlib.Core.Path.{_≡_, refl, ap, sym, _∙_, subst}
-use mathlib.Core.Bool.{Bool, true, false, false≢true}
+use mathlib.Core.Bool.{Bool, true, false}
 use mathlib.Core.List.{List, []}
 use native.Mathlib.Omega.{arith}
 use lib.ListN.{length, take, replicate, length-replicate}
@@ -17,12 +17,13 @@ use Rattle.lines.specs.Trace.{traceOf, isOn, historyOf}
 use Rattle.form_state.specs.Form.{stateBytes}
 use Rattle.form_state.specs.Access.{Holds, IsState, OfState}
 use Rattle.form_state.proofs.Parts.{state-size}
-use Rattle.line_memory.specs.Memory.{IsTable, padded, laidIf}
+use Rattle.line_memory.specs.Memory.{padded, laidIf}
 use Rattle.line_memory.proofs.Copying.{padded-whole, padded-front, padded-size}
 use Rattle.line_passes.specs.Contract.{Run, Left, Started, Comes, RunsTo, Runs}
-use Rattle.line_passes.specs.Passing.{Given, Memories, Stands, Open, Ready, leftOf, Ends, FromStart, runOf, isRefused, dropsTrace}
-use Rattle.line_passes.specs.declared.Ended.{Ended}
-use Rattle.line_passes.specs.declared.Ended.the-variants.{Done, Control, Refused}
+use Rattle.line_stand.specs.Standing.{Open}
+use Rattle.line_passes.specs.Passing.{Given, Memories, Stands, Ready, leftOf, Ends, FromStart, runOf, isRefused, dropsTrace}
+use Rattle.line_stand.specs.declared.Ended.{Ended}
+use Rattle.line_stand.specs.declared.Ended.the-variants.{Done, Control, Refused}
 use Rattle.line_passes.proofs.Closing.{due-all, none-closed, none-begun}
 
 -- an empty trace

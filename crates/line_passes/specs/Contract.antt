@@ -16,10 +16,10 @@ use Rattle.lines.specs.Trace.{traceOf, isOn, historyOf}
 use Rattle.form_state.specs.Access.{Holds, IsState, OfState}
 use Rattle.refusals.specs.Faults.{refusalOf as workOf}
 use Rattle.line_memory.specs.Memory.{IsTable, Counted, padded}
-use Rattle.line_passes.specs.declared.Why.{Why}
-use Rattle.line_passes.specs.declared.Why.the-variants.{BudgetUsedUp, AtWork, TraceTooLong}
-use Rattle.line_passes.specs.declared.Ended.{Ended}
-use Rattle.line_passes.specs.declared.Ended.the-variants.{Done, Control, Refused}
+use Rattle.line_stand.specs.declared.Why.{Why}
+use Rattle.line_stand.specs.declared.Why.the-variants.{BudgetUsedUp, AtWork, TraceTooLong}
+use Rattle.line_stand.specs.declared.Ended.{Ended}
+use Rattle.line_stand.specs.declared.Ended.the-variants.{Done, Control, Refused}
 
 -- 01's refusal for each reason
 abbrev pub refusalOf : Why → WorkRefusal

@@ -1,53 +1,18 @@
 // The passes of a line, from its start to its end (01, part 6).
-mod beginning;
 mod passes;
-mod slots;
 
 use kinds::kind_table;
 use line_memory::lay_out;
 use line_memory::lay_out_if;
+use line_stand::Ended;
+use line_stand::Stand;
 use pass_one::lacking::note;
 use passes::all_passes;
-use refusals::WorkFault;
 ghost use mathlib.Core.Path.{_≡_};
 ghost use Rattle.line_passes.specs.Contract.{Started, Runs, RunsTo};
 ghost use Rattle.line_passes.specs.Passing.{FromStart, runOf, isRefused, dropsTrace};
 
-// Why the table at work refuses a line: 31, a pass's fault, or 36.
-pub enum Why {
-    BudgetUsedUp,
-    AtWork(WorkFault),
-    TraceTooLong,
-}
-
-// How a line ends: done, with its length and whether it had an occurrence; a control line, with its length; or refused. Last the passes begun.
-pub enum Ended {
-    Done(usize, bool, usize),
-    Control(usize, usize),
-    Refused(Why, usize),
-}
-
-// Where a line stands, before a pass or at its end: its length, whether it had an occurrence, how many of the oldest macros may be due, the passes begun, and the bytes of the trace.
-pub(crate) struct Stand {
-    pub(crate) size: usize,
-    pub(crate) occurred: bool,
-    pub(crate) due: usize,
-    pub(crate) begun: usize,
-    pub(crate) written: usize,
-}
-
-// What is due where a line stands: its end, or the pass of the macro with this number.
-pub(crate) enum Due {
-    Over(Ended),
-    Pass(usize),
-}
-
-// After a pass, or instead of it.
-pub(crate) enum Next {
-    On(Stand),
-    Over(Ended),
-}
-
+// Whether a line is refused.
 fn is_refused(ended: Ended) -> bool
     ensures { λ r. ⌜ r ≡ isRefused ended ⌝ }
 {

@@ -9,8 +9,6 @@ use lib.Dec.{ltb}
 use lib.ListN.{length}
 use Rattle.macros.specs.Bounds.{mostLineBytes, mostBudget}
 use Rattle.macros.specs.Macro.{pick}
-use Rattle.macros.specs.Formed.{Bytes}
-use Rattle.lines.specs.Feeding.{hasBadByte}
 use Rattle.line_test.specs.Test.{Tested, firstDue, isLong, isBad, FoundBad, Firsts}
 use Rattle.line_test.specs.declared.Why.the-variants.{BudgetTooLarge, LineTooLong, BadByte}
 use Rattle.line_test.specs.declared.First.{First}

@@ -1,4 +1,4 @@
-use mathlib.Core.Path.{refl, sym, _∙_}
+use mathlib.Core.Path.{refl, _∙_}
 use native.Mathlib.Omega.{arith}
 use Rattle.line_passes.proofs.Starting.{back-fits, line-fits, begun, runs-end}
 use Rattle.line_passes.proofs.run_line.Statement.{statement}

@@ -1,4 +1,3 @@
-use denote.Ref.{now}
 use Rattle.line_test.proofs.Firsts.{bad-long, bad-tested}
 use Rattle.line_test.proofs.is_bad.Statement.{statement}
 use Rattle.line_test.proofs.is_bad.Tie as tie
