@@ -10,12 +10,13 @@ use borrow.Author.Tests.{leb-true, le-leb, eqb-true, eq-eqb, ne-eqb}
 use lib.ListN.{length, getD, take, drop, replicate, length-append, length-drop, length-map, take-append-drop}
 use lib.Seq.{take-at, drop-at, drop-drop, drop-cons, length-take-le}
 use Rattle.macros.specs.Formed.{Between, Bytes, Octets}
-use Rattle.macros.specs.Bounds.{mostEntries, mostCounter}
+use Rattle.macros.specs.Bounds.{mostEntries, mostEntryBytes, mostCounter}
 use Rattle.macros.specs.Macro.{within}
 use Rattle.form_bytes.specs.Fours.{four, numberAt}
 use Rattle.form_bytes.proofs.Laws.{four-there, four-back}
 use Rattle.lines.specs.State.{Stack, Counter, State, AllOf, EntryInRange, StackInRange, CounterInRange, InRange}
 use Rattle.form_state.specs.Form.{pointersForm, valuesForm, incrementsForm, entryForm, stacksForm, stateForm}
+use Rattle.form_state.specs.Form.{entryFormBy, stateFormBy}
 use Rattle.form_state.specs.FormLaws.{OneStateForm}
 use Rattle.form_state.specs.Check.{pointersCheck, numberCheck, entryCheck, blocksCheck, stateChecks, StateCheckExact}
 use Rattle.form_state.proofs.Each.{each, itself, chunks, zip, each-append, each-length, each-back, each-chunks, chunks-each, chunks-wide, length-chunks, map-back, all-any, all-map, all-both, all-take, all-drop, all-append, all-chunks, all-of-map, each-all, zip-length, zip-all, zip-left, zip-right, zip-back}
@@ -148,7 +149,7 @@ padded (zero ∷ c) e = rw (sub-zero (suc (length c))) (ap (λ (t : List ℕ). z
 padded (suc b ∷ c) e = rw (suc-sub-suc (length c) (length (text c))) (ap (λ (t : List ℕ). suc b ∷ t) (padded c (tail-checks (suc b) c e)))
 
 entry-right : (c : List ℕ) → length c ≡ 50 → entryCheck c ≡ true → entryForm (text c) ≡ c
-unfolding entryForm
+unfolding entryFormBy
 entry-right c l e = rw (← l) (padded c e)
 
 entry-range : (c : List ℕ) → length c ≡ 50 → AllOf parts.Small c → EntryInRange (text c)
@@ -164,7 +165,7 @@ text-entry (zero ∷ e) n h = absurd (omega (arith, h .0))
 text-entry (suc b ∷ e) n h = ap (λ (t : List ℕ). suc b ∷ t) (text-entry e n (h .1))
 
 entry-left : (e : List ℕ) → EntryInRange e → text (entryForm e) ≡ e
-unfolding entryForm
+unfolding entryFormBy
 entry-left e h = text-entry e (50 - length e) (h .0)
 
 zeros-check : (n : ℕ) → entryCheck (replicate n 0) ≡ true
@@ -183,7 +184,7 @@ entry-checks [] n h = zeros-check n
 entry-checks (b ∷ e) n h = cons-checks b (e ++ replicate n 0) (h .0 .0) (entry-checks e n (h .1))
 
 entry-of : (e : List ℕ) → EntryInRange e → entryCheck (entryForm e) ≡ true
-unfolding entryForm
+unfolding entryFormBy
 entry-of e h = entry-checks e (50 - length e) (h .0)
 
 entries-right : (n : ℕ) (l : List ℕ) → length l ≡ 50 * n → AllOf parts.Small l → blocksCheck entryCheck 50 n l ≡ true
@@ -314,14 +315,15 @@ stateOf b =
       counters = countersFrom 26 (map number (chunks 4 52 (take 208 (drop 28 b))));
       trace = getD b 0 0;
       nflag = getD b 1 0;
+      entryBytes = mostEntryBytes;
     }
 
 trace-first : (st : State) → getD (stateForm st) 0 0 ≡ st .trace
-unfolding stateForm
+unfolding stateFormBy
 trace-first st = refl
 
 nflag-second : (st : State) → getD (stateForm st) 1 0 ≡ st .nflag
-unfolding stateForm
+unfolding stateFormBy
 nflag-second st = refl
 
 -- a form decodes to its state
@@ -335,6 +337,7 @@ decodes st h =
     rw (parts.numbers-part st h, numbers-form (st .counters), numbers-left (numbersOf (st .counters)) 52 (numbers-count (st .counters) 26 (h .counterCount)) (numbers-range (st .counters) (h .counters)))
     (counters-left (st .counters) 26 (h .counterCount)) in
     rw (stacks, counters, trace-first st, nflag-second st)
+    (ap (λ (n : ℕ). record { stacks = st .stacks; counters = st .counters; trace = st .trace; nflag = st .nflag; entryBytes = n }) (sym (h .entryBytes)))
 
 pub one-state-form : OneStateForm
 one-state-form st other h g e = sym (decodes st h) ∙ ap stateOf e ∙ decodes other g
@@ -393,7 +396,7 @@ cut b h =
 
 -- what passes is a form
 passed : (b : List ℕ) → Octets b → Passed b → InRange (stateOf b) × (stateForm (stateOf b) ≡ b)
-unfolding stateOf stateForm
+unfolding stateOf stateFormBy
 passed b o p =
     let small : AllOf parts.Small b = parts.octets-all b o in
     let ps : List ℕ = take 26 (drop 2 b) in
@@ -405,7 +408,7 @@ passed b o p =
     let cs = counters-right 26 (map number (chunks 4 52 (take 208 (drop 28 b)))) (length-map (chunks 4 52 (take 208 (drop 28 b))) number ∙ length-chunks 4 52 (take 208 (drop 28 b))) (ns .1) in
     let ks = stacks-right 26 ps (map text (chunks 50 520 (drop 236 b))) first (length-map (chunks 50 520 (drop 236 b)) text ∙ length-chunks 50 520 (drop 236 b)) (p .pointers) (es .1) in
     let vs = countersFrom 26 (map number (chunks 4 52 (take 208 (drop 28 b)))) in (
-      record { stackCount = ks .count; stacks = ks .range; counterCount = cs .count; counters = cs .range; trace = p .trace; nflag = p .nflag },
+      record { stackCount = ks .count; stacks = ks .range; counterCount = cs .count; counters = cs .range; trace = p .trace; nflag = p .nflag; entryBytes = refl },
       rw (ks .pointers, ks .entries, es .0, ← append-assoc (valuesForm vs) (incrementsForm vs) (drop 236 b), cs .numbers, ns .0) (cut b (p .size)),
     )
 

@@ -14,6 +14,7 @@ use Rattle.lines.specs.State.{Stack, Counter, State, AllOf, freshStack, freshCo
 use Rattle.lines.specs.Replacing.{Work, withStack, withCounter, withPointer, withValue, withIncrement, withEntry}
 use Rattle.lines.specs.Feeding.{withTrace, withNflag}
 use Rattle.form_state.specs.Form.{pointersForm, valuesForm, incrementsForm, entryForm, entriesForm, stacksForm, stateForm}
+use Rattle.form_state.specs.Form.{entryFormBy, stateFormBy}
 use Rattle.form_state.specs.Check.{stateChecks}
 use Rattle.form_state.specs.Access.{Holds, IsState, replaced, textLength}
 use Rattle.form_bytes.proofs.Reading.{number-block}
@@ -63,7 +64,7 @@ stay a b p w h = ap (take w) (drop-append-le p a b (omega arith)) ∙ take-appen
 
 module _ (st : State) (g : InRange st) where
   behind-pointers : (k w : ℕ) → take w (drop (2 + (26 + k)) (stateForm st)) ≡ take w (drop k (valuesOf st ++ (incrementsOf st ++ stacksOf st)))
-  unfolding stateForm
+  unfolding stateFormBy
   behind-pointers k w =
       skip (flagsOf st) (pointersOf st ++ (valuesOf st ++ (incrementsOf st ++ stacksOf st))) 2 (26 + k) w refl
       ∙ skip (pointersOf st) (valuesOf st ++ (incrementsOf st ++ stacksOf st)) 26 k w (parts.pointers-26 st g)
@@ -87,13 +88,13 @@ module _ (st : State) (g : InRange st) where
       rw e (behind-values (104 + k) w ∙ skip (incrementsOf st) (stacksOf st) 104 k w (parts.increments-104 st g))
 
   put-pointers : (k : ℕ) (u : List ℕ) → k + length u ≤ 26 → replaced (stateForm st) (2 + k) u ≡ made st (replaced (pointersOf st) k u) (valuesOf st) (incrementsOf st) (stacksOf st)
-  unfolding stateForm
+  unfolding stateFormBy
   put-pointers k u fit =
       replaced-right (flagsOf st) (pointersOf st ++ (valuesOf st ++ (incrementsOf st ++ stacksOf st))) 2 k u refl
       ∙ ap (λ (x : List ℕ). flagsOf st ++ x) (replaced-left (pointersOf st) (valuesOf st ++ (incrementsOf st ++ stacksOf st)) k u (omega (arith, parts.pointers-26 st g)))
 
   put-behind : (k : ℕ) (u : List ℕ) → replaced (stateForm st) (2 + (26 + k)) u ≡ flagsOf st ++ (pointersOf st ++ replaced (valuesOf st ++ (incrementsOf st ++ stacksOf st)) k u)
-  unfolding stateForm
+  unfolding stateFormBy
   put-behind k u =
       replaced-right (flagsOf st) (pointersOf st ++ (valuesOf st ++ (incrementsOf st ++ stacksOf st))) 2 (26 + k) u refl
       ∙ ap (λ (x : List ℕ). flagsOf st ++ x) (replaced-right (pointersOf st) (valuesOf st ++ (incrementsOf st ++ stacksOf st)) 26 k u (parts.pointers-26 st g))
@@ -158,16 +159,16 @@ text-fits n a l e =
 
 module _ (b : List ℕ) (st : State) (h : Holds b st) where
   pub read-trace : getD b 0 0 ≡ st .trace
-  unfolding stateForm
+  unfolding stateFormBy
   read-trace = ap (λ (x : List ℕ). getD x 0 0) (sym (h .form))
 
   pub read-nflag : getD b 1 0 ≡ st .nflag
-  unfolding stateForm
+  unfolding stateFormBy
   read-nflag = ap (λ (x : List ℕ). getD x 1 0) (sym (h .form))
 
   module _ (i j : ℕ) (l : Letter i) (e : j ≡ i - 97) where
     pub read-pointer : getD b (2 + j) 0 ≡ stackOf st i .pointer
-    unfolding stateForm stackOf
+    unfolding stateFormBy stackOf
     read-pointer =
         let less : j < length (st .stacks) = omega (arith, h .inRange .stackCount) in
         let rest : List ℕ = valuesForm (st .counters) ++ (incrementsForm (st .counters) ++ stacksForm (st .stacks)) in
@@ -229,7 +230,7 @@ module _ (b : List ℕ) (st : State) (h : Holds b st) where
 
     -- the part that is handed out
     pub entry-is : (a n : ℕ) → a ≡ 236 + (1000 * (i - 97) + 50 * (stackOf st i .pointer - 1)) → n ≡ textLength (take (a + 50 - a) (drop a b)) → take (a + n - a) (drop a b) ≡ currentEntry st i
-    unfolding entryForm
+    unfolding entryFormBy
     entry-is a n e c =
         let t : List ℕ = currentEntry st i in
         let z : List ℕ = replicate (50 - length t) 0 in
@@ -245,26 +246,26 @@ module _ (b : List ℕ) (st : State) (h : Holds b st) where
 -- STORING
 
 pub trace-set : (b : List ℕ) (st : State) (n : ℕ) → Holds b st → n ≤ 1 → Holds (set b 0 n) (withTrace n st)
-unfolding stateForm withTrace
+unfolding stateFormBy withTrace
 trace-set b st n h l =
     record {
-      inRange = record { stackCount = h .inRange .stackCount; stacks = h .inRange .stacks; counterCount = h .inRange .counterCount; counters = h .inRange .counters; trace = l; nflag = h .inRange .nflag };
+      inRange = record { stackCount = h .inRange .stackCount; stacks = h .inRange .stacks; counterCount = h .inRange .counterCount; counters = h .inRange .counters; trace = l; nflag = h .inRange .nflag; entryBytes = h .inRange .entryBytes };
       form = ap (λ (x : List ℕ). set x 0 n) (h .form);
     }
 
 pub nflag-set : (b : List ℕ) (st : State) (n : ℕ) → Holds b st → n ≤ 1 → Holds (set b 1 n) (withNflag n st)
-unfolding stateForm withNflag
+unfolding stateFormBy withNflag
 nflag-set b st n h l =
     record {
-      inRange = record { stackCount = h .inRange .stackCount; stacks = h .inRange .stacks; counterCount = h .inRange .counterCount; counters = h .inRange .counters; trace = h .inRange .trace; nflag = l };
+      inRange = record { stackCount = h .inRange .stackCount; stacks = h .inRange .stacks; counterCount = h .inRange .counterCount; counters = h .inRange .counters; trace = h .inRange .trace; nflag = l; entryBytes = h .inRange .entryBytes };
       form = ap (λ (x : List ℕ). set x 1 n) (h .form);
     }
 
 abbrev withStacks : State → List Stack → State
-withStacks st ks = record { stacks = ks; counters = st .counters; trace = st .trace; nflag = st .nflag }
+withStacks st ks = record { stacks = ks; counters = st .counters; trace = st .trace; nflag = st .nflag; entryBytes = st .entryBytes }
 
 abbrev withCounters : State → List Counter → State
-withCounters st cs = record { stacks = st .stacks; counters = cs; trace = st .trace; nflag = st .nflag }
+withCounters st cs = record { stacks = st .stacks; counters = cs; trace = st .trace; nflag = st .nflag; entryBytes = st .entryBytes }
 
 stacks-range : (st : State) (j : ℕ) (y : Stack) → InRange st → StackInRange y → InRange (withStacks st (set (st .stacks) j y))
 stacks-range st j y h g =
@@ -275,6 +276,7 @@ stacks-range st j y h g =
       counters = h .counters;
       trace = h .trace;
       nflag = h .nflag;
+      entryBytes = h .entryBytes;
     }
 
 counters-range : (st : State) (j : ℕ) (y : Counter) → InRange st → CounterInRange y → InRange (withCounters st (set (st .counters) j y))
@@ -286,6 +288,7 @@ counters-range st j y h g =
       counters = all-set CounterInRange (st .counters) j y (h .counters) g;
       trace = h .trace;
       nflag = h .nflag;
+      entryBytes = h .entryBytes;
     }
 
 -- one number of the counters' parts is another
@@ -304,7 +307,7 @@ module _ (b e : List ℕ) (i : ℕ) (w : Work) (h : Holds b (w .state)) (l : Let
   g = h .inRange
 
   pub pointer-set : (n j : ℕ) → Between 1 mostEntries n → j ≡ i - 97 → e ≡ set b (2 + j) n → Holds e (withPointer i n w .state)
-  unfolding withPointer withStack stackOf stateForm
+  unfolding withPointer withStack stackOf stateFormBy
   pointer-set n j r at d =
       let m : ℕ = i - 97 in
       let ks : List Stack = st .stacks in
@@ -331,7 +334,7 @@ module _ (b e : List ℕ) (i : ℕ) (w : Work) (h : Holds b (w .state)) (l : Let
       }
 
   pub value-set : (n j : ℕ) → Number n → j ≡ i - 97 → e ≡ replaced b (28 + 4 * j) (four n) → Holds e (withValue i n w .state)
-  unfolding withValue withCounter counterOf stateForm
+  unfolding withValue withCounter counterOf stateFormBy
   value-set n j r at d =
       let m : ℕ = i - 97 in
       let cs : List Counter = st .counters in
@@ -354,7 +357,7 @@ module _ (b e : List ℕ) (i : ℕ) (w : Work) (h : Holds b (w .state)) (l : Let
       }
 
   pub increment-set : (n j : ℕ) → Number n → j ≡ i - 97 → e ≡ replaced b (132 + 4 * j) (four n) → Holds e (withIncrement i n w .state)
-  unfolding withIncrement withCounter counterOf stateForm
+  unfolding withIncrement withCounter counterOf stateFormBy
   increment-set n j r at d =
       let m : ℕ = i - 97 in
       let cs : List Counter = st .counters in
@@ -377,7 +380,7 @@ module _ (b e : List ℕ) (i : ℕ) (w : Work) (h : Holds b (w .state)) (l : Let
       }
 
   pub entry-set : (t : List ℕ) (a : ℕ) → EntryInRange t → a ≡ 236 + (1000 * (i - 97) + 50 * (stackOf st i .pointer - 1)) → e ≡ replaced b a (entryForm t) → Holds e (withEntry i t w .state)
-  unfolding withEntry withStack stackOf stateForm
+  unfolding withEntry withStack stackOf stateFormBy
   entry-set t a r at d =
       let m : ℕ = i - 97 in
       let ks : List Stack = st .stacks in

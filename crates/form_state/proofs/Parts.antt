@@ -10,6 +10,7 @@ use Rattle.macros.specs.Bounds.{mostCounter}
 use Rattle.form_bytes.specs.Fours.{four}
 use Rattle.lines.specs.State.{Stack, Counter, State, AllOf, EntryInRange, StackInRange, InRange}
 use Rattle.form_state.specs.Form.{stateBytes, pointersForm, valuesForm, incrementsForm, entryForm, entriesForm, stacksForm, stateForm}
+use Rattle.form_state.specs.Form.{entryFormBy, entriesFormBy, stacksFormBy, stateFormBy}
 use Rattle.form_state.specs.FormLaws.{StateSize}
 use Rattle.form_state.proofs.Each.{each, each-append, each-length, each-all, all-any, all-map, all-append}
 
@@ -49,17 +50,17 @@ increments-each [] = refl
 increments-each (k ∷ ks) = ap (λ (t : List ℕ). four (k .increment) ++ t) (increments-each ks)
 
 pub entries-each : (es : List (List ℕ)) → entriesForm es ≡ each entryForm es
-unfolding entriesForm
+unfolding entriesFormBy
 entries-each [] = refl
 entries-each (e ∷ es) = ap (λ (t : List ℕ). entryForm e ++ t) (entries-each es)
 
 pub stacks-each : (ks : List Stack) → stacksForm ks ≡ each stackForm ks
-unfolding stacksForm
+unfolding stacksFormBy
 stacks-each [] = refl
 stacks-each (k ∷ ks) = ap (λ (t : List ℕ). entriesForm (k .entries) ++ t) (stacks-each ks)
 
 pub stacks-flat : (ks : List Stack) → stacksForm ks ≡ each entryForm (each entriesOf ks)
-unfolding stacksForm
+unfolding stacksFormBy
 stacks-flat [] = refl
 stacks-flat (k ∷ ks) = rw (entries-each (k .entries), stacks-flat ks) (sym (each-append entryForm (k .entries) (each entriesOf ks)))
 
@@ -70,7 +71,7 @@ unfolding four
 four-wide n = refl
 
 pub entry-wide : (e : List ℕ) → EntryInRange e → length (entryForm e) ≡ 50
-unfolding entryForm
+unfolding entryFormBy
 entry-wide e h = rw (length-append e (replicate (50 - length e) 0), length-replicate {A = ℕ} (50 - length e) 0) (omega (arith, h .1))
 
 pub entries-wide : (es : List (List ℕ)) → AllOf EntryInRange es → AllOf (λ e. length (entryForm e) ≡ 50) es
@@ -112,11 +113,11 @@ module _ (st : State) (h : InRange st) where
   stacks-26000 = length-stacks (st .stacks) (h .stacks) ∙ ap (λ (n : ℕ). 1000 * n) (h .stackCount)
 
   pub pointers-part : take 26 (drop 2 (stateForm st)) ≡ pointersForm (st .stacks)
-  unfolding stateForm
+  unfolding stateFormBy
   pointers-part = take-at (pointersForm (st .stacks)) (valuesForm (st .counters) ++ (incrementsForm (st .counters) ++ stacksForm (st .stacks))) 26 pointers-26
 
   behind : drop 28 (stateForm st) ≡ (valuesForm (st .counters) ++ incrementsForm (st .counters)) ++ stacksForm (st .stacks)
-  unfolding stateForm
+  unfolding stateFormBy
   behind =
       drop-at (pointersForm (st .stacks)) (valuesForm (st .counters) ++ (incrementsForm (st .counters) ++ stacksForm (st .stacks))) 26 pointers-26
       ∙ sym (append-assoc (valuesForm (st .counters)) (incrementsForm (st .counters)) (stacksForm (st .stacks)))
@@ -128,7 +129,7 @@ module _ (st : State) (h : InRange st) where
   stacks-part = sym (drop-drop 208 28 (stateForm st)) ∙ ap (drop 208) behind ∙ drop-at (valuesForm (st .counters) ++ incrementsForm (st .counters)) (stacksForm (st .stacks)) 208 numbers-208
 
   pub size : length (stateForm st) ≡ stateBytes
-  unfolding stateForm
+  unfolding stateFormBy
   size =
       rw (
         length-append (pointersForm (st .stacks)) (valuesForm (st .counters) ++ (incrementsForm (st .counters) ++ stacksForm (st .stacks))),
@@ -166,14 +167,14 @@ zeros-small zero = tt
 zeros-small (suc n) = (omega arith, zeros-small n)
 
 entry-small : (e : List ℕ) → EntryInRange e → AllOf Small (entryForm e)
-unfolding entryForm
+unfolding entryFormBy
 entry-small e h = all-append Small e (replicate (50 - length e) 0) (bytes-small e (h .0)) (zeros-small (50 - length e))
 
 stack-small : (k : Stack) → StackInRange k → AllOf Small (stackForm k)
 stack-small k h = rw (entries-each (k .entries)) (each-all Small entryForm (k .entries) (all-map entry-small (k .entries) (h .entries)))
 
 pub state-size : StateSize
-unfolding stateForm
+unfolding stateFormBy
 state-size st h = (
   size st h,
   all-octets (stateForm st) (

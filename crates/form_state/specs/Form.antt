@@ -27,22 +27,42 @@ unfoldable pub incrementsForm : List Counter → List ℕ
 incrementsForm [] = []
 incrementsForm (k ∷ ks) = four (k .increment) ++ incrementsForm ks
 
+-- FOR ENTRIES OF n BYTES (02, N6)
+
 -- an entry and the zeros behind it
-unfoldable pub entryForm : List ℕ → List ℕ
-entryForm e = e ++ replicate (mostEntryBytes - length e) 0
+unfoldable pub entryFormBy : (n : ℕ) → List ℕ → List ℕ
+entryFormBy n e = e ++ replicate (n - length e) 0
 
 -- the entries of a stack
-unfoldable pub entriesForm : List (List ℕ) → List ℕ
-entriesForm [] = []
-entriesForm (e ∷ es) = entryForm e ++ entriesForm es
+unfoldable pub entriesFormBy : (n : ℕ) → List (List ℕ) → List ℕ
+entriesFormBy n [] = []
+entriesFormBy n (e ∷ es) = entryFormBy n e ++ entriesFormBy n es
 
 -- the entries of all stacks
-unfoldable pub stacksForm : List Stack → List ℕ
-stacksForm [] = []
-stacksForm (k ∷ ks) = entriesForm (k .entries) ++ stacksForm ks
+unfoldable pub stacksFormBy : (n : ℕ) → List Stack → List ℕ
+stacksFormBy n [] = []
+stacksFormBy n (k ∷ ks) = entriesFormBy n (k .entries) ++ stacksFormBy n ks
 
 -- a whole state
-unfoldable pub stateForm : State → List ℕ
-stateForm st =
+unfoldable pub stateFormBy : (n : ℕ) → State → List ℕ
+stateFormBy n st =
     st .trace ∷ st .nflag
-    ∷ (pointersForm (st .stacks) ++ (valuesForm (st .counters) ++ (incrementsForm (st .counters) ++ stacksForm (st .stacks))))
+    ∷ (pointersForm (st .stacks) ++ (valuesForm (st .counters) ++ (incrementsForm (st .counters) ++ stacksFormBy n (st .stacks))))
+
+-- WITH TODAY'S 50 BYTES
+
+-- an entry and the zeros behind it
+abbrev pub entryForm : List ℕ → List ℕ
+entryForm = entryFormBy mostEntryBytes
+
+-- the entries of a stack
+abbrev pub entriesForm : List (List ℕ) → List ℕ
+entriesForm = entriesFormBy mostEntryBytes
+
+-- the entries of all stacks
+abbrev pub stacksForm : List Stack → List ℕ
+stacksForm = stacksFormBy mostEntryBytes
+
+-- a whole state
+abbrev pub stateForm : State → List ℕ
+stateForm = stateFormBy mostEntryBytes

@@ -6,7 +6,7 @@ use mathlib.Core.List.{List, [], _∷_}
 use mathlib.Core.Option.{Option, none, some}
 use lib.Dec.{leb, ltb, eqb}
 use lib.ListN.{length, drop}
-use Rattle.macros.specs.Bounds.{mostLineBytes, mostBudget, mostTraceBytes, mostEntries, mostCounter, mostEntryBytes}
+use Rattle.macros.specs.Bounds.{mostLineBytes, mostBudget, mostTraceBytes, mostEntries, mostCounter}
 use Rattle.macros.specs.Refusals.{WorkRefusal}
 use Rattle.macros.specs.Refusals.Refusal.{ofHost, ofLine, ofWork}
 use Rattle.macros.specs.Refusals.HostRefusal.{budgetTooLarge}
@@ -20,7 +20,7 @@ use Rattle.macros.specs.Macro.Sign.{plus, minus}
 use Rattle.macros.specs.Macro.Move.{still, before, after}
 use Rattle.macros.specs.Macro.Call.{insert, storeTag, setTo, storeText, setIncrement, divide}
 use Rattle.macros.specs.Macro.Action.{text, tag, call}
-use Rattle.macros.specs.Read.{Read, readOnto}
+use Rattle.macros.specs.Read.{Read, readOntoBy}
 use Rattle.macros.specs.ReadFile.Read.{refusedAt, table}
 use Rattle.lines.specs.State.{State, stackOf, counterOf, currentEntry, contents}
 use Rattle.lines.specs.Matching.{Division, begins, fits, width, endOf, stops, tagText}
@@ -42,7 +42,7 @@ module _ (n : ℕ) where
   -- WITH ANOTHER FLAG
 
   abbrev flagged : State → State
-  flagged st = record { stacks = st .stacks; counters = st .counters; trace = n; nflag = st .nflag }
+  flagged st = record { stacks = st .stacks; counters = st .counters; trace = n; nflag = st .nflag; entryBytes = st .entryBytes }
 
   abbrev workWith : Work → Work
   workWith w = record { out = w .out; size = w .size; state = flagged (w .state) }
@@ -144,7 +144,7 @@ module _ (n : ℕ) where
 
   stores-with : (i : ℕ) (t : List ℕ) (w : Work) → stores i t (workWith w) ≡ doneWith (stores i t w)
   unfolding stores withEntry withStack stackOf
-  stores-with i t w = unless-with (leb (length t) mostEntryBytes) tagTooLong w _
+  stores-with i t w = unless-with (leb (length t) (w .state .entryBytes)) tagTooLong w _
 
   bind-with : (a : Done) (k : Work → Done) → ((w : Work) → k (workWith w) ≡ doneWith (k w)) → (doneWith a >>= k) ≡ doneWith (a >>= k)
   bind-with (bad r w) k h = refl
@@ -359,9 +359,9 @@ module _ (ms : Table) (n k : ℕ) (st : State) where
   unfolding orderOf
   order-alike t = by (begins (bytes "$MACRO") t)
     where
-      by : (b : Bool) → AlikeOrders (elim b [ true ↦ macroOrder ms (flagged n st) (readOnto ms (drop 6 t)) | false ↦ flagOrder ms (flagged n st) t ])
-          (elim b [ true ↦ macroOrder ms (flagged k st) (readOnto ms (drop 6 t)) | false ↦ flagOrder ms (flagged k st) t ])
-      by true = macro-alike (readOnto ms (drop 6 t))
+      by : (b : Bool) → AlikeOrders (elim b [ true ↦ macroOrder ms (flagged n st) (readOntoBy (st .entryBytes) ms (drop 6 t)) | false ↦ flagOrder ms (flagged n st) t ])
+          (elim b [ true ↦ macroOrder ms (flagged k st) (readOntoBy (st .entryBytes) ms (drop 6 t)) | false ↦ flagOrder ms (flagged k st) t ])
+      by true = macro-alike (readOntoBy (st .entryBytes) ms (drop 6 t))
       by false = flag-alike t
 
 -- ANSWERS

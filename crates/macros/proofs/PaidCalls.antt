@@ -15,6 +15,7 @@ use Rattle.macros.specs.Macro.Call.{divide, insert, setIncrement, setTo,
 use Rattle.macros.specs.Macro.Action.{call, tag, text}
 use Rattle.macros.specs.Formed.{Byte, Bytes, Commands, Formed, FormedCall, FormedCommands, FormedReplacement, Letter, Named}
 use Rattle.macros.specs.Read.{Front, Part, Phase, Site, CallSite, Turn, andDigit, behindCall, breaks, callByte, callsByte, callsFresh, commandsByte, commandsFresh, isStill, macroOf, mayInsert, mayStoreTag, numberEnd, otherwise, piecesOf, replacementByte, replacementFresh, siteOf, tagEnd, textByte, turned}
+use Rattle.macros.specs.Read.{textByteBy}
 use Rattle.macros.specs.ReadSoFar.Phase.{begun, comma, divisor, equals, increment, named, signed, tagNamed, tagSigned, tagged, texted}
 use Rattle.macros.specs.ReadSoFar.CallSite.{callsSoFar, commandsSoFar, replacementSoFar}
 use Rattle.macros.specs.ReadSoFar.Part.{callText, calling, calls, commands, replacement, tagNumber}
@@ -211,7 +212,7 @@ no-call-text-sign b s c f h =
 
 pub call-text-good : (n b : ℕ) → Byte b → (pl : CallSite) (i : ℕ) (j : Move) (t : List ℕ) → eqb b 47 ≡ false → load (callText pl i j t) ≤ n → Fit (callText pl i j t)
     → Good n (textByte pl i j t b)
-unfolding textByte load Fit FitPhase loadCall costText
+unfolding textByteBy load Fit FitPhase loadCall costText
 call-text-good n b g pl i j t s l h =
     either (λ e. fine (omega arith) (h .0, (h .1, h .2, h .3)))
     (λ c. either (λ e. fault tt)

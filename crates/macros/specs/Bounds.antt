@@ -33,6 +33,10 @@ mostEntries = 20
 abbrev pub mostEntryBytes : ℕ
 mostEntryBytes = 50
 
+-- the same of the engine before N6 of 02
+abbrev pub oldEntryBytes : ℕ
+oldEntryBytes = 50
+
 -- the largest counter, the largest increment, and the largest number that a counter is divided by (02, N7)
 abbrev pub mostCounter : ℕ
 mostCounter = 999999999

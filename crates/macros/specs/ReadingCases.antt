@@ -15,7 +15,7 @@ use Rattle.macros.specs.Macro.Action.{text, tag, call}
 use Rattle.macros.specs.Macro.Symbol.{equal, less}
 use Rattle.macros.specs.Read.{readFile}
 use Rattle.macros.specs.ReadFile.Read.{table}
-use Rattle.macros.specs.Cases.{everything, bytes, Case, Hold}
+use Rattle.macros.specs.Cases.{everything, bytes, oldShown, Case, Hold}
 use Rattle.macros.specs.Cases.Case.{_is_at_, _becomes_, _shortensTo_, _skips_, long}
 
 -- 01's M11 to M13
@@ -468,6 +468,18 @@ pub texts : Hold (
     ∷ (long "'a'='&(a:" 50 "x" "\n" 12 59) ∷ [])
 unfolding everything
 texts = refl
+
+-- 02, N6: the same as the old engine reads, with texts of at most 50 bytes
+pub oldTexts :
+    (oldShown "'a'='&(a:" 50 "x" ":)';" ≡ (0, 1)) ×
+    (oldShown "'a'='&(a:\\:" 49 "x" ":)';" ≡ (0, 1)) ×
+    (oldShown "'a'='&(a:" 51 "x" ":)';" ≡ (16, 59)) ×
+    (oldShown "'a'='&(a:" 50 "x" "\\x" ≡ (16, 59)) ×
+    (oldShown "'a'='&(a:" 50 "x" "'" ≡ (12, 59)) ×
+    (oldShown "&(s:" 50 "x" ":)'a'='b';" ≡ (0, 1)) ×
+    (oldShown "&(s:" 51 "x" ":)'a'='b';" ≡ (16, 54))
+unfolding everything
+oldTexts = (refl, refl, refl, refl, refl, refl, refl)
 
 -- THE 513TH BYTE: 12 to 17 come before 18; the file's end is no byte; skipped bytes count
 pub byte513 : Hold (
