@@ -7,7 +7,8 @@ use native.Mathlib.Omega.{arith}
 use lib.ListN.{length, replicate, length-append, length-replicate, replicate-append-replicate}
 use Rattle.form_bytes.specs.Fours.{four}
 use Rattle.lines.specs.State.{fresh, freshStack, freshCounter}
-use Rattle.form_state.specs.Form.{pointersForm, valuesForm, incrementsForm, entryForm, entriesForm, stacksForm, stateForm}
+use Rattle.form_state.specs.Form.{pointersForm, valuesForm, incrementsForm, entryFormBy, entriesForm, stacksForm, stateForm}
+use Rattle.form_state.specs.Form.{entriesFormBy, stacksFormBy, stateFormBy}
 use Rattle.form_state.specs.Access.{replaced}
 use Rattle.form_state.proofs.Replaced.{replaced-left, replaced-right, replaced-whole, replaced-behind}
 use Rattle.form_fresh.specs.Ones.{ones}
@@ -57,7 +58,7 @@ run : (w n : ℕ) → replicate w 0 ++ replicate (w * n) 0 ≡ replicate {A = �
 run w n = replicate-append-replicate w (w * n) 0 ∙ ap (λ (k : ℕ). replicate k 0) (add-comm w (w * n) ∙ sym (mul-suc w n))
 
 entries-zero : (n : ℕ) → entriesForm (replicate n []) ≡ replicate (50 * n) 0
-unfolding entriesForm entryForm
+unfolding entriesFormBy entryFormBy
 entries-zero zero = refl
 entries-zero (suc n) = ap (λ (t : List ℕ). replicate 50 0 ++ t) (entries-zero n) ∙ run 50 n
 
@@ -66,7 +67,7 @@ unfolding freshStack
 stack-zero = entries-zero 20
 
 stacks-zero : (n : ℕ) → stacksForm (replicate n freshStack) ≡ replicate (1000 * n) 0
-unfolding stacksForm
+unfolding stacksFormBy
 stacks-zero zero = refl
 stacks-zero (suc n) = ap (λ (t : List ℕ). t ++ stacksForm (replicate n freshStack)) stack-zero ∙ ap (λ (t : List ℕ). replicate 1000 0 ++ t) (stacks-zero n) ∙ run 1000 n
 
@@ -90,7 +91,7 @@ stored w m b u o h hu both =
     (replaced-left (replicate w 0) (replicate m 0) 0 (u ++ o) (omega arith) ∙ ap (λ (t : List ℕ). t ++ replicate m 0) (replaced-whole (replicate w 0) (u ++ o) (omega arith)))
 
 form : stateForm fresh ≡ 0 ∷ 0 ∷ ((replicate 26 1 ++ ones 52) ++ replicate 26000 0)
-unfolding stateForm fresh
+unfolding stateFormBy fresh
 form =
     ap (λ (t : List ℕ). 0 ∷ 0 ∷ t)
     (ap (λ (t : List ℕ). t ++ (valuesForm (replicate 26 freshCounter) ++ (incrementsForm (replicate 26 freshCounter) ++ stacksForm (replicate 26 freshStack)))) (pointers-ones 26)
