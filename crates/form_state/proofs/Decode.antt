@@ -45,12 +45,12 @@ unfolding within
 within-of a z n h = and-both (leb a n) (leb n z) (le-leb a n (h .0)) (le-leb n z (h .1))
 
 module _ (f : List ℕ → Bool) (w : ℕ) where
-  blocks-true : (n : ℕ) (l : List ℕ) → blocksCheck f w n l ≡ true → AllOf (λ c. f c ≡ true) (chunks w n l)
+  pub blocks-true : (n : ℕ) (l : List ℕ) → blocksCheck f w n l ≡ true → AllOf (λ c. f c ≡ true) (chunks w n l)
   unfolding blocksCheck chunks
   blocks-true zero l e = tt
   blocks-true (suc n) l e = (and-left (f (take w l)) (blocksCheck f w n (drop w l)) e, blocks-true n (drop w l) (and-right (f (take w l)) (blocksCheck f w n (drop w l)) e))
 
-  blocks-of : (n : ℕ) (l : List ℕ) → AllOf (λ c. f c ≡ true) (chunks w n l) → blocksCheck f w n l ≡ true
+  pub blocks-of : (n : ℕ) (l : List ℕ) → AllOf (λ c. f c ≡ true) (chunks w n l) → blocksCheck f w n l ≡ true
   unfolding blocksCheck chunks
   blocks-of zero l h = refl
   blocks-of (suc n) l h = and-both (f (take w l)) (blocksCheck f w n (drop w l)) (h .0) (blocks-of n (drop w l) (h .1))
@@ -250,10 +250,10 @@ unfolding stacksFrom
 stacks-left ks n e h =
     rw (← e, parts.pointers-map ks, chunks-each parts.entriesOf 20 ks (all-map (λ k g. g .count) ks h)) (zip-back makeStack (λ k. k .pointer) (λ k. k .entries) (λ k. refl) ks)
 
-entries-count : (ks : List Stack) (n : ℕ) → length ks ≡ n → AllOf StackInRange ks → length (each parts.entriesOf ks) ≡ 20 * n
+pub entries-count : (ks : List Stack) (n : ℕ) → length ks ≡ n → AllOf StackInRange ks → length (each parts.entriesOf ks) ≡ 20 * n
 entries-count ks n e h = each-length parts.entriesOf 20 ks (all-map (λ k g. g .count) ks h) ∙ ap (λ (m : ℕ). 20 * m) e
 
-entries-all : (ks : List Stack) → AllOf StackInRange ks → AllOf EntryInRange (each parts.entriesOf ks)
+pub entries-all : (ks : List Stack) → AllOf StackInRange ks → AllOf EntryInRange (each parts.entriesOf ks)
 entries-all ks h = each-all EntryInRange parts.entriesOf ks (all-map (λ k g. g .entries) ks h)
 
 -- the counters of their numbers: the values, then the increments

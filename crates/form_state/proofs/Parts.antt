@@ -50,20 +50,27 @@ unfolding incrementsForm
 increments-each [] = refl
 increments-each (k ∷ ks) = ap (λ (t : List ℕ). four (k .increment) ++ t) (increments-each ks)
 
-pub entries-each : (es : List (List ℕ)) → entriesForm es ≡ each entryForm es
+-- for entries of n bytes
+pub entries-by : (n : ℕ) (es : List (List ℕ)) → entriesFormBy n es ≡ each (entryFormBy n) es
 unfolding entriesFormBy
-entries-each [] = refl
-entries-each (e ∷ es) = ap (λ (t : List ℕ). entryForm e ++ t) (entries-each es)
+entries-by n [] = refl
+entries-by n (e ∷ es) = ap (λ (t : List ℕ). entryFormBy n e ++ t) (entries-by n es)
+
+pub entries-each : (es : List (List ℕ)) → entriesForm es ≡ each entryForm es
+entries-each = entries-by mostEntryBytes
 
 pub stacks-each : (ks : List Stack) → stacksForm ks ≡ each stackForm ks
 unfolding stacksFormBy
 stacks-each [] = refl
 stacks-each (k ∷ ks) = ap (λ (t : List ℕ). entriesForm (k .entries) ++ t) (stacks-each ks)
 
-pub stacks-flat : (ks : List Stack) → stacksForm ks ≡ each entryForm (each entriesOf ks)
+pub stacks-by : (n : ℕ) (ks : List Stack) → stacksFormBy n ks ≡ each (entryFormBy n) (each entriesOf ks)
 unfolding stacksFormBy
-stacks-flat [] = refl
-stacks-flat (k ∷ ks) = rw (entries-each (k .entries), stacks-flat ks) (sym (each-append entryForm (k .entries) (each entriesOf ks)))
+stacks-by n [] = refl
+stacks-by n (k ∷ ks) = rw (entries-by n (k .entries), stacks-by n ks) (sym (each-append (entryFormBy n) (k .entries) (each entriesOf ks)))
+
+pub stacks-flat : (ks : List Stack) → stacksForm ks ≡ each entryForm (each entriesOf ks)
+stacks-flat = stacks-by mostEntryBytes
 
 -- WIDTHS
 
@@ -71,9 +78,12 @@ pub four-wide : (n : ℕ) → length (four n) ≡ 4
 unfolding four
 four-wide n = refl
 
-pub entry-wide : (e : List ℕ) → EntryInRange e → length (entryForm e) ≡ mostEntryBytes
+pub entry-by : (n : ℕ) (e : List ℕ) → length e ≤ n → length (entryFormBy n e) ≡ n
 unfolding entryFormBy
-entry-wide e h = rw (length-append e (replicate (mostEntryBytes - length e) 0), length-replicate {A = ℕ} (mostEntryBytes - length e) 0) (omega (arith, h .1))
+entry-by n e h = rw (length-append e (replicate (n - length e) 0), length-replicate {A = ℕ} (n - length e) 0) (omega arith)
+
+pub entry-wide : (e : List ℕ) → EntryInRange e → length (entryForm e) ≡ mostEntryBytes
+entry-wide e h = entry-by mostEntryBytes e (h .1)
 
 pub entries-wide : (es : List (List ℕ)) → AllOf EntryInRange es → AllOf (λ e. length (entryForm e) ≡ mostEntryBytes) es
 entries-wide es h = all-map entry-wide es h
@@ -151,7 +161,7 @@ pub octets-all : (b : List ℕ) → Octets b → AllOf Small b
 octets-all [] h = tt
 octets-all (x ∷ b) h = (h .0, octets-all b (h .1))
 
-all-octets : (b : List ℕ) → AllOf Small b → Octets b
+pub all-octets : (b : List ℕ) → AllOf Small b → Octets b
 all-octets [] h = tt
 all-octets (x ∷ b) h = (h .0, all-octets b (h .1))
 
@@ -163,7 +173,7 @@ bytes-small : (e : List ℕ) → Bytes e → AllOf Small e
 bytes-small [] h = tt
 bytes-small (b ∷ e) h = (h .0 .1, bytes-small e (h .1))
 
-zeros-small : (n : ℕ) → AllOf Small (replicate n 0)
+pub zeros-small : (n : ℕ) → AllOf Small (replicate n 0)
 zeros-small zero = tt
 zeros-small (suc n) = (omega arith, zeros-small n)
 
