@@ -5,8 +5,9 @@ use mathlib.Core.List.{List, [], _∷_, _++_, map, append-assoc}
 use native.Mathlib.Omega.{arith}
 use lib.ListN.{length, take, drop, replicate, length-append, length-replicate}
 use lib.Seq.{take-at, drop-at, drop-drop}
+use Rattle.form_state.specs.Form.{stackBytes, stacksBytes, entriesFrom}
 use Rattle.macros.specs.Formed.{Between, Bytes, Octets}
-use Rattle.macros.specs.Bounds.{mostCounter}
+use Rattle.macros.specs.Bounds.{mostCounter, mostEntryBytes}
 use Rattle.form_bytes.specs.Fours.{four}
 use Rattle.lines.specs.State.{Stack, Counter, State, AllOf, EntryInRange, StackInRange, InRange}
 use Rattle.form_state.specs.Form.{stateBytes, pointersForm, valuesForm, incrementsForm, entryForm, entriesForm, stacksForm, stateForm}
@@ -70,15 +71,15 @@ pub four-wide : (n : ℕ) → length (four n) ≡ 4
 unfolding four
 four-wide n = refl
 
-pub entry-wide : (e : List ℕ) → EntryInRange e → length (entryForm e) ≡ 50
+pub entry-wide : (e : List ℕ) → EntryInRange e → length (entryForm e) ≡ mostEntryBytes
 unfolding entryFormBy
-entry-wide e h = rw (length-append e (replicate (50 - length e) 0), length-replicate {A = ℕ} (50 - length e) 0) (omega (arith, h .1))
+entry-wide e h = rw (length-append e (replicate (mostEntryBytes - length e) 0), length-replicate {A = ℕ} (mostEntryBytes - length e) 0) (omega (arith, h .1))
 
-pub entries-wide : (es : List (List ℕ)) → AllOf EntryInRange es → AllOf (λ e. length (entryForm e) ≡ 50) es
+pub entries-wide : (es : List (List ℕ)) → AllOf EntryInRange es → AllOf (λ e. length (entryForm e) ≡ mostEntryBytes) es
 entries-wide es h = all-map entry-wide es h
 
-pub stack-wide : (k : Stack) → StackInRange k → length (stackForm k) ≡ 1000
-stack-wide k h = ap length (entries-each (k .entries)) ∙ each-length entryForm 50 (k .entries) (entries-wide (k .entries) (h .entries)) ∙ ap (λ (n : ℕ). 50 * n) (h .count)
+pub stack-wide : (k : Stack) → StackInRange k → length (stackForm k) ≡ stackBytes
+stack-wide k h = ap length (entries-each (k .entries)) ∙ each-length entryForm mostEntryBytes (k .entries) (entries-wide (k .entries) (h .entries)) ∙ ap (λ (n : ℕ). mostEntryBytes * n) (h .count)
 
 pub length-pointers : (ks : List Stack) → length (pointersForm ks) ≡ length ks
 unfolding pointersForm
@@ -91,8 +92,8 @@ length-values ks = ap length (values-each ks) ∙ each-length valueForm 4 ks (al
 pub length-increments : (ks : List Counter) → length (incrementsForm ks) ≡ 4 * length ks
 length-increments ks = ap length (increments-each ks) ∙ each-length incrementForm 4 ks (all-any (λ k. length (incrementForm k) ≡ 4) (λ k. four-wide (k .increment)) ks)
 
-pub length-stacks : (ks : List Stack) → AllOf StackInRange ks → length (stacksForm ks) ≡ 1000 * length ks
-length-stacks ks h = ap length (stacks-each ks) ∙ each-length stackForm 1000 ks (all-map stack-wide ks h)
+pub length-stacks : (ks : List Stack) → AllOf StackInRange ks → length (stacksForm ks) ≡ stackBytes * length ks
+length-stacks ks h = ap length (stacks-each ks) ∙ each-length stackForm stackBytes ks (all-map stack-wide ks h)
 
 -- WHERE THE PARTS STAND
 
@@ -109,8 +110,8 @@ module _ (st : State) (h : InRange st) where
   pub numbers-208 : length (valuesForm (st .counters) ++ incrementsForm (st .counters)) ≡ 208
   numbers-208 = rw (length-append (valuesForm (st .counters)) (incrementsForm (st .counters)), values-104, increments-104)
 
-  pub stacks-26000 : length (stacksForm (st .stacks)) ≡ 26000
-  stacks-26000 = length-stacks (st .stacks) (h .stacks) ∙ ap (λ (n : ℕ). 1000 * n) (h .stackCount)
+  pub stacks-long : length (stacksForm (st .stacks)) ≡ stacksBytes
+  stacks-long = length-stacks (st .stacks) (h .stacks) ∙ ap (λ (n : ℕ). stackBytes * n) (h .stackCount)
 
   pub pointers-part : take 26 (drop 2 (stateForm st)) ≡ pointersForm (st .stacks)
   unfolding stateFormBy
@@ -125,7 +126,7 @@ module _ (st : State) (h : InRange st) where
   pub numbers-part : take 208 (drop 28 (stateForm st)) ≡ valuesForm (st .counters) ++ incrementsForm (st .counters)
   numbers-part = ap (take 208) behind ∙ take-at (valuesForm (st .counters) ++ incrementsForm (st .counters)) (stacksForm (st .stacks)) 208 numbers-208
 
-  pub stacks-part : drop 236 (stateForm st) ≡ stacksForm (st .stacks)
+  pub stacks-part : drop entriesFrom (stateForm st) ≡ stacksForm (st .stacks)
   stacks-part = sym (drop-drop 208 28 (stateForm st)) ∙ ap (drop 208) behind ∙ drop-at (valuesForm (st .counters) ++ incrementsForm (st .counters)) (stacksForm (st .stacks)) 208 numbers-208
 
   pub size : length (stateForm st) ≡ stateBytes
@@ -138,7 +139,7 @@ module _ (st : State) (h : InRange st) where
         pointers-26,
         values-104,
         increments-104,
-        stacks-26000,
+        stacks-long,
       )
 
 -- BYTES
@@ -168,7 +169,7 @@ zeros-small (suc n) = (omega arith, zeros-small n)
 
 entry-small : (e : List ℕ) → EntryInRange e → AllOf Small (entryForm e)
 unfolding entryFormBy
-entry-small e h = all-append Small e (replicate (50 - length e) 0) (bytes-small e (h .0)) (zeros-small (50 - length e))
+entry-small e h = all-append Small e (replicate (mostEntryBytes - length e) 0) (bytes-small e (h .0)) (zeros-small (mostEntryBytes - length e))
 
 stack-small : (k : Stack) → StackInRange k → AllOf Small (stackForm k)
 stack-small k h = rw (entries-each (k .entries)) (each-all Small entryForm (k .entries) (all-map entry-small (k .entries) (h .entries)))

@@ -1,6 +1,6 @@
--- The form of a state as bytes, 26,236 of them: the flags TRACE and NFLAG; the 26 pointers;
+-- The form of a state as bytes, 52,236 of them: the flags TRACE and NFLAG; the 26 pointers;
 -- the 26 values and the 26 increments of the counters, four bytes each, low byte first;
--- then the 20 entries of each stack, 50 bytes each, zeros behind an entry's text. Entries hold no byte 0, so they need no length.
+-- then the 20 entries of each stack, 100 bytes each, zeros behind an entry's text. Entries hold no byte 0, so they need no length.
 use Prim.Native.Nat.{ℕ, _-_}
 use mathlib.Core.List.{List, [], _∷_, _++_}
 use lib.ListN.{length, replicate}
@@ -10,7 +10,23 @@ use Rattle.lines.specs.State.{Stack, Counter, State}
 
 -- the size of a state's memory
 abbrev pub stateBytes : ℕ
-stateBytes = 26236
+stateBytes = 52236
+
+-- where the entries begin: behind 2 flags, 26 pointers, and 52 numbers of four bytes
+abbrev pub entriesFrom : ℕ
+entriesFrom = 236
+
+-- how many entries all stacks have
+abbrev pub entryCount : ℕ
+entryCount = 520
+
+-- the bytes of a stack's entries
+abbrev pub stackBytes : ℕ
+stackBytes = 2000
+
+-- the bytes of all entries
+abbrev pub stacksBytes : ℕ
+stacksBytes = 52000
 
 -- the pointers, a byte each
 unfoldable pub pointersForm : List Stack → List ℕ
@@ -49,7 +65,7 @@ stateFormBy n st =
     st .trace ∷ st .nflag
     ∷ (pointersForm (st .stacks) ++ (valuesForm (st .counters) ++ (incrementsForm (st .counters) ++ stacksFormBy n (st .stacks))))
 
--- WITH TODAY'S 50 BYTES
+-- WITH 100 BYTES
 
 -- an entry and the zeros behind it
 abbrev pub entryForm : List ℕ → List ℕ

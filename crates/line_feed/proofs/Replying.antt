@@ -358,7 +358,7 @@ not-taken (Refused w p) o t e = false≢true t
 counted : {m : Untraced} {count : ℕ} → LentUntraced m → Counts (m .table) count → Counted (m .table) count
 counted y cs = record { macros = y .table .0; isTable = y .table .1; counted = cs .each (y .table .0) (y .table .1) }
 
-pub state-long : (m : Untraced) → LentUntraced m → 26236 ≤ length (m .state)
+pub state-long : (m : Untraced) → LentUntraced m → 52236 ≤ length (m .state)
 state-long m y = omega (arith, state-length (y .state))
 
 module _ (sent : Sent) {m : Untraced} {count : ℕ} {traced : Bool} {lines : List ℕ} (y : LentUntraced m) (f : Fits (sent .line)) (room : TraceRoom (m .state) traced lines) (cs : Counts (m .table) count) where
@@ -366,7 +366,7 @@ module _ (sent : Sent) {m : Untraced} {count : ℕ} {traced : Bool} {lines : Lis
   run = record { table = m .table; count = count; state = m .state; sent = sent; traced = traced }
 
   abbrev old : Left
-  old = record { state = replicate 26236 0; text = replicate 1054 0; trace = lines }
+  old = record { state = replicate 52236 0; text = replicate 1054 0; trace = lines }
 
   pub started : Started run old
   started =
@@ -375,21 +375,21 @@ module _ (sent : Sent) {m : Untraced} {count : ℕ} {traced : Bool} {lines : Lis
         state = y .state;
         short = f .short;
         bytes = f .bytes;
-        after = length-replicate {A = ℕ} 26236 0;
+        after = length-replicate {A = ℕ} 52236 0;
         text = length-replicate {A = ℕ} 1054 0;
         flag = room .flag;
         trace = room .clear;
       }
 
   -- the state as a slice of its own size
-  whole-slice : take 26236 (m .state) ≡ m .state
-  whole-slice = take-all 26236 (m .state) (omega (arith, state-length (y .state)))
+  whole-slice : take 52236 (m .state) ≡ m .state
+  whole-slice = take-all 52236 (m .state) (omega (arith, state-length (y .state)))
 
-  pub started-slice : Started (record { table = m .table; count = count; state = take 26236 (m .state); sent = sent; traced = traced }) old
+  pub started-slice : Started (record { table = m .table; count = count; state = take 52236 (m .state); sent = sent; traced = traced }) old
   started-slice =
       subst (λ (b : List ℕ). Started (record { table = m .table; count = count; state = b; sent = sent; traced = traced }) old) (sym whole-slice) started
 
-  pub runs-slice : {left : Left} {r : Ended} → Runs (record { table = m .table; count = count; state = take 26236 (m .state); sent = sent; traced = traced }) old left r → Runs run old left r
+  pub runs-slice : {left : Left} {r : Ended} → Runs (record { table = m .table; count = count; state = take 52236 (m .state); sent = sent; traced = traced }) old left r → Runs run old left r
   runs-slice {left} {r} x =
       subst (λ (b : List ℕ). Runs (record { table = m .table; count = count; state = b; sent = sent; traced = traced }) old left r) whole-slice x
 

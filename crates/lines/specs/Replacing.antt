@@ -122,8 +122,8 @@ late m still i w = good w
 late m (before s) i w = good w
 late m (after s) i w = moves m s i w
 
--- 33: "a stored tag over 50 bytes", as many as an entry of the state may have; a text stored by `&(i:text:)` is never longer, since
--- reading keeps it to 50
+-- 33: "a stored tag over 100 bytes", as many as an entry of the state may have; a text stored by `&(i:text:)` is never longer, since
+-- reading keeps it to 100
 unfoldable pub stores : ℕ → List ℕ → Work → Done
 stores i t w = unless (leb (length t) (w .state .entryBytes)) tagTooLong w (withEntry i t w)
 

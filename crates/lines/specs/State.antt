@@ -70,7 +70,7 @@ abbrev pub AllOf : {A : Type 0} → (A → Type 0) → List A → Type 0
 AllOf P [] = Unit {0}
 AllOf P (x ∷ xs) = P x × AllOf P xs
 
--- "entries of 50 bytes", none of them 0
+-- "entries of 100 bytes" (02, N6), none of them 0
 abbrev pub EntryInRange : List ℕ → Type 0
 EntryInRange e = Bytes e × (length e ≤ mostEntryBytes)
 
@@ -85,7 +85,7 @@ pub record CounterInRange (k : Counter) : Type 0 where
   pub value : Between 1 mostCounter (k .value)
   pub increment : Between 1 mostCounter (k .increment)
 
--- a state in range, with flags that are 0 or 1 and entries of 50 bytes
+-- a state in range, with flags that are 0 or 1 and entries of 100 bytes
 pub record InRange (st : State) : Type 0 where
   pub stackCount : length (st .stacks) ≡ letters
   pub stacks : AllOf StackInRange (st .stacks)

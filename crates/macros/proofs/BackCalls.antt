@@ -194,13 +194,13 @@ module _ (y : Style) (fair : Fair y) (pl : CallSite) where
   unfolding byte skips partByteBy textByteBy breaks among pick
   read-call-text-byte i h acc b false false l e n =
       move (callText pl i h acc) b (callText pl i h (b ∷ acc)) (absent callTextSigns b 47 n refl)
-      (simp (absent callTextSigns b 58 n refl, no-break callTextSigns b n refl refl refl, lt-ltb (length acc) 50 l, absent callTextSigns b 92 n refl)) stay
+      (simp (absent callTextSigns b 58 n refl, no-break callTextSigns b n refl refl refl, lt-ltb (length acc) mostEntryBytes l, absent callTextSigns b 92 n refl)) stay
   read-call-text-byte i h acc b true q l e n =
-      move (callText pl i h acc) 92 (callTextEscape pl i h acc) refl (rw (lt-ltb (length acc) 50 l))
+      move (callText pl i h acc) 92 (callTextEscape pl i h acc) refl (rw (lt-ltb (length acc) mostEntryBytes l))
       (next refl (ap (λ (c : ℕ). on (callText pl i h (c ∷ acc)))
       (escaped-escape b (spares (λ c. y .textToo c) b 110 (fair .text-n) e) (spares (λ c. y .textToo c) b 116 (fair .text-t) e))) stay)
   read-call-text-byte i h acc b false true l e n =
-      move (callText pl i h acc) 92 (callTextEscape pl i h acc) refl (rw (lt-ltb (length acc) 50 l))
+      move (callText pl i h acc) 92 (callTextEscape pl i h acc) refl (rw (lt-ltb (length acc) mostEntryBytes l))
       (next refl (ap (λ (c : ℕ). on (callText pl i h (c ∷ acc)))
       (escaped-escape b (spares (among callTextSigns) b 110 refl n) (spares (among callTextSigns) b 116 refl n))) stay)
 

@@ -8,6 +8,7 @@ use native.Mathlib.Omega.{arith}
 use lib.ListN.{length, length-append, length-reverse}
 use lib.Dec.{eqb, ltb}
 use borrow.Author.Tests.{eqb-true, lt-ltb, ltb-false, ltb-true}
+use Rattle.macros.specs.Bounds.{mostEntryBytes}
 use Rattle.macros.specs.Macro.{Action, Call, Mark, Move, among, digit, asciiLower, markByte, pick, tags}
 use Rattle.macros.specs.Macro.Mark.{counter, stack}
 use Rattle.macros.specs.Macro.Move.{after, before, still}
@@ -217,8 +218,8 @@ call-text-good n b g pl i j t s l h =
     either (λ e. fine (omega arith) (h .0, (h .1, h .2, h .3)))
     (λ c. either (λ e. fault tt)
     (λ k. either
-    (λ r. either (λ e. fine (omega arith) (h .0, h .1, h .2, ltb-true (length t) 50 r))
-    (λ e. fine (omega (arith, one-byte (no-call-text-sign b s c k e))) (h .0, h .1, (g, h .2), ltb-true (length t) 50 r)))
+    (λ r. either (λ e. fine (omega arith) (h .0, h .1, h .2, ltb-true (length t) mostEntryBytes r))
+    (λ e. fine (omega (arith, one-byte (no-call-text-sign b s c k e))) (h .0, h .1, (g, h .2), ltb-true (length t) mostEntryBytes r)))
     (λ r. fault tt)))
   where
     one-byte : among callTextSigns b ≡ false → length (byte (among callTextSigns b) b) ≡ 1

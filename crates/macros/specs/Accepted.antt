@@ -14,7 +14,7 @@ use Rattle.macros.specs.Spell.{shortest}
 abbrev pub SpelledBy : (longest : ℕ) → Macro → Type 0
 SpelledBy longest m = (s : List ℕ) × Octets s × (readFileBy longest s ≡ table (m ∷ []))
 
--- with texts of at most 50 bytes
+-- with texts of at most 100 bytes
 abbrev pub Spelled : Macro → Type 0
 Spelled = SpelledBy mostEntryBytes
 
@@ -28,7 +28,7 @@ pub record AcceptedBy (longest : ℕ) (ms : Table) : Type 0 where
   pub count : length ms ≤ mostMacros
   pub macros : Each (SpelledBy longest) ms
 
--- with texts of at most 50 bytes
+-- with texts of at most 100 bytes
 abbrev pub Accepted : Table → Type 0
 Accepted = AcceptedBy mostEntryBytes
 

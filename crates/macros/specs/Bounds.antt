@@ -31,7 +31,7 @@ mostEntries = 20
 
 -- the bytes of an entry
 abbrev pub mostEntryBytes : ℕ
-mostEntryBytes = 50
+mostEntryBytes = 100
 
 -- the same of the engine before N6 of 02
 abbrev pub oldEntryBytes : ℕ

@@ -142,7 +142,7 @@ turned pl ph b (textOf i v) = on (callText pl i v [])
 turned pl ph b (closed c) = pick (numberFits (tags (piecesOf pl)) c) (on (behindCall pl c)) (stop badCall)
 turned pl ph b wrong = otherwise (calling pl ph) b
 
--- "`&(i:text:)` stores text, at most 50 bytes, ended by the first `:` without `\`"; longest: how many bytes it may have (02, N6).
+-- "`&(i:text:)` stores text, at most 100 bytes, ended by the first `:` without `\`"; longest: how many bytes it may have (02, N6).
 -- 12 at a raw quote, `;` or line feed, 16 at the byte behind the longest text
 unfoldable pub textByteBy : (longest : ℕ) → CallSite → ℕ → Move → List ℕ → ℕ → Step
 textByteBy longest pl i v t b =
@@ -150,6 +150,6 @@ textByteBy longest pl i v t b =
     (pick (breaks b) (stop incomplete)
     (pick (ltb (length t) longest) (pick (b is "\\") (on (callTextEscape pl i v t)) (on (callText pl i v (b ∷ t)))) (stop badCall)))
 
--- with texts of at most 50 bytes
+-- with texts of at most 100 bytes
 abbrev pub textByte : CallSite → ℕ → Move → List ℕ → ℕ → Step
 textByte = textByteBy mostEntryBytes

@@ -98,7 +98,7 @@ stepBy longest (inside skip n st pr) b =
     pick (skips st && b is "/") (count n (inside (not skip) (suc n) st pr))
     (pick skip (count n (inside true (suc n) st pr)) (taken n pr (partByteBy longest st b)))
 
--- with texts of at most 50 bytes
+-- with texts of at most 100 bytes
 abbrev pub step : Reader → ℕ → Next
 step = stepBy mostEntryBytes
 
@@ -122,7 +122,7 @@ readFromBy longest p r (b ∷ bs) =
       | refuseBefore k n ↦ refusedAt k (p - n)
     ]
 
--- with texts of at most 50 bytes
+-- with texts of at most 100 bytes
 abbrev pub readFrom : ℕ → Reader → List ℕ → Read
 readFrom = readFromBy mostEntryBytes
 
@@ -137,7 +137,7 @@ readOntoBy longest older s =
     pick (ltb mostFileBytes (length s)) (refusedAt fileTooLong mostFileBytes)
     (elim (firstZero 0 s) [ none ↦ readFromBy longest 0 (between false clear (reverse older)) s | some p ↦ refusedAt zeroByte p ])
 
--- with texts of at most 50 bytes
+-- with texts of at most 100 bytes
 abbrev pub readOnto : Table → List ℕ → Read
 readOnto = readOntoBy mostEntryBytes
 
@@ -145,6 +145,6 @@ readOnto = readOntoBy mostEntryBytes
 unfoldable pub readFileBy : (longest : ℕ) → List ℕ → Read
 readFileBy longest s = readOntoBy longest [] s
 
--- with texts of at most 50 bytes
+-- with texts of at most 100 bytes
 abbrev pub readFile : List ℕ → Read
 readFile = readFileBy mostEntryBytes

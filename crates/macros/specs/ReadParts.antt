@@ -81,7 +81,7 @@ partByteBy longest (callText pl i v t) b = textByteBy longest pl i v t b
 partByteBy longest (callTextEscape pl i v t) b = on (callText pl i v (escaped b ∷ t))
 partByteBy longest (commands a f as₁ cs) b = commandsByte a f as₁ cs b
 
--- with texts of at most 50 bytes
+-- with texts of at most 100 bytes
 abbrev pub partByte : Part → ℕ → Step
 partByte = partByteBy mostEntryBytes
 

@@ -106,12 +106,12 @@ pub(crate) fn text_in(t: &[u8]) -> &[u8]
     &t[4..end]
 }
 
-// 33: "a stored tag over 50 bytes".
+// 33: "a stored tag over 100 bytes".
 pub(crate) fn store(state: &mut [u8], i: u8, text: &[u8], size: usize) -> Outcome
     requires { ⌜ IsState (now state) × Letter i × Bytes (now text) ⌝ }
     ensures { λ r. ⌜ Changes (stores i (now (text .entry))) (now (state .entry)) size (now (state .exit)) r ⌝ }
 {
-    if 50 < text.len() {
+    if 100 < text.len() {
         return Outcome::Refused(WorkFault::TagTooLong, size);
     }
     set_entry(state, i, text);

@@ -49,15 +49,15 @@ module _ (pl : CallSite) (i : ℕ) (v : Move) (t : List ℕ) (b : ℕ) (h : b �
   unfolding partByteBy textByteBy pick
   byte-break g = simp (ne-eqb _ _ h, g)
 
-  byte-long : breaks b ≡ false → 50 ≤ length t → partByte (callText pl i v t) b ≡ stop badCall
+  byte-long : breaks b ≡ false → 100 ≤ length t → partByte (callText pl i v t) b ≡ stop badCall
   unfolding partByteBy textByteBy pick
   byte-long g l = simp (ne-eqb _ _ h, g, le-ltb _ _ l)
 
-  byte-escape : breaks b ≡ false → length t < 50 → b ≡ 92 → partByte (callText pl i v t) b ≡ on (callTextEscape pl i v t)
+  byte-escape : breaks b ≡ false → length t < 100 → b ≡ 92 → partByte (callText pl i v t) b ≡ on (callTextEscape pl i v t)
   unfolding partByteBy textByteBy pick
   byte-escape g l e = simp (ne-eqb _ _ h, g, lt-ltb _ _ l, eq-eqb _ _ e)
 
-  byte-plain : breaks b ≡ false → length t < 50 → (b ≡ 92 → ⊥) → partByte (callText pl i v t) b ≡ on (callText pl i v (b ∷ t))
+  byte-plain : breaks b ≡ false → length t < 100 → (b ≡ 92 → ⊥) → partByte (callText pl i v t) b ≡ on (callText pl i v (b ∷ t))
   unfolding partByteBy textByteBy pick
   byte-plain g l e = simp (ne-eqb _ _ h, g, lt-ltb _ _ l, ne-eqb _ _ e)
 
@@ -74,15 +74,15 @@ module _ {s : List ℕ} {a p b : ℕ} (x : Here s a p b) (h : b ≡ 58 → ⊥) 
   text-break g = (within-file, λ pl i v t l pr. here-stop x pr (callText pl i v t) incomplete (byte-break pl i v t b h g))
 
   module _ (g : breaks b ≡ false) where
-    pub text-long : 50 ≤ k → Texting s a p k (NoByte BadCall p)
+    pub text-long : 100 ≤ k → Texting s a p k (NoByte BadCall p)
     text-long j = (within-file, λ pl i v t l pr. here-stop x pr (callText pl i v t) badCall (byte-long pl i v t b h g (omega (arith, l))))
 
-    pub text-plain : k < 50 → (b ≡ 92 → ⊥) → Texting s a p k (Byte b p)
+    pub text-plain : k < 100 → (b ≡ 92 → ⊥) → Texting s a p k (Byte b p)
     text-plain j e =
         let y = x .stands in
         (omega arith, y .there, y .counted, j, λ pl i v t l pr. here-on x pr (callText pl i v t) (callText pl i v (b ∷ t)) (λ q o. refl) (byte-plain pl i v t b h g (omega (arith, l)) e))
 
-    module _ (j : k < 50) (e : b ≡ 92) {r : Next} (y : Stays s a (p + 1) r) where
+    module _ (j : k < 100) (e : b ≡ 92) {r : Next} (y : Stays s a (p + 1) r) where
       escape : (pl : CallSite) (i : ℕ) (v : Move) (t : List ℕ) → length t ≡ k → (pr : Prior) → run s a pr false p (callText pl i v t) ≡ run s a pr false (p + 1) (callTextEscape pl i v t)
       escape pl i v t l pr = here-on x pr (callText pl i v t) (callTextEscape pl i v t) (λ q o. refl) (byte-escape pl i v t b h g (omega (arith, l)) e)
 
@@ -103,7 +103,7 @@ module _ {s : List ℕ} {a p b : ℕ} (x : Here s a p b) (h : b ≡ 58 → ⊥) 
 pub record Reading (s : List ℕ) (a p : ℕ) (old out : List ℕ) (n at k : ℕ) : Type 0 where
   pub text : List ℕ
   pub size : length text ≡ k
-  pub short : k ≤ 50
+  pub short : k ≤ 100
   pub wrote : Wrote old out n (reverse text)
   pub room : p + k ≤ at
   pub reached : Reached s a at

@@ -7,7 +7,7 @@ use read_scan::FileFault;
 // The entries of a stack, the bytes of an entry, and the largest counter.
 pub(crate) const MOST_ENTRIES: u64 = 20;
 
-pub(crate) const MOST_ENTRY_BYTES: usize = 50;
+pub(crate) const MOST_ENTRY_BYTES: usize = 100;
 
 pub(crate) const MOST_COUNTER: u64 = 999_999_999;
 

@@ -15,10 +15,10 @@ slice-reshare-prefix-run-line : tie.Need-slice-reshare-prefix-run-line
 slice-reshare-prefix-run-line c = state-long _ (c .before .before .before .before .before .before .before .before .before .pre .0 .own)
 
 slice-aggregate-run-line : tie.Need-slice-aggregate-run-line
-slice-aggregate-run-line c = sym (length-take-le {A = ℕ} 26236 (now (c .before .before .before .before .before .before .before .before .before .before .args .state)) (state-long _ (c .before .before .before .before .before .before .before .before .before .before .pre .0 .own)))
+slice-aggregate-run-line c = sym (length-take-le {A = ℕ} 52236 (now (c .before .before .before .before .before .before .before .before .before .before .args .state)) (state-long _ (c .before .before .before .before .before .before .before .before .before .before .pre .0 .own)))
 
 slice-aggregate-run-line-2 : tie.Need-slice-aggregate-run-line-2
-slice-aggregate-run-line-2 c = sym (length-replicate {A = ℕ} 26236 0)
+slice-aggregate-run-line-2 c = sym (length-replicate {A = ℕ} 52236 0)
 
 slice-aggregate-run-line-3 : tie.Need-slice-aggregate-run-line-3
 slice-aggregate-run-line-3 c = sym (length-replicate {A = ℕ} 1054 0)
@@ -27,7 +27,7 @@ run-line-requires : tie.Need-run-line-requires
 run-line-requires c κs = started-slice _ (c .before .before .before .before .before .before .before .before .before .before .before .before .before .pre .0 .own) (c .before .before .before .before .before .before .before .before .before .before .before .before .before .pre .1) (c .before .before .before .before .before .before .before .before .before .before .before .before .before .pre .2) (c .before .before .before .before .before .count-macros .ensures)
 
 slice-aggregate-reply : tie.Need-slice-aggregate-reply
-slice-aggregate-reply c = sym (c .before .before .before .before .before .before .before .before .before .run-line .kept .1 .1 .1 .1 .1 .0 ∙ length-replicate {A = ℕ} 26236 0)
+slice-aggregate-reply c = sym (c .before .before .before .before .before .before .before .before .before .run-line .kept .1 .1 .1 .1 .1 .0 ∙ length-replicate {A = ℕ} 52236 0)
 
 slice-aggregate-reply-2 : tie.Need-slice-aggregate-reply-2
 slice-aggregate-reply-2 c = sym (c .before .before .before .before .before .before .before .before .before .before .run-line .kept .1 .1 .1 .1 .1 .1 .0 ∙ length-replicate {A = ℕ} 1054 0)
