@@ -14,7 +14,7 @@ pub(crate) const TABLE_BYTES: usize = 98304;
 
 pub(crate) const FILE_BYTES: usize = 32768;
 
-pub(crate) const STATE_BYTES: usize = 26236;
+pub(crate) const STATE_BYTES: usize = 52236;
 
 pub(crate) const LINE_BYTES: usize = 1054;
 

@@ -31,7 +31,11 @@ mostEntries = 20
 
 -- the bytes of an entry
 abbrev pub mostEntryBytes : ℕ
-mostEntryBytes = 50
+mostEntryBytes = 100
+
+-- the same of the engine before N6 of 02
+abbrev pub oldEntryBytes : ℕ
+oldEntryBytes = 50
 
 -- the largest counter, the largest increment, and the largest number that a counter is divided by (02, N7)
 abbrev pub mostCounter : ℕ

@@ -21,9 +21,9 @@ ghost use Rattle.form_items.specs.Items.{Wrote};
 ghost use Rattle.read_text.specs.Text.{Texting, TextFrom, StoreFrom, StoreRead, PutStore, padding};
 
 // The bytes of an entry.
-const MOST_ENTRY_BYTES: usize = 50;
+const MOST_ENTRY_BYTES: usize = 100;
 
-// A byte of a text that has k bytes so far, from b on, with its last place: a raw quote, `;` or line feed is 12, the 51st byte 16.
+// A byte of a text that has k bytes so far, from b on, with its last place: a raw quote, `;` or line feed is 12, the 101st byte 16.
 fn text_byte(s: &[u8], a: usize, at: usize, b: u8, k: usize) -> Next
     requires { ⌜ Here (now s) a at b × (b ≡ 58 → ⊥) ⌝ }
     ensures { λ r. ⌜ Texting (now (s .entry)) a at k r ⌝ }
