@@ -76,8 +76,8 @@ static const struct number numbers[] = {
      "Except in a pattern, one + or - may stand before or after the i of &(i), &(n,i),\n"
      "&(i:text:) and #(i). The n of {n} and &(n,i) is a tag that the pattern has, that\n"
      "of &(i=n) is 1 to 20, that of #(i=n), #(i,n) and #(i:n) 1 to 999,999,999. A text\n"
-     "has at most 100 bytes. Write \\{ for a brace, and \\& or \\# where no call is meant;\n"
-     "before a pattern \\ has no effect: put a comment between two /.\n",
+     "has at most 100 bytes. Write \\{ for a brace, and \\& or \\# where no call is\n"
+     "meant; before a pattern \\ has no effect: put a comment between two /.\n",
      "'a'='{2}';", NULL, NULL, NULL},
     {M7_NO_ELEMENT, writer,
      "Between its quotes a pattern has something to match. Braces alone do not count;\n"
