@@ -26,10 +26,14 @@ fn old_form(state: &State) -> Vec<u8> {
 
 impl Trial {
     /// The state goes back if it can, and what went back is widened; now and
-    /// then a byte is changed before. The state stays.
+    /// then with an entry of about 50 or 100 bytes, or with a byte changed. The
+    /// state stays.
     pub fn there_and_back(&mut self, random: &mut Random) {
         let kept = self.keep();
-        if random.one_in(4) {
+        if random.one_in(2) {
+            self.put_entry(random);
+        }
+        if random.one_in(3) {
             self.change_state(random);
         }
         let before = self.state_bytes.clone();
@@ -47,6 +51,15 @@ impl Trial {
             self.agree(Group::Narrow, again.as_ref() == Some(&old), "there and back");
         }
         self.restore(&kept);
+    }
+
+    fn put_entry(&mut self, random: &mut Random) {
+        let Some(state) = &mut self.plain_state else { return };
+        let length = *random.pick(&[49, 50, 51, 52, 99, 100]);
+        let (stack, entry) = (random.below(26), random.below(20));
+        state.stacks[stack].entries[entry] = vec![b'x'; length];
+        state_form(state, &mut self.state_bytes);
+        self.state.hold(&self.state_bytes);
     }
 
     /// Says if two calls together do not give what they should.
