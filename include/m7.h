@@ -55,8 +55,8 @@
    The form of a table changed when calls could stand before a pattern: tables
    with macros that were kept from before are refused with 1, and are to be
    read again from their macro files. The form of a state changed when entries
-   came to hold 100 bytes: a state that was kept from before has the old size,
-   so every other call refuses it with 3, and m7_widen makes a state of it.
+   came to hold 100 bytes: a state that was kept from before has the old size.
+   m7_widen makes a state of it; every other call refuses it with 3.
 
    LINES FROM STRANGERS
 
