@@ -18,6 +18,7 @@ fn is_old(made: &Macro) -> bool {
     read_after(&shortest_spelling(made), 0, OLD_ENTRY_BYTES).is_ok()
 }
 
+/// The bytes of an old state.
 fn old_form(state: &State) -> Vec<u8> {
     let mut bytes = vec![0; OLD_STATE_BYTES];
     state_form(state, &mut bytes);
@@ -53,6 +54,7 @@ impl Trial {
         self.restore(&kept);
     }
 
+    /// Puts a text near one of the bounds into an entry.
     fn put_entry(&mut self, random: &mut Random) {
         let Some(state) = &mut self.plain_state else { return };
         let length = *random.pick(&[49, 50, 51, 52, 99, 100]);
