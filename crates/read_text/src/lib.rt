@@ -83,7 +83,7 @@ fn pad(out: &mut [u8], n: usize, e: usize) -> usize
 
 // Behind the text from n + 4 to e its zero, before it its length and the item of the letter i with the move m.
 fn put_store(out: &mut [u8], n: usize, e: usize, i: u8, m: u8) -> usize
-    requires { ⌜ (n + 4 ≤ e) × (e ≤ n + 54) × (e < length (now out)) × (m ≤ 4) ⌝ }
+    requires { ⌜ (n + 4 ≤ e) × (e ≤ n + 104) × (e < length (now out)) × (m ≤ 4) ⌝ }
     ensures { λ r. ⌜ PutStore (now (out .entry)) (now (out .exit)) n e i m r ⌝ }
 {
     let end = pad(out, n + 4, e);
