@@ -87,15 +87,44 @@ pub fn is_text_sign(b: u8) -> bool
     (b == 47) | ((b == 58) | is_common(b))
 }
 
-// WRITTEN OUT: neighbours stand in different arms, since a range of bytes would be tested as one
+// WRITTEN OUT: each set is a mask of one word; neighbours stand in different arms, since a range of bytes would be tested as one
+
+// Of the marks of a pattern those below 64; the others are the signs above.
+fn is_low_mark(b: u8) -> bool
+    ensures { λ r. ⌜ r ≡ among (9 ∷ 35 ∷ 38 ∷ 42 ∷ 45 ∷ 47 ∷ 59 ∷ 63 ∷ 10 ∷ 36 ∷ 39 ∷ []) b ⌝ }
+{
+    match b {
+        b'\t' | b'#' | b'&' | b'*' | b'-' | b'/' | b';' | b'?' => true,
+        b'\n' | b'$' | b'\'' => true,
+        _ => false,
+    }
+}
 
 // In a pattern.
 pub fn is_pattern_mark(b: u8) -> bool
     ensures { λ r. ⌜ r ≡ among patternMarks b ⌝ }
 {
+    is_low_mark(b) | is_high_sign(b)
+}
+
+// Of the marks of a class those below 64.
+fn is_low_class_mark(b: u8) -> bool
+    ensures { λ r. ⌜ r ≡ among (9 ∷ 39 ∷ 45 ∷ 59 ∷ 10 ∷ []) b ⌝ }
+{
     match b {
-        b'\t' | b'#' | b'&' | b'*' | b'-' | b'/' | b';' | b'?' | b'[' | b'^' | b'{' | b'}' => true,
-        b'\n' | b'$' | b'\'' | b'\\' => true,
+        b'\t' | b'\'' | b'-' | b';' => true,
+        b'\n' => true,
+        _ => false,
+    }
+}
+
+// Of the marks of a class the others.
+fn is_high_class_mark(b: u8) -> bool
+    ensures { λ r. ⌜ r ≡ among (92 ∷ 126 ∷ 93 ∷ []) b ⌝ }
+{
+    match b {
+        b'\\' | b'~' => true,
+        b']' => true,
         _ => false,
     }
 }
@@ -104,9 +133,26 @@ pub fn is_pattern_mark(b: u8) -> bool
 pub fn is_class_mark(b: u8) -> bool
     ensures { λ r. ⌜ r ≡ among classMarks b ⌝ }
 {
+    is_low_class_mark(b) | is_high_class_mark(b)
+}
+
+// Of the marks of a text those below 64.
+fn is_low_text_mark(b: u8) -> bool
+    ensures { λ r. ⌜ r ≡ among (9 ∷ 35 ∷ 38 ∷ 47 ∷ 58 ∷ 10 ∷ 39 ∷ 59 ∷ []) b ⌝ }
+{
     match b {
-        b'\t' | b'\'' | b'-' | b';' | b'\\' | b'~' => true,
-        b'\n' | b']' => true,
+        b'\t' | b'#' | b'&' | b'/' | b':' => true,
+        b'\n' | b'\'' | b';' => true,
+        _ => false,
+    }
+}
+
+// Of the marks of a text the others.
+fn is_high_text_mark(b: u8) -> bool
+    ensures { λ r. ⌜ r ≡ among (92 ∷ 123 ∷ []) b ⌝ }
+{
+    match b {
+        b'\\' | b'{' => true,
         _ => false,
     }
 }
@@ -115,9 +161,5 @@ pub fn is_class_mark(b: u8) -> bool
 pub fn is_text_mark(b: u8) -> bool
     ensures { λ r. ⌜ r ≡ among textMarks b ⌝ }
 {
-    match b {
-        b'\t' | b'#' | b'&' | b'/' | b':' | b'\\' | b'{' => true,
-        b'\n' | b'\'' | b';' => true,
-        _ => false,
-    }
+    is_low_text_mark(b) | is_high_text_mark(b)
 }

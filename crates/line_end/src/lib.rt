@@ -54,7 +54,8 @@ pub fn obey(
     order
 }
 
-// The answer to a line whose end is known, with its output and its trace: NFLAG is that of the state after it, TRACE that of the state before.
+// The answer to a line whose end is known, with its output and its trace: NFLAG is that of the state after it, TRACE that of the state
+// before.
 pub fn reply(
     before: &[u8],
     after: &[u8],

@@ -13,7 +13,8 @@ ghost use Rattle.form_state.specs.Access.{OfState};
 ghost use Rattle.line_feed.specs.Contract.{Lent};
 ghost use Rattle.line_feed.specs.Taking.{Fits, TraceRoom, Takes};
 
-// The lent state is worked on, and `before` is what is put back of a refused line; its trace, if it is traced, stands in `lines` until the line is taken.
+// The lent state is worked on, and `before` is what is put back of a refused line; its trace, if it is traced, stands in `lines` until
+// the line is taken.
 fn take_with(
     table: &mut [u8],
     state: &mut [u8],

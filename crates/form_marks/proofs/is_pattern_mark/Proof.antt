@@ -1,33 +1,22 @@
 -- `form_marks::is_pattern_mark` meets its contract. Assumes nothing.
-use Prim.Native.Nat.{ℕ}
 use mathlib.Core.Path.{refl, sym, _∙_}
-use mathlib.Core.List.{List, [], _∷_}
+use mathlib.Core.List.{[], _∷_}
+use borrow.Author.Needs.{needs}
 use Rattle.macros.specs.Macro.{among}
 use Rattle.macros.specs.Write.{patternMarks}
-use Rattle.form_marks.proofs.ByteLaws.{one-of, none-key, or-false, same-set, among-append}
+use Rattle.form_marks.proofs.ByteLaws.{same-set, among-append}
 use Rattle.form_marks.proofs.is_pattern_mark.Statement.{statement}
 use Rattle.form_marks.proofs.is_pattern_mark.Tie as tie
 
--- the keys of the two arms
-abbrev first : List ℕ
-first = 9 ∷ 35 ∷ 38 ∷ 42 ∷ 45 ∷ 47 ∷ 59 ∷ 63 ∷ 91 ∷ 94 ∷ 123 ∷ 125 ∷ []
+is-low-mark-requires : tie.Need-is-low-mark-requires
+is-low-mark-requires c κs = search needs
 
-abbrev second : List ℕ
-second = 10 ∷ 36 ∷ 39 ∷ 92 ∷ []
+is-high-sign-requires : tie.Need-is-high-sign-requires
+is-high-sign-requires c κs = search needs
 
 returns : tie.Need-returns
 unfolding among patternMarks
-returns c = sym (one-of (among patternMarks) first (c .before .args .b) refl (c .match .keys1))
-
-returns-2 : tie.Need-returns-2
-unfolding among patternMarks
-returns-2 c = sym (one-of (among patternMarks) second (c .before .args .b) refl (c .match .keys2))
-
-returns-3 : tie.Need-returns-3
-unfolding among patternMarks
-returns-3 c =
-    let b = c .before .args .b in
-    sym (same-set patternMarks (9 ∷ 35 ∷ 38 ∷ 42 ∷ 45 ∷ 47 ∷ 59 ∷ 63 ∷ 91 ∷ 94 ∷ 123 ∷ 125 ∷ 10 ∷ 36 ∷ 39 ∷ 92 ∷ []) b refl refl ∙ among-append first second b ∙ or-false _ _ (none-key first b (c .match .rest .0 .1)) (none-key second b (c .match .rest .1)))
+returns c = rw (c .before .is-low-mark .ensures, c .is-high-sign .ensures) (sym (same-set patternMarks (9 ∷ 35 ∷ 38 ∷ 42 ∷ 45 ∷ 47 ∷ 59 ∷ 63 ∷ 10 ∷ 36 ∷ 39 ∷ 91 ∷ 94 ∷ 123 ∷ 125 ∷ 92 ∷ []) (c .before .before .args .b) refl refl ∙ among-append (9 ∷ 35 ∷ 38 ∷ 42 ∷ 45 ∷ 47 ∷ 59 ∷ 63 ∷ 10 ∷ 36 ∷ 39 ∷ []) (91 ∷ 94 ∷ 123 ∷ 125 ∷ 92 ∷ []) (c .before .before .args .b)))
 
 pub is-pattern-mark-spec : {M : Type 1} → statement M
-is-pattern-mark-spec = tie.close (tie.spec returns returns-2 returns-3)
+is-pattern-mark-spec = tie.close (tie.spec is-low-mark-requires is-high-sign-requires returns)

@@ -5,8 +5,9 @@ use Rattle.line_end.proofs.Ending.{size-fits, text-fits, replied}
 use Rattle.line_end.proofs.reply.Statement.{statement}
 use Rattle.line_end.proofs.reply.Tie as tie
 
+-- both states are long enough: which of them is asked is seen by what the answer and the trace's memory hold
 nflag-requires : tie.Need-nflag-requires
-nflag-requires c κs = c .before .before .before .before .before .before .pre .now
+nflag-requires c κs = omega (arith, c .before .before .before .before .before .before .pre .came, c .before .before .before .before .before .before .pre .now)
 
 fed-of-requires : tie.Need-fed-of-requires
 fed-of-requires c κs = tt
@@ -23,7 +24,6 @@ is-taken-requires c κs = tt
 lay-out-if-requires : tie.Need-lay-out-if-requires
 lay-out-if-requires c κs = text-fits (c .before .before .before .before .before .before .before .before .before .before .before .before .pre) (c .before .before .before .before .before .nflag .result) (c .before .before .before .before .before .before .before .before .before .before .before .before .args .order) (c .before .before .before .before .fed-of .ensures) (c .before .before .size-of .ensures)
 
--- both states are long enough: which of them is asked is seen by what the trace's memory holds
 is-traced-requires : tie.Need-is-traced-requires
 is-traced-requires c κs = omega (arith, c .before .before .before .before .before .before .before .before .before .before .before .before .before .before .before .before .pre .came, c .before .before .before .before .before .before .before .before .before .before .before .before .before .before .before .before .pre .now)
 
