@@ -10,7 +10,7 @@ use lib.Seq.{take-at, drop-at, length-take-le}
 use Rattle.macros.specs.Bounds.{mostEntryBytes, oldEntryBytes}
 use Rattle.macros.specs.Formed.{Octets}
 use Rattle.lines.specs.State.{Stack, State, AllOf, EntryInRange, InRange}
-use Rattle.m_widths.specs.Widths.{widened, narrowed, Short}
+use Rattle.m_widths.specs.Widths.{bounded, widened, narrowed, Short}
 use Rattle.form_state.specs.Form.{entriesFrom, entryCount, pointersForm, valuesForm, incrementsForm, entryForm, entryFormBy, stacksFormBy, stateForm, stateFormBy}
 use Rattle.form_state.specs.Check.{blocksCheck, stateChecks}
 use Rattle.form_state.proofs.Each.{each, each-length, each-all, all-map, all-append, all-take, all-drop}
@@ -38,8 +38,8 @@ front-is n st =
     ap (λ (t : List ℕ). st .trace ∷ st .nflag ∷ t) (ap (λ (t : List ℕ). p ++ t) (sym (append-assoc v i s)) ∙ sym (append-assoc p (v ++ i) s))
     ∙ ap (λ (t : List ℕ). front st ++ t) (parts.stacks-by n (st .stacks))
 
--- a state and the same with the new bound have the same form
-bound-free : (n m : ℕ) (st : State) → stateFormBy n st ≡ stateFormBy n (record { stacks = st .stacks; counters = st .counters; trace = st .trace; nflag = st .nflag; entryBytes = m })
+-- the form does not show the bound
+pub bound-free : (n m : ℕ) (st : State) → stateFormBy n st ≡ stateFormBy n (bounded m st)
 unfolding stateFormBy
 bound-free n m st = refl
 
@@ -153,6 +153,16 @@ narrows-form b st h s = ap narrowedBytes (sym (h .form)) ∙ narrowed-form st (h
 pub short-exact : ShortExact
 short-exact b st h = (λ e. short-form st (h .inRange) .0 (ap shortEntries (h .form) ∙ e), λ s. ap shortEntries (sym (h .form)) ∙ short-form st (h .inRange) .1 s)
 
+-- a state without an entry over 50 bytes, in the old form
+pub holds-old : (b : List ℕ) (st : State) → InRange st → Short st → stateFormBy oldEntryBytes st ≡ b → HoldsOld b (narrowed st)
+holds-old b st r s f =
+    record {
+      old = refl;
+      inRange = record { stackCount = r .stackCount; stacks = r .stacks; counterCount = r .counterCount; counters = r .counters; trace = r .trace; nflag = r .nflag; entryBytes = refl };
+      short = s;
+      form = sym (bound-free oldEntryBytes oldEntryBytes st) ∙ f;
+    }
+
 pub old-exact : OldExact
 old-exact b o l = (there, here)
   where
@@ -162,15 +172,7 @@ old-exact b o l = (there, here)
         let st : State = k .0 in
         let r : InRange st = k .1 in
         let s : Short st = short-form st r .0 (ap shortEntries (k .2) ∙ short-widened b l) in
-        let f : stateFormBy oldEntryBytes st ≡ b = sym (narrowed-form st r s) ∙ ap narrowedBytes (k .2) ∙ back-again b l in (
-          narrowed st,
-          record {
-            old = refl;
-            inRange = record { stackCount = r .stackCount; stacks = r .stacks; counterCount = r .counterCount; counters = r .counters; trace = r .trace; nflag = r .nflag; entryBytes = refl };
-            short = s;
-            form = sym (bound-free oldEntryBytes oldEntryBytes st) ∙ f;
-          },
-        )
+        let f : stateFormBy oldEntryBytes st ≡ b = sym (narrowed-form st r s) ∙ ap narrowedBytes (k .2) ∙ back-again b l in (narrowed st, holds-old b st r s f)
 
     here : (st : State) × HoldsOld b st → stateChecks (widenedBytes b) ≡ true
     here w =

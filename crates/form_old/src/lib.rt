@@ -11,6 +11,9 @@ ghost use Rattle.form_state.specs.Form.{stateBytes, entriesFrom, entryCount};
 ghost use Rattle.form_state.specs.Access.{replaced};
 ghost use Rattle.form_old.specs.Old.{oldStateBytes, widenedEntries, widenedBytes, narrowedEntries, narrowedBytes, shortEntries};
 
+// The size of an old state's memory.
+pub const OLD_STATE_BYTES: usize = 26236;
+
 // The bytes of an entry of the old size.
 const OLD_ENTRY_BYTES: usize = 50;
 

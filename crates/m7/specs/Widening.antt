@@ -1,6 +1,6 @@
 -- THE CONTRACTS OF m7_widen AND m7_narrow (02, N6): from the lent bytes at entry, the whole answer and what the written memory then holds.
 -- They rule out, among others, the edits narrow_42_first (42 comes before 2), narrow_number (42 is answered as 2), widen_number (2 is
--- answered as 1) and widen_kept (the state's memory is left as it was).
+-- answered as 1) and no_state_widened (bytes that are no old state are taken).
 use Prim.Native.Nat.{ℕ}
 use mathlib.Core.Path.{_≡_}
 use mathlib.Core.Bool.{Bool, true, false, _&&_}

@@ -1,6 +1,6 @@
 -- 02, N6, FOR THE ENGINE: calls of m7_feed in turn from what m7_widen wrote answer as the old engine does; and states there and back.
 -- It rules out, among others, the edits any_lines (33 and 16 do not matter), old_states (the states are left as the old engine leaves
--- them), back_to_any (what comes back need not be the same bytes) and one_refused (m7_widen may answer with any number).
+-- them), back_to_memory (what comes back is what stood in the memory) and widen_refuses (m7_widen refuses the state).
 use Prim.Native.Nat.{ℕ}
 use mathlib.Core.Path.{_≡_}
 use mathlib.Core.Bool.{true}
