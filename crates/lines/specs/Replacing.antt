@@ -122,8 +122,8 @@ late m still i w = good w
 late m (before s) i w = good w
 late m (after s) i w = moves m s i w
 
--- 33: "a stored tag over 100 bytes", as many as an entry of the state may have; a text stored by `&(i:text:)` is never longer, since
--- reading keeps it to 100
+-- 33: a stored tag that is longer than an entry of the state may be: over 100 bytes (02, N6), in a state of the old engine over 50 (01).
+-- A text of `&(i:text:)` is no longer where its table was read by the same bound
 unfoldable pub stores : ℕ → List ℕ → Work → Done
 stores i t w = unless (leb (length t) (w .state .entryBytes)) tagTooLong w (withEntry i t w)
 

@@ -19,7 +19,7 @@ pub record Counter : Type 0 where
   pub value : ℕ
   pub increment : ℕ
 
--- a stack and a counter for each letter, the flags, and how many bytes an entry may have (02, N6)
+-- a stack and a counter for each letter, the flags, and how many bytes an entry may have: 100, in a state of the old engine 50 (02, N6)
 pub record State : Type 0 where
   pub stacks : List Stack
   pub counters : List Counter

@@ -129,7 +129,7 @@ Why (inserts s) w r = (r ≡ newLineTooLong) × (mostLineBytes < w .size + lengt
 Why (insertsCurrent m i) w r = (r ≡ newLineTooLong) × (mostLineBytes < w .size + length (contents (w .state) m i))
 Why (insertsDivided i n) w r =
     (s : List ℕ) × Divided (counterOf (w .state) i .value) n s × (r ≡ newLineTooLong) × (mostLineBytes < w .size + length s)
--- "33 a stored tag over 100 bytes" [tag_of_100]; reading keeps a text of the macro's own to 100
+-- 33, a stored tag over the state's own bound, 100 bytes (02, N6) [tag_of_100]; reading keeps a text of the macro's own to the same bound
 Why (stores i s) w r = (r ≡ tagTooLong) × (w .state .entryBytes < length s)
 -- "34 pointer past 20" [pointer_past_19]
 Why (moves stack plus i) w r = (r ≡ pointerTooHigh) × (mostEntries < stackOf (w .state) i .pointer + 1)

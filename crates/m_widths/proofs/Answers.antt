@@ -26,7 +26,7 @@ use Rattle.lines.specs.Line.{Line.ended as lineEnded}
 use Rattle.lines.specs.Trace.{historyOf, isOn, linesOf, traceOf, traceIf}
 use Rattle.lines.specs.Feeding.{Order, wrong, orders, Kind, Answer, bytes, same, withTrace, withNflag, flagOrder, macroOrder, orderOf, numberOf, kindOfDone, refusal, tracing, ofOrder, answered, answer, hasBadByte, feed}
 use Rattle.m_widths.specs.Widths.{bounded}
-use Rattle.m_widths.proofs.Passes.{passWide, endingWide, KeptEnd, Lines, occurred-wide, lines-wide, history-lines}
+use Rattle.m_widths.proofs.Passes.{passWide, endingWide, Sound, KeptEnd, Lines, occurred-wide, lines-wide, history-lines}
 
 -- it is refused with 33, or with 16
 abbrev pub Bound : Answer → Type 0
@@ -36,7 +36,7 @@ Bound a = (numberOf (a .kind) ≡ 33) ⊎ (numberOf (a .kind) ≡ 16)
 abbrev pub answerWith : ℕ → Answer → Answer
 answerWith m a = record { kind = a .kind; passes = a .passes; table = a .table; state = bounded m (a .state); traceText = a .traceText }
 
-module _ (n m : ℕ) (le : n ≤ m) where
+module _ (n m : ℕ) (le : n ≤ m) (Q : Type 0) where
   -- HOW TWO LINES END
 
   -- two lines that go together to their end
@@ -44,10 +44,10 @@ module _ (n m : ℕ) (le : n ≤ m) where
     pub count : length (passesOf k) ≡ length (passesOf l)
     pub occurrence : hadOccurrence (passesOf k) ≡ hadOccurrence (passesOf l)
     pub trace : traceOf (passesOf k) ≡ traceOf (passesOf l)
-    pub end : ending k ≡ endingWide n m le (ending l)
-    pub kept : KeptEnd n m le (ending l)
+    pub end : ending k ≡ endingWide n m le Q (ending l)
+    pub kept : KeptEnd n m le Q (ending l)
 
-  ends : (l k : Line) → Lines n m le l k → (ending l ≡ refused tagTooLong) ⊎ SameEnd l k
+  ends : (l k : Line) → Lines n m le Q l k → (ending l ≡ refused tagTooLong) ⊎ SameEnd l k
   unfolding ending passesOf hadOccurrence traceOf
   ends (lineEnded e) k h =
       inr (record {
@@ -67,10 +67,10 @@ module _ (n m : ℕ) (le : n ≤ m) where
             count = ap (λ (z : Line). length (passesOf z)) (h .1) ∙ ap suc (g .count);
             occurrence =
                 ap (λ (z : Line). hadOccurrence (passesOf z)) (h .1)
-                ∙ (ap (λ (b : Bool). b || hadOccurrence (passesOf (h .0))) (occurred-wide n m le (x .events)) ∙ ap (λ (b : Bool). occurred (x .events) || b) (g .occurrence));
+                ∙ (ap (λ (b : Bool). b || hadOccurrence (passesOf (h .0))) (occurred-wide n m le Q (x .events)) ∙ ap (λ (b : Bool). occurred (x .events) || b) (g .occurrence));
             trace =
                 ap (λ (z : Line). traceOf (passesOf z)) (h .1)
-                ∙ (ap (λ (t : List ℕ). t ++ traceOf (passesOf (h .0))) (lines-wide n m le x) ∙ ap (λ (t : List ℕ). linesOf x ++ t) (g .trace));
+                ∙ (ap (λ (t : List ℕ). t ++ traceOf (passesOf (h .0))) (lines-wide n m le Q x) ∙ ap (λ (t : List ℕ). linesOf x ++ t) (g .trace));
             end = ap ending (h .1) ∙ g .end;
             kept = g .kept;
           })
@@ -83,7 +83,7 @@ module _ (n m : ℕ) (le : n ≤ m) where
 
   abbrev KeptOrder : Order → Type 0
   KeptOrder (wrong r) = Unit {0}
-  KeptOrder (orders ks st) = st .entryBytes ≡ n
+  KeptOrder (orders ks st) = Sound n m le Q st
 
   -- two orders with both bounds; the first may be refused with 16
   abbrev Orders : Order → Order → Type 0
@@ -94,23 +94,23 @@ module _ (n m : ℕ) (le : n ≤ m) where
   pick-orders true o q u v h g = h
   pick-orders false o q u v h g = g
 
-  flag-orders : (ms : Table) (st : State) (t : List ℕ) → st .entryBytes ≡ n → Orders (flagOrder ms st t) (flagOrder ms (bounded m st) t)
+  flag-orders : (ms : Table) (st : State) (t : List ℕ) → Sound n m le Q st → Orders (flagOrder ms st t) (flagOrder ms (bounded m st) t)
   unfolding flagOrder withTrace withNflag
   flag-orders ms st t h =
       pick-orders (same t (bytes "$TRACE 0")) _ _ _ _ (inr (refl, h))
       (pick-orders (same t (bytes "$TRACE 1")) _ _ _ _ (inr (refl, h))
       (pick-orders (same t (bytes "$NFLAG 0")) _ _ _ _ (inr (refl, h)) (pick-orders (same t (bytes "$NFLAG 1")) _ _ _ _ (inr (refl, h)) (inr (refl, tt)))))
 
-  macro-orders : (ms : Table) (st : State) (r : Read) → st .entryBytes ≡ n → Orders (macroOrder ms st r) (macroOrder ms (bounded m st) r)
+  macro-orders : (ms : Table) (st : State) (r : Read) → Sound n m le Q st → Orders (macroOrder ms st r) (macroOrder ms (bounded m st) r)
   unfolding macroOrder
   macro-orders ms st (refusedAt r p) h = inr (refl, tt)
   macro-orders ms st (table ks) h = pick-orders (eqb (length ks) (suc (length ms))) _ _ _ _ (inr (refl, h)) (inr (refl, tt))
 
   -- what `$MACRO` reads
-  read-orders : (ms : Table) (st : State) (s : List ℕ) → st .entryBytes ≡ n
+  read-orders : (ms : Table) (st : State) (s : List ℕ) → Sound n m le Q st
       → Orders (macroOrder ms st (readOntoBy (st .entryBytes) ms s)) (macroOrder ms (bounded m st) (readOntoBy m ms s))
   unfolding macroOrder
-  read-orders ms st s h = subst (λ (k : ℕ). Orders (macroOrder ms st (readOntoBy k ms s)) (macroOrder ms (bounded m st) (readOntoBy m ms s))) (sym h) (by (smaller-bound n m le ms s))
+  read-orders ms st s h = subst (λ (k : ℕ). Orders (macroOrder ms st (readOntoBy k ms s)) (macroOrder ms (bounded m st) (readOntoBy m ms s))) (sym (h .0)) (by (smaller-bound n m le ms s))
     where
       by : (readOntoBy n ms s ≡ readOntoBy m ms s) ⊎ ((p : ℕ) × (readOntoBy n ms s ≡ refusedAt badCall p))
           → Orders (macroOrder ms st (readOntoBy n ms s)) (macroOrder ms (bounded m st) (readOntoBy m ms s))
@@ -118,7 +118,7 @@ module _ (n m : ℕ) (le : n ≤ m) where
           subst (λ (r : Read). Orders (macroOrder ms st (readOntoBy n ms s)) (macroOrder ms (bounded m st) r)) e (macro-orders ms st (readOntoBy n ms s) h)
       by (inr e) = inl (e .0, ap (macroOrder ms st) (e .1))
 
-  order-orders : (ms : Table) (st : State) (t : List ℕ) → st .entryBytes ≡ n → Orders (orderOf ms st t) (orderOf ms (bounded m st) t)
+  order-orders : (ms : Table) (st : State) (t : List ℕ) → Sound n m le Q st → Orders (orderOf ms st t) (orderOf ms (bounded m st) t)
   unfolding orderOf
   order-orders ms st t h = by (begins (bytes "$MACRO") t)
     where
@@ -130,14 +130,14 @@ module _ (n m : ℕ) (le : n ≤ m) where
   -- ANSWERS: the first is refused with 33 or 16, or the second is the first with the larger bound
 
   abbrev pub Answers : Answer → Answer → Type 0
-  Answers a b = Bound a ⊎ ((b ≡ answerWith m a) × (a .state .entryBytes ≡ n))
+  Answers a b = Bound a ⊎ ((b ≡ answerWith m a) × Sound n m le Q (a .state))
 
   trace-if : (b : Bool) (xs ys : List Pass) → traceOf ys ≡ traceOf xs → traceIf b ys ≡ traceIf b xs
   unfolding traceIf
   trace-if true xs ys e = ap some e
   trace-if false xs ys e = refl
 
-  module _ (ms : Table) (old : State) (h : old .entryBytes ≡ n) where
+  module _ (ms : Table) (old : State) (h : Sound n m le Q old) where
     of-orders : (xs ys : List Pass) → length ys ≡ length xs → traceOf ys ≡ traceOf xs → (o q : Order) → Orders o q
         → Answers (ofOrder ms old xs o) (ofOrder ms (bounded m old) ys q)
     unfolding ofOrder refusal tracing numberOf number fileNumber
@@ -151,8 +151,8 @@ module _ (n m : ℕ) (le : n ≤ m) where
           e .1,
         )
 
-    of-endings : (xs ys : List Pass) → length ys ≡ length xs → hadOccurrence ys ≡ hadOccurrence xs → traceOf ys ≡ traceOf xs → (e : Ending) → KeptEnd n m le e
-        → Answers (answered ms old xs e) (answered ms (bounded m old) ys (endingWide n m le e))
+    of-endings : (xs ys : List Pass) → length ys ≡ length xs → hadOccurrence ys ≡ hadOccurrence xs → traceOf ys ≡ traceOf xs → (e : Ending) → KeptEnd n m le Q e
+        → Answers (answered ms old xs e) (answered ms (bounded m old) ys (endingWide n m le Q e))
     unfolding answered refusal tracing
     of-endings xs ys c o t (refused r) k = inr (ap (λ (j : ℕ). refusal ms (bounded m old) j (ofWork r)) c, h)
     of-endings xs ys c o t (done s st) k =
@@ -168,7 +168,7 @@ module _ (n m : ℕ) (le : n ≤ m) where
         )
     of-endings xs ys c o t (control s st) k = of-orders xs ys c t (orderOf ms st s) (orderOf ms (bounded m st) s) (order-orders ms st s k)
 
-    of-lines : (l k : Line) → Lines n m le l k → Answers (answer ms old l) (answer ms (bounded m old) k)
+    of-lines : (l k : Line) → Lines n m le Q l k → Answers (answer ms old l) (answer ms (bounded m old) k)
     unfolding answer answered refusal numberOf number workNumber
     of-lines l k g = by (ends l k g)
       where
@@ -201,4 +201,4 @@ module _ (n m : ℕ) (le : n ≤ m) where
         by true false c = inr (refl, h)
         by true true true = inr (refl, h)
         by true true false =
-            of-lines (historyOf ms old sent) (historyOf ms (bounded m old) sent) (history-lines n m le (isOn (old .trace)) mostTraceBytes ms old sent h)
+            of-lines (historyOf ms old sent) (historyOf ms (bounded m old) sent) (history-lines n m le Q (isOn (old .trace)) mostTraceBytes ms old sent h)

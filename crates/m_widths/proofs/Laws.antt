@@ -15,25 +15,25 @@ use Rattle.macros.proofs.ReadBounds.{smaller-bound}
 use Rattle.lines.specs.State.{State}
 use Rattle.lines.specs.Line.{Sent}
 use Rattle.lines.specs.Feeding.{Answer, feed, feeds}
-use Rattle.m_widths.specs.Widths.{IsOld, widened}
-use Rattle.m_widths.specs.Widened.{Unbound, widenedAnswer, widenedAll, LineWidened, ListWidened, OldTaken}
+use Rattle.m_widths.specs.Widths.{IsOld, widened, Short}
+use Rattle.m_widths.specs.Widened.{Unbound, widenedAnswer, widenedAll, LineWidened, ListWidened, StaysOld, OldTaken}
 use Rattle.m_widths.proofs.Answers.{Answers, of-feeds}
 
--- one line, and that the state stays one of the old engine
+-- one line, and the state that it leaves
 one-line : (ms : Table) (st : State) (sent : Sent) → IsOld st → Unbound (feed ms st sent)
-    → (feed ms (widened st) sent ≡ widenedAnswer (feed ms st sent)) × IsOld (feed ms st sent .state)
+    → (feed ms (widened st) sent ≡ widenedAnswer (feed ms st sent)) × IsOld (feed ms st sent .state) × (Short st → Short (feed ms st sent .state))
 unfolding widenedAnswer
-one-line ms st sent h u = by (of-feeds oldEntryBytes mostEntryBytes (omega arith) ms st h sent)
+one-line ms st sent h u = by (of-feeds oldEntryBytes mostEntryBytes (omega arith) (Short st) ms st (h, λ q. q) sent)
   where
-    by : Answers oldEntryBytes mostEntryBytes (omega arith) (feed ms st sent) (feed ms (widened st) sent)
-        → (feed ms (widened st) sent ≡ widenedAnswer (feed ms st sent)) × IsOld (feed ms st sent .state)
+    by : Answers oldEntryBytes mostEntryBytes (omega arith) (Short st) (feed ms st sent) (feed ms (widened st) sent)
+        → (feed ms (widened st) sent ≡ widenedAnswer (feed ms st sent)) × IsOld (feed ms st sent .state) × (Short st → Short (feed ms st sent .state))
     by (inl (inl e)) = absurd (u .0 e)
     by (inl (inr e)) = absurd (u .1 e)
-    by (inr g) = g
+    by (inr g) = (g .0, g .1 .0, g .1 .1)
 
 -- THE LAW, of one line
 pub line-widened : LineWidened
-line-widened ms st sent h u = one-line ms st sent h u .0
+line-widened ms st sent h u = let g = one-line ms st sent h u in (g .0, g .1)
 
 -- THE LAW, of a list
 pub list-widened : ListWidened
@@ -43,6 +43,15 @@ list-widened ms st (x ∷ xs) h u =
     let g = one-line ms st x h (u .0) in
     let a : Answer = feed ms st x in
     ap (λ (b : Answer). b ∷ feeds (b .table) (b .state) xs) (g .0) ∙ ap (λ (l : List Answer). widenedAnswer a ∷ l) (list-widened (a .table) (a .state) xs (g .1) (u .1))
+
+-- THE LAW, of the states that are left
+pub stays-old : StaysOld
+unfolding feeds
+stays-old ms st [] h s u = tt
+stays-old ms st (x ∷ xs) h s u =
+    let g = one-line ms st x h (u .0) in
+    let a : Answer = feed ms st x in
+    ((g .1, g .2 s), stays-old (a .table) (a .state) xs (g .1) (g .2 s) (u .1))
 
 -- TABLES
 

@@ -6,7 +6,7 @@ use lib.ListN.{length}
 use Rattle.macros.specs.Bounds.{mostEntryBytes, oldEntryBytes}
 use Rattle.lines.specs.State.{Stack, State, AllOf}
 
--- a state of the old engine
+-- a state of the old engine, by how many bytes an entry may have in it
 abbrev pub IsOld : State → Type 0
 IsOld st = st .entryBytes ≡ oldEntryBytes
 
@@ -18,7 +18,7 @@ bounded n st = record { stacks = st .stacks; counters = st .counters; trace = st
 abbrev pub widened : State → State
 widened = bounded mostEntryBytes
 
--- the state of the old engine with the same contents
+-- the state of the old engine with the same contents, if no entry has more than 50 bytes (Short)
 abbrev pub narrowed : State → State
 narrowed = bounded oldEntryBytes
 

@@ -16,7 +16,7 @@ use Rattle.macros.specs.Read.{readFile, readOnto}
 use Rattle.macros.specs.ReadFile.Read.{refusedAt, table}
 use Rattle.macros.specs.Cases.{everything, bytes, shown, sized}
 
--- 01's bounds: file, macros, a macro's bytes, tags, line; stacks, their entries, an entry's bytes, now (02, N6) and before, counters, budget
+-- 01's bounds: file, macros, a macro's bytes, tags, line; stacks, their entries, an entry's bytes (02, N6), the old ones, counters, budget
 pub boundNumbers :
     (mostFileBytes ∷ mostMacros ∷ mostMacroBytes ∷ mostTags ∷ mostLineBytes ∷ [] ≡ 32768 ∷ 96 ∷ 512 ∷ 99 ∷ 1054 ∷ []) ×
     (letters ∷ mostEntries ∷ mostEntryBytes ∷ oldEntryBytes ∷ mostCounter ∷ mostBudget ∷ []

@@ -29,11 +29,11 @@ letters = 26
 abbrev pub mostEntries : ℕ
 mostEntries = 20
 
--- the bytes of an entry
+-- the bytes of an entry, and of the text in a call (02, N6)
 abbrev pub mostEntryBytes : ℕ
 mostEntryBytes = 100
 
--- the same of the engine before N6 of 02
+-- the same in the old engine, before N6
 abbrev pub oldEntryBytes : ℕ
 oldEntryBytes = 50
 

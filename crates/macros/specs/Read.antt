@@ -1,7 +1,7 @@
 -- 01, part 2: reading. Begin here; then, from outside in:
 -- ReadFile (a file: skips, the 512 bytes, 10, 11, 18 and 19), ReadParts (a macro: between its parts), ReadPattern, ReadClass,
 -- ReadReplacement and ReadCalls. What has been read so far is said in ReadSoFar; bytes are quoted as in Quoted.
--- A name with `By` takes the longest text of a call (02, N6); without, it has today's. This file only passes on the names of those.
+-- A name with `By` takes how many bytes the text of a call may have (02, N6); without `By` these are 100. This file only passes on names.
 pub use Rattle.macros.specs.ReadFile.{Pending, Prior, Reader, Next, Read, noCalls, step, readFrom, readOnto, readFile}
 unfoldable pub use Rattle.macros.specs.ReadFile.{count, macroOf, taken, outsideFresh, firstCall, outside, further, stepBy}
 unfoldable pub use Rattle.macros.specs.ReadFile.{atEnd, readFromBy, firstZero, readOntoBy, readFileBy}

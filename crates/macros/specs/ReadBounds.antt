@@ -1,5 +1,6 @@
 -- What a smaller bound of a call's text changes (02, N6): nothing, or reading is refused with 16.
--- That the bound counts, the case oldTexts of ReadingCases shows; it rules out the edit bound_ignored (texts have today's bound always).
+-- SmallerBound would hold of a bound that nobody looks at: the case oldTexts of ReadingCases rules that out, with the edit bound_ignored (a
+-- text may have 100 bytes, whatever the bound is).
 use Prim.Native.Nat.{ℕ, _≤_}
 use mathlib.Core.Path.{_≡_}
 use mathlib.Core.Logic.{_⊎_}

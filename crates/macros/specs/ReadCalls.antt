@@ -142,7 +142,7 @@ turned pl ph b (textOf i v) = on (callText pl i v [])
 turned pl ph b (closed c) = pick (numberFits (tags (piecesOf pl)) c) (on (behindCall pl c)) (stop badCall)
 turned pl ph b wrong = otherwise (calling pl ph) b
 
--- "`&(i:text:)` stores text, at most 100 bytes, ended by the first `:` without `\`"; longest: how many bytes it may have (02, N6).
+-- "`&(i:text:)` stores text", at most 100 bytes (02, N6), by the old engine at most 50 (`longest`), "ended by the first `:` without `\`"
 -- 12 at a raw quote, `;` or line feed, 16 at the byte behind the longest text
 unfoldable pub textByteBy : (longest : ℕ) → CallSite → ℕ → Move → List ℕ → ℕ → Step
 textByteBy longest pl i v t b =

@@ -469,17 +469,20 @@ pub texts : Hold (
 unfolding everything
 texts = refl
 
--- 02, N6: the same as the old engine reads, with texts of at most 50 bytes
+-- 02, N6: the same as the old engine reads, with texts of at most 50 bytes, in a replacement, a command and before a pattern
 pub oldTexts :
     (oldShown "'a'='&(a:" 50 "x" ":)';" ≡ (0, 1)) ×
+    (oldShown "'a'='&(a:" 50 "x" "/y/:)';" ≡ (0, 1)) ×
     (oldShown "'a'='&(a:\\:" 49 "x" ":)';" ≡ (0, 1)) ×
     (oldShown "'a'='&(a:" 51 "x" ":)';" ≡ (16, 59)) ×
+    (oldShown "'a'='&(a:" 100 "x" ":)';" ≡ (16, 59)) ×
     (oldShown "'a'='&(a:" 50 "x" "\\x" ≡ (16, 59)) ×
     (oldShown "'a'='&(a:" 50 "x" "'" ≡ (12, 59)) ×
+    (oldShown "'a'='b'&(a:" 51 "x" ":);" ≡ (16, 61)) ×
     (oldShown "&(s:" 50 "x" ":)'a'='b';" ≡ (0, 1)) ×
     (oldShown "&(s:" 51 "x" ":)'a'='b';" ≡ (16, 54))
 unfolding everything
-oldTexts = (refl, refl, refl, refl, refl, refl, refl)
+oldTexts = (refl, refl, refl, refl, refl, refl, refl, refl, refl, refl)
 
 -- THE 513TH BYTE: 12 to 17 come before 18; the file's end is no byte; skipped bytes count
 pub byte513 : Hold (
