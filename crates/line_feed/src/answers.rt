@@ -222,7 +222,7 @@ fn take_with(
     let ended = run_line(
         table,
         count,
-        &state[..26236], // of a known size, so that the compiler does not clear `after` before the state is copied to it
+        &state[..52236], // of a known size, so that the compiler does not clear `after` before the state is copied to it
         line,
         budget,
         &mut after,
