@@ -1,4 +1,3 @@
-pub mod ByteLaws
 pub mod PatternLaws
 pub mod ActionLaws
 pub mod WalkLaws

@@ -21,7 +21,7 @@ use Rattle.form_table.specs.PatternWalk.Inside.{atBracket, atTilde}
 use Rattle.form_table.specs.PatternWalk.PatternSpot.{behindPiece, inClass, inRange}
 use Rattle.form_table.specs.PatternWalk.PatternState.{patternAt}
 use Rattle.check_table.specs.PatternCode.{insideOf, closedJoint, ended}
-use Rattle.check_table.proofs.ByteLaws.{and-left, and-right}
+use Rattle.form_marks.proofs.ByteLaws.{and-left, and-right}
 
 -- CLOSURES
 

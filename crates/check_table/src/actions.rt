@@ -12,7 +12,6 @@ ghost use Rattle.form_table.specs.ActionWalk.{actionStep, actionStart, actionEn
 ghost use Rattle.form_table.specs.ActionWalk.ActionState.{actionAt};
 ghost use Rattle.form_table.specs.ActionWalk.ActionSpot.{behindAction, lowDue, highDue};
 ghost use Rattle.check_table.specs.ActionCode.{spotOf, stateOf, nextOf};
-use crate::bytes;
 
 pub enum ActionSpot {
     BehindAction(bool),
@@ -74,13 +73,13 @@ fn figures(n: u32) -> u32
 fn literal_length(mark: bool, b: u8) -> u32
     ensures { λ r. ⌜ r ≡ literalLength mark b ⌝ }
 {
-    1 + bytes::bit(bytes::is_replacement_sign(b) | ((b == 40) & mark))
+    1 + form_marks::bit(form_marks::is_replacement_sign(b) | ((b == 40) & mark))
 }
 
 fn text_length(b: u8) -> u32
     ensures { λ r. ⌜ r ≡ textLength b ⌝ }
 {
-    1 + bytes::bit(bytes::is_text_sign(b))
+    1 + form_marks::bit(form_marks::is_text_sign(b))
 }
 
 fn literal_step(n: u32, mark: bool, o: u8) -> ActionNext
@@ -101,7 +100,7 @@ fn tag_step(k: u8, n: u32, o: u8) -> ActionNext
     requires { ⌜ n ≤ 100010 ⌝ }
     ensures { λ r. ⌜ nextOf r ≡ given (within 1 k o) (actionAt (n + figuresOf o) (behindAction false)) ⌝ }
 {
-    if bytes::is_within(1, k, o) {
+    if form_marks::is_within(1, k, o) {
         return at(n + figures(o as u32), ActionSpot::BehindAction(false));
     }
     ActionNext::Refused
@@ -152,7 +151,7 @@ fn call_step(cmd: bool, n: u32, c: u8, m: u8, o: u8) -> ActionNext
     if 122 < o {
         return ActionNext::Refused;
     }
-    let moves = bytes::bit(0 < m);
+    let moves = form_marks::bit(0 < m);
     match c {
         6 => insert_step(cmd, n + 4 + moves),
         7 => insert_step(cmd, n + 4 + moves),

@@ -13,7 +13,6 @@ ghost use lib.ListN.{length};
 ghost use Rattle.form_table.specs.Check.{itemsFit, slotFits, checks};
 
 mod actions;
-mod bytes;
 mod pattern;
 
 // The calls before a pattern, pattern, replacement and commands behind a header of k tags; those calls have no tag to store.
@@ -53,7 +52,7 @@ fn slot_fits(s: &[u8]) -> bool
     requires { ⌜ length (now s) ≡ 1024 ⌝ }
     ensures { λ r. ⌜ r ≡ slotFits (now (s .entry)) ⌝ }
 {
-    if !bytes::is_within(1, 2, s[0]) {
+    if !form_marks::is_within(1, 2, s[0]) {
         return false;
     }
     let pattern = HEADER_BYTES + two_at(s, BEFORE_AT);

@@ -15,7 +15,6 @@ ghost use Rattle.form_table.specs.PatternWalk.PatternState.{patternAt};
 ghost use Rattle.form_table.specs.PatternWalk.PatternSpot.{behindPiece};
 ghost use Rattle.form_table.specs.PatternWalk.Joint.{loose};
 ghost use Rattle.check_table.specs.PatternCode.{jointOf, insideOf, spotOf, stateOf, nextOf, closedJoint, ended, Room};
-use crate::bytes;
 
 pub enum Joint {
     Loose,
@@ -56,7 +55,7 @@ fn joins_at(j: Joint, b: u8) -> bool
     match j {
         Joint::Loose => false,
         Joint::AfterStar => b == 45,
-        Joint::AfterQuery => bytes::is_within(49, 54, b),
+        Joint::AfterQuery => form_marks::is_within(49, 54, b),
         Joint::AfterMark => b == 40,
     }
 }
@@ -64,7 +63,7 @@ fn joins_at(j: Joint, b: u8) -> bool
 fn literal_length(j: Joint, b: u8) -> u32
     ensures { λ r. ⌜ r ≡ literalLength (jointOf j) b ⌝ }
 {
-    1 + bytes::bit(bytes::is_sign(b) | joins_at(j, b))
+    1 + form_marks::bit(form_marks::is_sign(b) | joins_at(j, b))
 }
 
 fn literal_joint(b: u8) -> Joint
@@ -166,9 +165,9 @@ fn element_step(s: PatternState, j: Joint, u: u8, k: u8, o: u8) -> PatternNext
 {
     match u {
         2 => literal_step(s, j, k, o),
-        3 => unit_step(s, bytes::is_within(1, 6, o), 2, k),
-        4 => unit_step(s, bytes::is_within(97, 122, o), 4, k),
-        5 => unit_step(s, bytes::is_within(97, 122, o), 4, k),
+        3 => unit_step(s, form_marks::is_within(1, 6, o), 2, k),
+        4 => unit_step(s, form_marks::is_within(97, 122, o), 4, k),
+        5 => unit_step(s, form_marks::is_within(97, 122, o), 4, k),
         6 => class_step(s, 0, k, o),
         7 => class_step(s, 1, k, o),
         _ => PatternNext::Refused,
@@ -225,7 +224,7 @@ fn piece_step(s: PatternState, j: Joint, c: u8, o: u8) -> PatternNext
     requires { ⌜ Room s ⌝ }
     ensures { λ r. ⌜ nextOf r ≡ pieceStep (s .spelled) (s .tags) (s .braces) (s .elements) (jointOf j) c o ⌝ }
 {
-    if bytes::is_within(97, 122, o) & (c == LITERAL) {
+    if form_marks::is_within(97, 122, o) & (c == LITERAL) {
         return behind_sign(s.spelled, s.tags, s.braces, s.elements + 1);
     }
     if 7 < c {
@@ -240,7 +239,7 @@ fn piece_step(s: PatternState, j: Joint, c: u8, o: u8) -> PatternNext
 fn member_length(w: u8, b: u8) -> u32
     ensures { λ r. ⌜ r ≡ memberLength (insideOf w) b ⌝ }
 {
-    1 + bytes::bit(bytes::is_class_sign(b) | ((b == 126) & (w == 0)))
+    1 + form_marks::bit(form_marks::is_class_sign(b) | ((b == 126) & (w == 0)))
 }
 
 fn member_spot(w: u8, b: u8) -> u8
@@ -257,7 +256,7 @@ fn member_step(s: PatternState, j: Joint, w: u8, c: u8, o: u8) -> PatternNext
     requires { ⌜ Room s ⌝ }
     ensures { λ r. ⌜ nextOf r ≡ memberStep (s .spelled) (s .tags) (s .braces) (s .elements) (jointOf j) (insideOf w) c o ⌝ }
 {
-    let n = s.spelled + bytes::bit(w == DASH);
+    let n = s.spelled + form_marks::bit(w == DASH);
     match c {
         32 => {
             if o < 1 {
@@ -284,7 +283,7 @@ fn member_step(s: PatternState, j: Joint, w: u8, c: u8, o: u8) -> PatternNext
 fn range_step(s: PatternState, j: Joint, a: u8, c: u8, o: u8) -> PatternNext
     ensures { λ r. ⌜ nextOf r ≡ rangeStep (s .spelled) (s .tags) (s .braces) (s .elements) (jointOf j) a c o ⌝ }
 {
-    if (c == 34) & bytes::is_range(a, o) {
+    if (c == 34) & form_marks::is_range(a, o) {
         return moved(s, s.spelled, PatternSpot::InClass(j, RANGE));
     }
     PatternNext::Refused

@@ -1,7 +1,6 @@
 -- What a call answers, in numbers.
--- The contracts of file_number and answer_of rule out, among others, the edits read_number (14 is answered as 13), refused_passes_lost
--- (a refused line has no passes), withheld_as_control (a withheld line has the kind of a control line) and one_answer (every line is
--- answered as taken and withheld).
+-- The contract of answer_of rules out, among others, the edits refused_passes_lost (a refused line has no passes), withheld_as_control
+-- (a withheld line has the kind of a control line) and one_answer (every line is answered as taken and withheld).
 use Prim.Native.Nat.{ℕ, _≤_}
 use mathlib.Core.List.{[]}
 use Rattle.macros.specs.Bounds.{mostFileBytes, mostLineBytes, mostBudget}

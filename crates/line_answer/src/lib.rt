@@ -1,11 +1,11 @@
 // What a call answers, in numbers.
 use read_scan::FileFault;
+use read_scan::file_number;
 use refusals::WorkFault;
 ghost use mathlib.Core.Path.{_≡_};
 ghost use Prim.Native.Nat.{_≤_};
 ghost use Rattle.macros.specs.Bounds.{mostFileBytes, mostLineBytes, mostBudget};
-ghost use Rattle.macros.specs.Refusals.{fileNumber, workNumber, number, place};
-ghost use Rattle.read_scan.specs.Scan.{faultOf};
+ghost use Rattle.macros.specs.Refusals.{workNumber, number, place};
 ghost use Rattle.refusals.specs.Faults.{refusalOf as workOf};
 ghost use Rattle.line_answer.specs.Fed.{refusalOf};
 ghost use Rattle.line_answer.specs.Replies.{lineReply, told, Small};
@@ -38,24 +38,6 @@ pub struct Answer {
     pub passes: u32,
     pub kind: u32,
     pub length: u32,
-}
-
-// 10 to 19.
-pub fn file_number(f: FileFault) -> u32
-    ensures { λ r. ⌜ r ≡ fileNumber (faultOf f) ⌝ }
-{
-    match f {
-        FileFault::FileTooLong => 10,
-        FileFault::ZeroByte => 11,
-        FileFault::Incomplete => 12,
-        FileFault::BadClass => 13,
-        FileFault::NoUnit => 14,
-        FileFault::BadBrace => 15,
-        FileFault::BadCall => 16,
-        FileFault::NoElement => 17,
-        FileFault::MacroTooLong => 18,
-        FileFault::TooManyMacros => 19,
-    }
 }
 
 // 32 to 35.

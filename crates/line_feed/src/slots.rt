@@ -1,5 +1,5 @@
 // How many macros a table has.
-ghost use Rattle.line_feed.specs.Answering.{SomeTable, Counts};
+ghost use Rattle.line_feed.specs.Taking.{SomeTable, Counts};
 
 // Its slots up to the first unused one.
 pub(crate) fn count_macros(table: &[u8]) -> usize

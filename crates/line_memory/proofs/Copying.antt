@@ -1,13 +1,14 @@
 -- Copying bytes over others, zeros from a place on, and both: a text with zeros behind it.
 -- Assumes nothing.
 use Prim.Native.Nat.{ℕ, _+_, _-_, _≤_, _<_}
-use mathlib.Core.Path.{_≡_, refl, ap, _∙_}
+use mathlib.Core.Path.{_≡_, refl, ap, sym, _∙_}
+use mathlib.Core.Bool.{Bool, true, false}
 use mathlib.Core.List.{List, _++_, append-nil}
 use native.Mathlib.Nat.{zero-add}
 use native.Mathlib.Omega.{arith}
 use lib.ListN.{length, getD, take, drop, set, replicate, length-append, length-replicate, drop-of-length-le}
 use lib.Seq.{take-at}
-use Rattle.line_memory.specs.Memory.{padded}
+use Rattle.line_memory.specs.Memory.{padded, laidIf}
 use Rattle.form_state.specs.Access.{replaced}
 use Rattle.form_state.proofs.Replaced.{text-more, text-end, fill-end}
 
@@ -47,3 +48,11 @@ padded-front s n k h e = ap (take k) e ∙ take-at s (replicate (n - length s) 0
 -- its size
 pub padded-size : (s : List ℕ) (n : ℕ) {t : List ℕ} → length s ≤ n → t ≡ padded s n → length t ≡ n
 padded-size s n h e = ap length e ∙ (length-append s (replicate (n - length s) 0) ∙ omega (arith, length-replicate {A = ℕ} (n - length s) 0))
+
+-- A TEXT THAT IS LAID OUT, OR NOT
+
+pub laid-on : {asked : Bool} (text old : List ℕ) {new : List ℕ} → asked ≡ true → new ≡ padded text (length old) → new ≡ laidIf asked text old
+laid-on text old a e = e ∙ ap (λ (b : Bool). laidIf b text old) (sym a)
+
+pub laid-off : {asked : Bool} (text old : List ℕ) → asked ≡ false → old ≡ laidIf asked text old
+laid-off text old a = ap (λ (b : Bool). laidIf b text old) (sym a)

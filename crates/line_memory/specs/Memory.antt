@@ -1,6 +1,7 @@
 -- The memories of a line, and what they hold: a table, and a text with zeros behind it.
 use Prim.Native.Nat.{ℕ, _-_}
 use mathlib.Core.Path.{_≡_}
+use mathlib.Core.Bool.{Bool, true, false}
 use mathlib.Core.List.{List, _++_}
 use lib.ListN.{length, replicate}
 use Rattle.macros.specs.Macro.{Table}
@@ -35,3 +36,8 @@ pub record Counted (table : List ℕ) (count : ℕ) : Type 0 where
 -- a text and zeros behind it: n bytes in all, for a text of at most n
 abbrev pub padded : List ℕ → ℕ → List ℕ
 padded t n = t ++ replicate (n - length t) 0
+
+-- what a memory holds when a text is laid out in it, or none is
+abbrev pub laidIf : (asked : Bool) → (text old : List ℕ) → List ℕ
+laidIf true text old = padded text (length old)
+laidIf false text old = old

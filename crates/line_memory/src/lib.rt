@@ -3,7 +3,7 @@ ghost use mathlib.Core.Path.{_≡_};
 ghost use mathlib.Core.List.{_++_};
 ghost use Prim.Native.Nat.{_-_, _≤_};
 ghost use lib.ListN.{length, take, drop, replicate};
-ghost use Rattle.line_memory.specs.Memory.{padded};
+ghost use Rattle.line_memory.specs.Memory.{padded, laidIf};
 
 // The bytes of one memory over the first of another.
 fn copy_over(to: &mut [u8], from: &[u8])
@@ -36,4 +36,14 @@ pub fn lay_out(to: &mut [u8], text: &[u8])
 {
     copy_over(to, text);
     clear(to, text.len());
+}
+
+// The same if it is asked for, else nothing.
+pub fn lay_out_if(to: &mut [u8], text: &[u8], asked: bool)
+    requires { ⌜ length (now text) ≤ length (now to) ⌝ }
+    ensures { λ _. ⌜ now (to .exit) ≡ laidIf asked (now (text .entry)) (now (to .entry)) ⌝ }
+{
+    if asked {
+        lay_out(to, text);
+    }
 }

@@ -15,9 +15,11 @@ use Rattle.macros.specs.Bounds.{mostMacros}
 use Rattle.macros.specs.Macro.{Symbol, Macro, Table, pick}
 use Rattle.macros.specs.Macro.Symbol.{equal, less}
 use Rattle.form_table.specs.Form.{symbolCode}
-use Rattle.lines.specs.Line.{Numbered, isIn, unlessClosed, openFrom, newestFirst, closing, isControl}
+use Rattle.lines.specs.Line.{Numbered, isIn, unlessClosed, openFrom, newestFirst, closing}
 use Rattle.line_memory.specs.Memory.{IsTable}
-use Rattle.line_passes.specs.Flags.{dueBelow, isSet, Begun, Closes, begunFlags, closedFlags, OpenBelow}
+use Rattle.line_begin.specs.Flags.{isSet, Begun, begunFlags}
+use Rattle.line_stand.specs.Closed.{closedFlags, OpenBelow}
+use Rattle.line_passes.specs.Due.{dueBelow, Closes}
 use Rattle.line_memory.proofs.Slotting.{SlotAt, slot-at}
 
 -- WHICH ARE DUE
@@ -57,10 +59,6 @@ module _ (closed : List ℕ) (ms : Table) where
   due-all k e = ap (λ (y : Table). reverse (openFrom 0 closed y)) (take-all k ms (omega arith))
 
 -- THE BYTES
-
-pub set-true : (n : ℕ) → (n ≡ 0 → ⊥) → isSet n ≡ true
-set-true zero f = absurd (f refl)
-set-true (suc n) f = refl
 
 module _ (table : List ℕ) (ms : Table) (h : IsTable table ms) (flags closed : List ℕ) (g : Closes flags closed) where
   -- closed macros are passed over
@@ -146,34 +144,3 @@ module _ (flags : List ℕ) (k : ℕ) (l : k < length flags) where
       from : (t : Bool) → isIn i (k ∷ begun) ≡ isSet (getD (pick t (set flags k 1) flags) i 0)
       from true = by (eqb i k) refl
       from false = g i h
-
--- what closing stores
-pub closes-one : (flags : List ℕ) (s k : ℕ) → s ≡ 1 → set flags k 1 ≡ closedFlags flags s k
-unfolding closedFlags pick
-closes-one flags s k e = rw (eq-eqb s 1 e) refl
-
-pub leaves : (flags : List ℕ) (s k : ℕ) → (s ≡ 1 → ⊥) → flags ≡ closedFlags flags s k
-unfolding closedFlags pick
-leaves flags s k f = rw (ne-eqb s 1 f) refl
-
--- looking for the newest open macro
-pub open-here : (flags : List ℕ) (i j : ℕ) → (getD flags (i - 1) 0 ≡ 1 → ⊥) → suc j ≡ i → getD flags j 0 ≡ 1 → ⊥
-open-here flags i j e h q = let z : i - 1 ≡ j = omega arith in e (rw z q)
-
-pub closed-here : (flags : List ℕ) (i due : ℕ) → ((j : ℕ) → i ≤ j → j < due → getD flags j 0 ≡ 1) → getD flags (i - 1) 0 ≡ 1 → (j : ℕ) → i - 1 ≤ j → j < due → getD flags j 0 ≡ 1
-closed-here flags i due h f j a b = by (decLe i j)
-  where
-    by : Dec (i ≤ j) → getD flags j 0 ≡ 1
-    by (yes l) = h j l b
-    by (no n) = let z : j ≡ i - 1 = omega arith in rw z f
-
--- "a line beginning with `$`"
-pub control-none : (t : List ℕ) → length t < 1 → false ≡ isControl t
-unfolding isControl
-control-none [] h = refl
-control-none (b ∷ t) h = absurd (omega arith)
-
-pub control-first : (t : List ℕ) → 1 ≤ length t → eqb (getD t 0 0) 36 ≡ isControl t
-unfolding isControl
-control-first [] h = absurd (omega arith)
-control-first (b ∷ t) h = refl

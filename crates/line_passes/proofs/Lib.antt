@@ -1,5 +1,4 @@
 pub mod Closing
-pub mod Preparing
 pub mod Running
 pub mod Stepping
 pub mod Starting

@@ -1,6 +1,6 @@
 -- A line from one pass to the next, and at its end.
 -- Assumes nothing.
-use Prim.Native.Nat.{ℕ, zero, suc, _+_, _-_, _*_, _≤_, _<_}
+use Prim.Native.Nat.{ℕ, suc, _+_, _-_, _*_, _≤_, _<_}
 use mathlib.Core.Path.{_≡_, refl, ap, sym, _∙_, subst}
 use mathlib.Core.Bool.{Bool, true, false, _||_}
 use mathlib.Core.List.{List, [], _∷_, _++_, append-nil}
@@ -20,7 +20,7 @@ use Rattle.lines.specs.Replacing.Done.{bad, good}
 use Rattle.lines.specs.Pass.{occurred, outcome}
 use Rattle.lines.specs.Line.{Numbered, Pass, Ending, Line, isIn, isControl, prepares, passBehind, passOf, newestFirst, closedBy, textOf, passes, passesOf, hadOccurrence, ending, passesThen}
 use Rattle.lines.specs.Line.Line.{ended, passed}
-use Rattle.lines.specs.Line.Ending.{refused, done, control}
+use Rattle.lines.specs.Line.Ending.{refused, done}
 use Rattle.lines.specs.Trace.{threeLines, linesOf, traceOf, cutIf}
 use Rattle.lines.proofs.TraceSteps.{lines-none, lines-bad, lines-some, trace-one, cut-ended, cut-on, cut-over, cut-free}
 use Rattle.lines.proofs.NextLaws.{to-control, to-done, to-used, to-refused, to-next, to-again, then-one, then-ending, then-passes, occurrence-one}
@@ -30,10 +30,13 @@ use Rattle.lines.proofs.KeepPass.{made-sound}
 use Rattle.form_state.specs.Access.{Holds}
 use Rattle.line_memory.specs.Memory.{IsTable, padded}
 use Rattle.line_memory.proofs.Copying.{padded-front}
-use Rattle.line_passes.specs.Flags.{dueBelow, Begun, Closes, begunFlags, closedFlags, OpenBelow}
+use Rattle.line_begin.specs.Flags.{begunFlags}
+use Rattle.line_stand.specs.Closed.{closedFlags, OpenBelow}
+use Rattle.line_stand.specs.Standing.{Open}
+use Rattle.line_passes.specs.Due.{dueBelow, Closes}
 use Rattle.line_passes.specs.Contract.{IsDone, IsControl, IsRefused}
-use Rattle.line_passes.specs.Passing.{Given, Memories, Open, Stands, leftOf}
-use Rattle.line_passes.specs.declared.Stand.{Stand}
+use Rattle.line_passes.specs.Passing.{Given, Memories, Stands, leftOf}
+use Rattle.line_stand.specs.declared.Stand.{Stand}
 use Rattle.line_memory.proofs.Slotting.{SlotAt}
 use Rattle.line_passes.proofs.Closing.{due-all, none-due, first-due, closes-more, closes-begun, begun-more, begun-closed}
 

@@ -2,12 +2,12 @@
 -- Assumes nothing.
 use Prim.Native.Nat.{ℕ, _-_, _≤_}
 use mathlib.Core.Path.{_≡_, refl, ap, sym, _∙_, subst}
-use mathlib.Core.Bool.{Bool, true, false, false≢true}
+use mathlib.Core.Bool.{Bool, true, false}
 use mathlib.Core.List.{List, []}
 use native.Mathlib.Omega.{arith}
 use lib.ListN.{length, take, replicate, length-replicate}
 use Rattle.kinds.specs.Kind.{kindTable}
-use Rattle.pass_one.specs.Lacking.{flagsOf}
+use Rattle.pass_lack.specs.Lacking.{flagsOf}
 use Rattle.macros.specs.Bounds.{mostLineBytes, mostTraceBytes}
 use Rattle.macros.specs.Macro.{Table}
 use Rattle.macros.specs.Formed.{Bytes}
@@ -17,12 +17,13 @@ use Rattle.lines.specs.Trace.{traceOf, isOn, historyOf}
 use Rattle.form_state.specs.Form.{stateBytes}
 use Rattle.form_state.specs.Access.{Holds, IsState, OfState}
 use Rattle.form_state.proofs.Parts.{state-size}
-use Rattle.line_memory.specs.Memory.{IsTable, padded}
+use Rattle.line_memory.specs.Memory.{padded, laidIf}
 use Rattle.line_memory.proofs.Copying.{padded-whole, padded-front, padded-size}
 use Rattle.line_passes.specs.Contract.{Run, Left, Started, Comes, RunsTo, Runs}
-use Rattle.line_passes.specs.Passing.{Given, Memories, Stands, Open, Ready, leftOf, Ends, FromStart, runOf, isRefused, clearedIf}
-use Rattle.line_passes.specs.declared.Ended.{Ended}
-use Rattle.line_passes.specs.declared.Ended.the-variants.{Done, Control, Refused}
+use Rattle.line_stand.specs.Standing.{Open}
+use Rattle.line_passes.specs.Passing.{Given, Memories, Stands, Ready, leftOf, Ends, FromStart, runOf, isRefused, dropsTrace}
+use Rattle.line_stand.specs.declared.Ended.{Ended}
+use Rattle.line_stand.specs.declared.Ended.the-variants.{Done, Control, Refused}
 use Rattle.line_passes.proofs.Closing.{due-all, none-closed, none-begun}
 
 -- an empty trace
@@ -64,90 +65,88 @@ pub runs-start : {g : Given} {m : Memories} {left : Left} {n : ℕ} {r : Ended} 
 runs-start {g} {m} {left} {n} f t x =
     record { comes = λ ms h l st hb. x .comes _ ms h l (stands-start ms st g m n hb l f (t st hb)); lies = x .lies; untraced = x .untraced }
 
--- THE COPIES
+-- AT ITS END
 
 pub state-length : {b : List ℕ} → IsState b → length b ≡ stateBytes
 state-length s = ap length (sym (s .1 .form)) ∙ state-size (s .0) (s .1 .inRange) .0
 
-pub cleared-on : {b : Bool} (old : List ℕ) {new : List ℕ} → b ≡ true → new ≡ padded [] (length old) → new ≡ clearedIf b old
-unfolding clearedIf
-cleared-on old t e = rw t (e ∙ ap (λ (n : ℕ). replicate {A = ℕ} n 0) (let z : length old - 0 ≡ length old = omega arith in z))
-
-pub cleared-off : {b : Bool} (old : List ℕ) → b ≡ false → old ≡ clearedIf b old
-unfolding clearedIf
-cleared-off old t = rw t refl
-
--- a trace that is cleared is as it came
+-- a trace that is put back is as it came
 as-it-came : (b : Bool) {came ran left : List ℕ} → (b ≡ false → ran ≡ came) → (b ≡ true → came ≡ replicate mostTraceBytes 0) → length ran ≡ length came
-    → left ≡ clearedIf b ran → left ≡ came
-unfolding clearedIf
-as-it-came true {came} f g l e =
-    e ∙ ap (λ (n : ℕ). replicate {A = ℕ} n 0) (l ∙ ap length (g refl) ∙ length-replicate {A = ℕ} mostTraceBytes 0) ∙ sym (g refl)
+    → left ≡ laidIf (dropsTrace b true) [] ran → left ≡ came
+as-it-came true {came} {ran} f g l e =
+    let n : length ran - 0 ≡ mostTraceBytes = omega (arith, l, ap length (g refl) ∙ length-replicate {A = ℕ} mostTraceBytes 0) in
+    e ∙ ap (λ (k : ℕ). replicate {A = ℕ} k 0) n ∙ sym (g refl)
 as-it-came false f g l e = e ∙ f refl
+
+kept-trace : (b : Bool) {ran left : List ℕ} → left ≡ laidIf (dropsTrace b false) [] ran → left ≡ ran
+kept-trace true e = e
+kept-trace false e = e
 
 module _ {run : Run} {old : Left} (y : Started run old) where
   abbrev t : List ℕ
   t = run .sent .line
 
-  pub state-fits : length (run .state) ≤ length (old .state)
-  state-fits = omega (arith, state-length (y .state), y .after)
-
-  pub state-fits-in : {n : ℕ} → n ≡ length (old .state) → length (run .state) ≤ n
-  state-fits-in e = omega (arith, state-fits, e)
+  pub back-fits : {n : ℕ} → n ≡ length (old .state) → length (run .state) ≤ n
+  back-fits e = omega (arith, ap length (y .same), e)
 
   pub line-fits : {n : ℕ} → n ≡ length (old .text) → length t ≤ n
   line-fits e = omega (arith, y .short, y .text, e)
 
-  same-state : {z₁ : List ℕ} → z₁ ≡ padded (run .state) (length (old .state)) → z₁ ≡ run .state
-  same-state e = padded-whole (run .state) (length (old .state)) (state-length (y .state) ∙ sym (y .after)) e
-
   whole-line : {tx₁ : List ℕ} → tx₁ ≡ padded t (length (old .text)) → tx₁ ≡ padded t mostLineBytes
   whole-line e = e ∙ ap (padded t) (y .text)
 
-  module _ {z₁ tx₁ : List ℕ} (e : z₁ ≡ padded (run .state) (length (old .state))) (f : tx₁ ≡ padded t (length (old .text))) where
+  module _ {tx₁ : List ℕ} (f : tx₁ ≡ padded t (length (old .text))) where
     front : take (length t) tx₁ ≡ t
     front = padded-front t mostLineBytes (length t) refl (whole-line f)
 
-    pub begun : FromStart (run .table) (run .count) (record { state = z₁; text = tx₁; trace = old .trace }) (length t) (run .traced)
+    -- the memories before the passes
+    abbrev first : Left
+    first = record { state = old .state; text = tx₁; trace = old .trace }
+
+    pub begun : FromStart (run .table) (run .count) first (length t) (run .traced)
     begun =
         record {
           table = y .table;
-          state = subst IsState (sym (same-state e)) (y .state);
+          state = subst IsState (sym (y .same)) (y .state);
           text = padded-size t mostLineBytes (y .short) (whole-line f);
           laid = whole-line f ∙ ap (λ (s : List ℕ). padded s mostLineBytes) (sym front);
           size = y .short;
           bytes = subst Bytes (sym front) (y .bytes);
-          flag = λ st hs. y .flag st (subst (λ (j : List ℕ). Holds j st) (same-state e) hs);
+          flag = λ st hs. y .flag st (subst (λ (j : List ℕ). Holds j st) (y .same) hs);
           trace = y .trace;
         }
 
-    module _ {left : Left} (r : Ended) (x : RunsTo (runOf (run .table) (run .count) (record { state = z₁; text = tx₁; trace = old .trace }) (length t) (run .sent .budget) (run .traced)) (record { state = z₁; text = tx₁; trace = old .trace }) left r) where
-      ran : RunsTo run old left r
-      ran =
-          record {
-            comes = λ ms h l st hb.
-                subst (λ (j : List ℕ). Comes (run .traced) (historyOf ms st (record { line = j; budget = run .sent .budget })) left r) front
-                (x .comes ms h l st (subst (λ (j : List ℕ). Holds j st) (sym (same-state e)) hb));
-            lies = x .lies;
-            untraced = x .untraced;
-          }
+    abbrev ranTo : Left → Ended → Type 0
+    ranTo left r = RunsTo (runOf (run .table) (run .count) first (length t) (run .sent .budget) (run .traced)) first left r
 
-    pub runs-over : {left : Left} (r : Ended) → RunsTo (runOf (run .table) (run .count) (record { state = z₁; text = tx₁; trace = old .trace }) (length t) (run .sent .budget) (run .traced)) (record { state = z₁; text = tx₁; trace = old .trace }) left r → isRefused r ≡ false
-        → Runs run old left r
-    runs-over (Done n o p) x g = record { runs = ran (Done n o p) x; back = tt }
-    runs-over (Control n p) x g = record { runs = ran (Control n p) x; back = tt }
-    runs-over (Refused w p) x g = absurd (false≢true (sym g))
-
-    -- all memories as they came
-    pub runs-back : {left left₂ : Left} (r : Ended) → RunsTo (runOf (run .table) (run .count) (record { state = z₁; text = tx₁; trace = old .trace }) (length t) (run .sent .budget) (run .traced)) (record { state = z₁; text = tx₁; trace = old .trace }) left r → isRefused r ≡ true
-        → length (left .state) ≡ length (old .state) → left₂ .state ≡ padded (run .state) (length (left .state)) → length (left .text) ≡ length (old .text)
-        → left₂ .text ≡ padded t (length (left .text)) → length (left .trace) ≡ length (old .trace) → left₂ .trace ≡ clearedIf (run .traced) (left .trace)
-        → Runs run old left₂ r
-    runs-back (Done n o p) x g i j k l v u = absurd (false≢true g)
-    runs-back (Control n p) x g i j k l v u = absurd (false≢true g)
-    runs-back (Refused w p) x g i j k l v u =
-        let same = as-it-came (run .traced) (x .untraced) (y .trace) v u in
+    ran : {left : Left} (r : Ended) → ranTo left r → RunsTo run old left r
+    ran {left} r x =
         record {
-          runs = record { comes = ran (Refused w p) x .comes; lies = tt; untraced = λ n. same };
-          back = record { state = same-state (j ∙ ap (padded (run .state)) i); line = whole-line (l ∙ ap (padded t) k); trace = same };
+          comes = λ ms h l st hb.
+              subst (λ (j : List ℕ). Comes (run .traced) (historyOf ms st (record { line = j; budget = run .sent .budget })) left r) front
+              (x .comes ms h l st (subst (λ (j : List ℕ). Holds j st) (sym (y .same)) hb));
+          lies = x .lies;
+          untraced = x .untraced;
         }
+
+    module _ {z tx tr z₂ tx₂ tr₂ : List ℕ} where
+      -- as the passes left them
+      kept : (r : Ended) → ranTo (record { state = z; text = tx; trace = tr }) r → z₂ ≡ z → tx₂ ≡ tx → tr₂ ≡ tr → RunsTo run old (record { state = z₂; text = tx₂; trace = tr₂ }) r
+      kept r x a b c = rw (a, b, c) (ran r x)
+
+      pub runs-end : (r : Ended) → ranTo (record { state = z; text = tx; trace = tr }) r → {q : Bool} → q ≡ isRefused r → {d : Bool} → d ≡ dropsTrace (run .traced) q
+          → length z ≡ length (old .state) → length tx ≡ length (old .text) → length tr ≡ length (old .trace)
+          → z₂ ≡ laidIf q (run .state) z → tx₂ ≡ laidIf q t tx → tr₂ ≡ laidIf d [] tr → Runs run old (record { state = z₂; text = tx₂; trace = tr₂ }) r
+      runs-end (Done n o p) x e f i k v a b c =
+          record { runs = kept (Done n o p) x (rw e at a) (rw e at b) (kept-trace (run .traced) (rw (f, e) at c)); back = tt }
+      runs-end (Control n p) x e f i k v a b c =
+          record { runs = kept (Control n p) x (rw e at a) (rw e at b) (kept-trace (run .traced) (rw (f, e) at c)); back = tt }
+      runs-end (Refused w p) x e f i k v a b c =
+          let a₂ : z₂ ≡ padded (run .state) (length z) = rw e at a in
+          let b₂ : tx₂ ≡ padded t (length tx) = rw e at b in
+          let c₂ : tr₂ ≡ laidIf (dropsTrace (run .traced) true) [] tr = rw (f, e) at c in
+          let same = as-it-came (run .traced) (x .untraced) (y .trace) v c₂ in
+          record {
+            runs = record { comes = ran (Refused w p) x .comes; lies = tt; untraced = λ n. same };
+            back = record { state = padded-whole (run .state) (length z) (ap length (sym (y .same)) ∙ sym i) a₂; line = whole-line (b₂ ∙ ap (padded t) k); trace = same };
+          }

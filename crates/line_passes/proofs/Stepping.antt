@@ -19,31 +19,28 @@ use Rattle.lines.specs.Line.{passOf, isControl}
 use Rattle.form_state.specs.Access.{IsState}
 use Rattle.pass_replace.specs.Contract.{IsSlot}
 use Rattle.pass_one.specs.Contract.{sizeOf}
-use Rattle.pass_one.specs.Lacking.{flagsOf}
-use Rattle.pass_one.proofs.LackLaws.{flags-size}
+use Rattle.pass_lack.specs.Lacking.{flagsOf}
+use Rattle.pass_lack.proofs.LackLaws.{flags-size}
 use Rattle.refusals.specs.declared.WorkFault.{WorkFault}
 use Rattle.pass_moment.specs.declared.Passed.{Passed}
 use Rattle.pass_moment.specs.declared.Passed.the-variants.{Over as Passing, Refused as Refuses}
 use Rattle.line_memory.specs.Memory.{IsTable, padded}
 use Rattle.line_memory.proofs.Copying.{padded-front, padded-size}
 use Rattle.line_memory.proofs.Slotting.{SlotAt, slot-at, table-size}
-use Rattle.line_trace.specs.Tracing.{TracesIf, Traces}
-use Rattle.line_trace.specs.Tracing.{Lent as TraceLent}
-use Rattle.line_trace.proofs.Laws.{puts-behind}
-use Rattle.line_trace.specs.declared.Traced.{Traced}
-use Rattle.line_trace.specs.declared.Traced.the-variants.{Fits, TooLong}
 use Rattle.line_passes.specs.Contract.{LineLeft}
-use Rattle.line_passes.specs.Flags.{Begun, begunFlags, closedFlags, OpenBelow}
-use Rattle.line_passes.specs.Beginning.{Tried, PassLent, PassComes, PassRuns}
-use Rattle.line_passes.specs.Passing.{OverBy, DueBy, Dues, Given, Memories, Onward, Open, Ready, leftOf, Texts, linesHere, Again, Cut, Followed, Follows, GoesOn, Steps, Ends}
-use Rattle.line_passes.specs.declared.Why.the-variants.{BudgetUsedUp, AtWork, TraceTooLong}
-use Rattle.line_passes.specs.declared.Stand.{Stand}
-use Rattle.line_passes.specs.declared.Ended.{Ended}
-use Rattle.line_passes.specs.declared.Ended.the-variants.{Done, Control, Refused}
-use Rattle.line_passes.specs.declared.Due.{Due}
-use Rattle.line_passes.specs.declared.Due.the-variants.{Over as Ending, Pass as PassOf}
-use Rattle.line_passes.specs.declared.Next.{Next}
-use Rattle.line_passes.specs.declared.Next.the-variants.{On, Over}
+use Rattle.line_begin.specs.Flags.{Begun, begunFlags}
+use Rattle.line_stand.specs.Closed.{closedFlags, OpenBelow}
+use Rattle.line_begin.specs.Beginning.{Tried, PassLent, PassComes, PassRuns}
+use Rattle.line_stand.specs.Standing.{OverBy, DueBy, Dues, Open, Texts, linesHere, Again, Cut, Followed, Follows}
+use Rattle.line_passes.specs.Passing.{Given, Memories, Onward, Ready, leftOf, GoesOn, Steps, Ends}
+use Rattle.line_stand.specs.declared.Why.the-variants.{BudgetUsedUp, AtWork}
+use Rattle.line_stand.specs.declared.Stand.{Stand}
+use Rattle.line_stand.specs.declared.Ended.{Ended}
+use Rattle.line_stand.specs.declared.Ended.the-variants.{Done, Control, Refused}
+use Rattle.line_stand.specs.declared.Due.{Due}
+use Rattle.line_stand.specs.declared.Due.the-variants.{Over as Ending, Pass as PassOf}
+use Rattle.line_stand.specs.declared.Next.{Next}
+use Rattle.line_stand.specs.declared.Next.the-variants.{On, Over}
 use Rattle.line_passes.proofs.Closing.{begun-more, begun-closed}
 use Rattle.line_passes.proofs.Running.{new-bytes, at-control, at-done, at-used, pass-refused, pass-cut, pass-none, pass-some}
 
@@ -337,100 +334,6 @@ module _ {g : Given} {m : Memories} {a : Stand} (y : Ready g m a) where
                 → Steps g m (record { state = b′; text = after-it .text; new = nw′; present = after-it .present; flags = after-it .flags; trace = after-it .trace }) a e
             by (inl q) = step-some p refl w refl q u v
             by (inr q) = step-cut p refl w refl q _
-
--- WHAT IS DUE
-
-top-opened : {fl : List ℕ} {k top : ℕ} → 1 ≤ top → OpenBelow fl k top → OpenBelow fl k (suc (top - 1))
-top-opened {fl} {k} {top} g o = subst (OpenBelow fl k) (let z : top ≡ suc (top - 1) = omega arith in z) o
-
-module _ {t fl : List ℕ} {budget : ℕ} {a : Stand} {c : Bool} (e : c ≡ isControl t) where
-  pub due-control : c ≡ true → Dues t fl budget a (Ending (Control (a .size) (a .begun)))
-  due-control f = record { by = (sym e ∙ f, refl) }
-
-  module _ (f : c ≡ false) {top : ℕ} (o : OpenBelow fl (a .due) top) where
-    pub due-none : top < 1 → Dues t fl budget a (Ending (Done (a .size) (a .occurred) (a .begun)))
-    due-none g = let z : top ≡ 0 = omega arith in record { by = (sym e ∙ f, subst (OpenBelow fl (a .due)) z o, refl) }
-
-    module _ (g : 1 ≤ top) where
-      pub due-used : budget ≤ a .begun → Dues t fl budget a (Ending (Refused BudgetUsedUp (a .begun)))
-      due-used h = record { by = (sym e ∙ f, (top - 1, top-opened g o), h, refl) }
-
-      pub due-pass : a .begun < budget → Dues t fl budget a (PassOf (top - 1))
-      due-pass h = record { by = (sym e ∙ f, top-opened g o, h) }
-
--- WHAT FOLLOWS A PASS
-
-module _ {tb : List ℕ} {m : Texts} {nw : List ℕ} {traced : Bool} {n : ℕ} {on : Stand} (y : Followed tb m nw traced n on) where
-  pub new-fits : n ≤ length nw
-  new-fits = omega (arith, y .within, y .new)
-
-  pub old-fits : on .size ≤ length (m .text)
-  old-fits = omega (arith, y .size, y .text)
-
-  pub line-fits : length (take n nw) ≤ length (m .text)
-  line-fits = omega (arith, length-take-le n nw new-fits, y .within, y .text)
-
-  pub trace-lent : TraceLent traced (m .trace) (on .written) (take (on .size) (m .text)) (on .due + 1) (take n nw)
-  trace-lent =
-      record {
-        few = omega (arith, y .few);
-        short = omega (arith, length-take-le (on .size) (m .text) old-fits, y .size);
-        fits = omega (arith, length-take-le n nw new-fits, y .within);
-        inside = λ asked. omega (arith, y .trace asked .inside, y .trace asked .size);
-      }
-
-  module _ {trace′ : List ℕ} {r : Traced} (x : Traces traced (m .trace) (on .written) (take (on .size) (m .text)) (on .due + 1) (take n nw) trace′ r) where
-    -- a trace is asked for, since the lines do not fit
-    asked : r ≡ TooLong → traced ≡ true
-    asked e = go traced (rw e at (x .by))
-      where
-        go : (b : Bool) → TracesIf b (m .trace) (on .written) (linesHere m nw n on) trace′ TooLong → b ≡ true
-        go true h = refl
-        go false h = absurd (let f = h .next in let z : _≡_ {A = ℕ} 0 1 = cc in omega arith)
-
-    pub after-cut : r ≡ TooLong → {count : ℕ} {m′ : Texts} → Follows tb count m m′ nw traced (Passing true n) on (Over (Refused TraceTooLong (on .begun)))
-    after-cut e =
-        let t = asked e in
-        let b : TracesIf true (m .trace) (on .written) (linesHere m nw n on) trace′ TooLong = rw (e, t) at (x .by) in
-        record { by = inr (record { asked = t; next = refl; full = omega (arith, b .0, y .trace t .size) }) }
-
-    pub after-fits : {w : ℕ} → r ≡ Fits w → {count : ℕ} {tx′ fl′ : List ℕ} → tx′ ≡ padded (take n nw) (length (m .text)) → {pr′ : List ℕ} → pr′ ≡ flagsOf (take n nw) → fl′ ≡ closedFlags (m .flags) (getD tb (1024 * on .due) 0) (on .due)
-        → Follows tb count m (record { text = tx′; present = pr′; flags = fl′; trace = trace′ }) nw traced (Passing true n) on (On (record { size = n; occurred = true; due = count; begun = on .begun; written = w }))
-    after-fits {w} e {count} {tx′} {fl′} d x₂ f =
-        record {
-          by = inl (record {
-            written = w;
-            next = refl;
-            line = d;
-            present = x₂;
-            closed = f;
-            traces = λ t.
-                let b : TracesIf true (m .trace) (on .written) (linesHere m nw n on) trace′ (Fits w) = rw (e, t) at (x .by) in
-                let o = y .trace t in
-                let z : m .trace ≡ padded (take (on .written) (m .trace)) (length (m .trace)) = o .zeros ∙ ap (padded (take (on .written) (m .trace))) (sym (o .size)) in (
-                  b .next,
-                  omega (arith, b .next, b .room, o .size),
-                  puts-behind b (take (on .written) (m .trace)) (length-take-le (on .written) (m .trace) (omega (arith, o .inside, o .size))) z ∙ ap (padded (take (on .written) (m .trace) ++ linesHere m nw n on)) (o .size),
-                );
-            untraced = λ t.
-                let b : TracesIf false (m .trace) (on .written) (linesHere m nw n on) trace′ (Fits w) = rw (e, t) at (x .by) in
-                (b .same, let q = b .next in let k : w ≡ on .written = cc in k);
-          });
-        }
-
-module _ {tb : List ℕ} {count : ℕ} {m : Texts} {nw : List ℕ} {traced : Bool} {r : Passed} {on : Stand} where
-  pub after-refused : {x : WorkFault} {n : ℕ} → r ≡ Refuses x n → Follows tb count m m nw traced r on (Over (Refused (AtWork x) (on .begun)))
-  after-refused e = rw e (record { by = record { next = refl; same = refl } })
-
-  module _ {o : Bool} {n : ℕ} (e : r ≡ Passing o n) where
-    pub after-none : o ≡ false → Follows tb count m m nw traced r on (On on)
-    after-none f = rw (e, f) (record { by = record { next = refl; same = refl } })
-
-    pub after-some : o ≡ true → {m′ : Texts} {z : Next} → Follows tb count m m′ nw traced (Passing true n) on z → Follows tb count m m′ nw traced r on z
-    after-some f x = rw (e, f) x
-
-pub sized-some : {tb : List ℕ} {m : Texts} {nw : List ℕ} {traced : Bool} {r : Passed} {on : Stand} {o : Bool} {n : ℕ} → r ≡ Passing o n → Followed tb m nw traced (sizeOf r) on → Followed tb m nw traced n on
-sized-some e y = rw e at y
 
 -- THE LOOP
 

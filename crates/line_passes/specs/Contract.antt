@@ -13,14 +13,13 @@ use Rattle.lines.specs.State.{State}
 use Rattle.lines.specs.Line.{Sent, Line, passesOf, hadOccurrence, ending}
 use Rattle.lines.specs.Line.Ending.{refused, done, control}
 use Rattle.lines.specs.Trace.{traceOf, isOn, historyOf}
-use Rattle.form_state.specs.Form.{stateBytes}
 use Rattle.form_state.specs.Access.{Holds, IsState, OfState}
 use Rattle.refusals.specs.Faults.{refusalOf as workOf}
 use Rattle.line_memory.specs.Memory.{IsTable, Counted, padded}
-use Rattle.line_passes.specs.declared.Why.{Why}
-use Rattle.line_passes.specs.declared.Why.the-variants.{BudgetUsedUp, AtWork, TraceTooLong}
-use Rattle.line_passes.specs.declared.Ended.{Ended}
-use Rattle.line_passes.specs.declared.Ended.the-variants.{Done, Control, Refused}
+use Rattle.line_stand.specs.declared.Why.{Why}
+use Rattle.line_stand.specs.declared.Why.the-variants.{BudgetUsedUp, AtWork, TraceTooLong}
+use Rattle.line_stand.specs.declared.Ended.{Ended}
+use Rattle.line_stand.specs.declared.Ended.the-variants.{Done, Control, Refused}
 
 -- 01's refusal for each reason
 abbrev pub refusalOf : Why → WorkRefusal
@@ -42,13 +41,13 @@ pub record Left : Type 0 where
   pub text : List ℕ
   pub trace : List ℕ
 
--- what the caller lends: a table of so many macros, a state, a line that 21 and 22 do not refuse, and room for the state and the text after it
+-- what the caller lends: a table of so many macros, a state and the same again to work on, a line that 21 and 22 do not refuse, and room for the text
 pub record Started (run : Run) (old : Left) : Type 0 where
   pub table : Counted (run .table) (run .count)
   pub state : IsState (run .state)
   pub short : length (run .sent .line) ≤ mostLineBytes
   pub bytes : Bytes (run .sent .line)
-  pub after : length (old .state) ≡ stateBytes
+  pub same : old .state ≡ run .state
   pub text : length (old .text) ≡ mostLineBytes
   -- it is traced by the state's flag, and the trace's memory is zero then
   pub flag : OfState (run .state) (λ st. run .traced ≡ isOn (st .trace))

@@ -1,4 +1,3 @@
 pub mod Contract
-pub mod Flags
-pub mod Beginning
+pub mod Due
 pub mod Passing

@@ -1,52 +1,18 @@
 // The passes of a line, from its start to its end (01, part 6).
-mod beginning;
 mod passes;
-mod slots;
 
 use kinds::kind_table;
 use line_memory::lay_out;
-use pass_one::lacking::note;
+use line_memory::lay_out_if;
+use line_stand::Ended;
+use line_stand::Stand;
+use pass_lack::note;
 use passes::all_passes;
-use refusals::WorkFault;
 ghost use mathlib.Core.Path.{_≡_};
 ghost use Rattle.line_passes.specs.Contract.{Started, Runs, RunsTo};
-ghost use Rattle.line_passes.specs.Passing.{FromStart, runOf, isRefused, clearedIf};
+ghost use Rattle.line_passes.specs.Passing.{FromStart, runOf, isRefused, dropsTrace};
 
-// Why the table at work refuses a line: 31, a pass's fault, or 36.
-pub enum Why {
-    BudgetUsedUp,
-    AtWork(WorkFault),
-    TraceTooLong,
-}
-
-// How a line ends: done, with its length and whether it had an occurrence; a control line, with its length; or refused. Last the passes begun.
-pub enum Ended {
-    Done(usize, bool, usize),
-    Control(usize, usize),
-    Refused(Why, usize),
-}
-
-// Where a line stands, before a pass or at its end: its length, whether it had an occurrence, how many of the oldest macros may be due, the passes begun, and the bytes of the trace.
-pub(crate) struct Stand {
-    pub(crate) size: usize,
-    pub(crate) occurred: bool,
-    pub(crate) due: usize,
-    pub(crate) begun: usize,
-    pub(crate) written: usize,
-}
-
-// What is due where a line stands: its end, or the pass of the macro with this number.
-pub(crate) enum Due {
-    Over(Ended),
-    Pass(usize),
-}
-
-// After a pass, or instead of it.
-pub(crate) enum Next {
-    On(Stand),
-    Over(Ended),
-}
-
+// Whether a line is refused.
 fn is_refused(ended: Ended) -> bool
     ensures { λ r. ⌜ r ≡ isRefused ended ⌝ }
 {
@@ -99,39 +65,37 @@ fn from_start(
     )
 }
 
-// The trace of a refused line goes: its memory was zero.
-fn clear_trace(trace: &mut [u8], traced: bool)
-    ensures { λ _. ⌜ now (trace .exit) ≡ clearedIf traced (now (trace .entry)) ⌝ }
+// Whether a trace was begun that goes again, as its line is refused.
+fn drops_trace(traced: bool, refused: bool) -> bool
+    ensures { λ r. ⌜ r ≡ dropsTrace traced refused ⌝ }
 {
     if traced {
-        lay_out(trace, b"");
+        return refused;
     }
+    false
 }
 
-// Runs the passes of a line: `after` and `text` are the state and the line at its end, `trace` its trace, if it is traced; of a refused line
-// all three are as they came.
+// Runs the passes of a line on the lent state, which stands in `before` too: `state` and `text` are the state and the line at its end, `trace`
+// its trace, if it is traced; of a refused line all three are put back as they came.
 pub fn run_line(
     table: &[u8],
     count: usize,
-    state: &[u8],
+    before: &[u8],
     line: &[u8],
     budget: usize,
-    after: &mut [u8],
+    state: &mut [u8],
     text: &mut [u8],
     trace: &mut [u8],
     traced: bool,
 ) -> Ended
-    requires { ⌜ Started (record { table = now table; count = count; state = now state; sent = record { line = now line; budget = budget }; traced = traced }) (record { state = now after; text = now text; trace = now trace }) ⌝ }
-    ensures { λ r. ⌜ Runs (record { table = now (table .entry); count = count; state = now (state .entry); sent = record { line = now (line .entry); budget = budget }; traced = traced }) (record { state = now (after .entry); text = now (text .entry); trace = now (trace .entry) }) (record { state = now (after .exit); text = now (text .exit); trace = now (trace .exit) }) r ⌝ }
+    requires { ⌜ Started (record { table = now table; count = count; state = now before; sent = record { line = now line; budget = budget }; traced = traced }) (record { state = now state; text = now text; trace = now trace }) ⌝ }
+    ensures { λ r. ⌜ Runs (record { table = now (table .entry); count = count; state = now (before .entry); sent = record { line = now (line .entry); budget = budget }; traced = traced }) (record { state = now (state .entry); text = now (text .entry); trace = now (trace .entry) }) (record { state = now (state .exit); text = now (text .exit); trace = now (trace .exit) }) r ⌝ }
 {
-    lay_out(after, state);
     lay_out(text, line);
-    let ended = from_start(table, count, after, text, trace, traced, line.len(), budget);
-    if is_refused(ended) {
-        lay_out(after, state);
-        lay_out(text, line);
-        clear_trace(trace, traced);
-        return ended;
-    }
+    let ended = from_start(table, count, state, text, trace, traced, line.len(), budget);
+    let refused = is_refused(ended);
+    lay_out_if(state, before, refused);
+    lay_out_if(text, line, refused);
+    lay_out_if(trace, b"", drops_trace(traced, refused));
     ended
 }

@@ -1,1 +1,2 @@
 pub mod BadBytes
+pub mod Firsts

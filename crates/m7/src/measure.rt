@@ -1,8 +1,8 @@
 // Measuring a macro file (02, N8).
 use crate::write::writing_number;
-use line_answer::file_number;
 use plans::Plan;
 use read_plan::Numbers;
+use read_scan::file_number;
 ghost use mathlib.Core.Path.{_≡_};
 ghost use Prim.Native.Nat.{_≤_};
 ghost use Rattle.macros.specs.Bounds.{mostFileBytes};

@@ -24,11 +24,12 @@ use Rattle.form_state.proofs.Decode.{one-state-form}
 use Rattle.form_state.proofs.Replaced.{replaced-whole, text-more, text-end}
 use Rattle.pass_marks.specs.Marks.{cleared}
 use Rattle.pass_marks.proofs.MarkLaws.{cleared-zero, cleared-rest}
-use Rattle.pass_one.specs.Marks.{Sound}
-use Rattle.pass_one.specs.Finding.{FormedUnits, IsPattern, Agree}
-use Rattle.pass_one.specs.Seen.{Pairs, NoCall, LetterIn, SameAt, Alike, Seen, Renewed}
+use Rattle.pass_one.specs.Marks.{Sound, Agree}
+use Rattle.pass_unit.specs.Pattern.{FormedUnits, IsPattern}
+use Rattle.pass_lack.specs.Twos.{Pairs, LetterIn}
+use Rattle.pass_one.specs.Seen.{NoCall, SameAt, Alike, Seen, Renewed}
 use Rattle.pass_one.proofs.MarkLaws.{sound-zero, sound-agree}
-use Rattle.pass_one.proofs.PairLaws.{pairs-map, pairs-both}
+use Rattle.pass_lack.proofs.PairLaws.{pairs-map, pairs-both}
 
 -- ITEMS OF PIECES
 

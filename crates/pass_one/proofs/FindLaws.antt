@@ -7,7 +7,7 @@ use mathlib.Core.Option.{Option, none, some}
 use Prim.Native.Nat.{ℕ, _≤_, _<_}
 use native.Mathlib.Omega.{arith}
 use native.Mathlib.Decide.{ℕ-discrete}
-use borrow.Author.Tests.{eq-eqb, ne-eqb, le-leb, ltb-true, not-true}
+use borrow.Author.Tests.{eqb-true, eq-eqb, ne-eqb, le-leb, ltb-true, ltb-false, not-true}
 use lib.Dec.{eqb, leb, ltb}
 use lib.ListN.{length, getD, drop}
 use Rattle.macros.specs.Bounds.{mostLineBytes}
@@ -21,13 +21,15 @@ use Rattle.lines.specs.State.{State}
 use Rattle.lines.specs.Matching.{Division, span, byteFits, fits, width, endOf, stops}
 use Rattle.lines.specs.Choosing.{Rest, repeated, chosen}
 use Rattle.lines.specs.Pass.{barred, unlessBarred, counting, match}
+use Rattle.lines.proofs.KeepTests.{by-pick}
 use Rattle.lines.proofs.MoreLaws.{stopsOf}
 use Rattle.form_state.specs.Access.{Holds}
 use Rattle.pass_moment.specs.Moments.{pastPlaces}
-use Rattle.pass_one.specs.Pattern.{IsPattern, IsRest}
+use Rattle.pass_lack.specs.Lacking.{differsIn}
+use Rattle.pass_unit.specs.Pattern.{IsPattern, IsRest}
 use Rattle.pass_one.specs.Finding.{Ready, pickLast, lastOf, FoundAt, countedOf, Differs, LastPlace, Finds}
 use Rattle.pass_one.specs.Trying.{answer, lastStop, Said, Trying, Tried}
-use Rattle.pass_one.proofs.TextLaws.{byte-here, byte-past}
+use Rattle.pass_unit.proofs.TextLaws.{byte-here, byte-past}
 use Rattle.pass_one.specs.declared.Found.{Found}
 use Rattle.pass_one.specs.declared.Found.the-variants.{Matched, NoMatch}
 
@@ -178,14 +180,14 @@ first-literal items t p lo hi f st (end ∷ es) i = absurd (let z = ap (λ (x : 
 first-literal items t p lo hi f st (left ∷ es) i = absurd (let z = ap (λ (x : List ℕ). getD x 0 0) i in omega arith)
 first-literal items t p lo hi f st (right ∷ es) i = absurd (let z = ap (λ (x : List ℕ). getD x 0 0) i in omega arith)
 
-pub differs-not : (items t : List ℕ) (p : ℕ) → Differs items t p false
+differs-not : (items t : List ℕ) (p : ℕ) → Differs items t p false
 differs-not items t p = record { none-here = λ e. absurd (false≢true e) }
 
 module _ (items t : List ℕ) (p : ℕ) (lo : 8 ≤ getD items 0 0) (hi : getD items 0 0 ≤ 9) where
-  pub differs-past : length t ≤ p → Differs items t p true
+  differs-past : length t ≤ p → Differs items t p true
   differs-past l = record { none-here = λ e es i st. first-literal items t p lo hi (byte-past t p (eqb (getD items 1 0)) l) st es (i .form) }
 
-  pub differs-byte : p < length t → Differs items t p (not (eqb (getD items 1 0) (getD t p 0)))
+  differs-byte : p < length t → Differs items t p (not (eqb (getD items 1 0) (getD t p 0)))
   differs-byte l = record { none-here = λ e es i st. first-literal items t p lo hi (byte-here t p (eqb (getD items 1 0)) l ∙ not-true (eqb (getD items 1 0) (getD t p 0)) e) st es (i .form) }
 
 -- `^` FIRST
@@ -204,8 +206,24 @@ first-start items s p f l st (end ∷ es) i = absurd (let z = ap (λ (x : List �
 first-start items s p f l st (left ∷ es) i = absurd (let z = ap (λ (x : List ℕ). getD x 0 0) i in omega arith)
 first-start items s p f l st (right ∷ es) i = absurd (let z = ap (λ (x : List ℕ). getD x 0 0) i in omega arith)
 
-pub differs-start : (items t : List ℕ) (p : ℕ) → getD items 0 0 ≡ 3 → Differs items t p (ltb 0 p)
+differs-start : (items t : List ℕ) (p : ℕ) → getD items 0 0 ≡ 3 → Differs items t p (ltb 0 p)
 differs-start items t p f = record { none-here = λ e es i st. first-start items (drop p t) p f (ltb-true 0 p e) st es (i .form) }
+
+pub differs-is : (items t : List ℕ) (p : ℕ) {x : Bool} → x ≡ differsIn items t p → Differs items t p x
+unfolding differsIn
+differs-is items t p e =
+    subst (Differs items t p) (sym e)
+    (by-pick (Differs items t p) (ltb (length items) 2) _ _ (λ f. differs-not items t p)
+    (λ f.
+    by-pick (Differs items t p) (eqb (getD items 0 0) 3) _ _ (λ g. differs-start items t p (eqb-true (getD items 0 0) 3 g))
+    (λ g.
+    by-pick (Differs items t p) (ltb (getD items 0 0) 8) _ _ (λ h. differs-not items t p)
+    (λ h.
+    by-pick (Differs items t p) (ltb 9 (getD items 0 0)) _ _ (λ k. differs-not items t p)
+    (λ k.
+    by-pick (Differs items t p) (ltb p (length t)) _ _
+    (λ l. differs-byte items t p (ltb-false (getD items 0 0) 8 h) (ltb-false 9 (getD items 0 0) k) (ltb-true p (length t) l))
+    (λ l. differs-past items t p (ltb-false (getD items 0 0) 8 h) (ltb-false 9 (getD items 0 0) k) (ltb-false p (length t) l)))))))
 
 pub last-all : (items t : List ℕ) → LastPlace items t (length t)
 last-all items t = record { inside = omega arith; none-past = λ es i st p h l. absurd (omega arith) }

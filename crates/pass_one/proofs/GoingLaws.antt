@@ -15,7 +15,8 @@ use Rattle.lines.specs.Choosing.{chosen}
 use Rattle.lines.specs.Replacing.{Work, startIn}
 use Rattle.lines.specs.Pass.{match, counting, pass}
 use Rattle.form_state.specs.Access.{Holds}
-use Rattle.pass_replace.specs.Contract.{IsSlot, IsMoment}
+use Rattle.pass_replace.specs.Contract.{IsSlot}
+use Rattle.pass_steps.specs.Moments.{IsMoment}
 use Rattle.pass_replace.proofs.Preparing.{zeros}
 use Rattle.pass_moment.specs.declared.Passed.{Passed}
 use Rattle.pass_moment.specs.declared.Passed.the-variants.{Over}
@@ -24,19 +25,20 @@ use Rattle.pass_one.specs.declared.Found.the-variants.{Matched, NoMatch}
 use Rattle.pass_one.specs.declared.walking.First.{First}
 use Rattle.pass_one.specs.declared.walking.First.the-variants.{At, Nowhere}
 use Rattle.pass_moment.specs.declared.Moment.{Moment}
-use Rattle.pass_one.specs.Contract.{rowsBytes, Lent, HeldBy, Passes, sizeOf}
+use Rattle.pass_one.specs.Marks.{rowsBytes, Sound}
+use Rattle.pass_one.specs.Contract.{Lent, HeldBy, Passes, sizeOf}
 use Rattle.pass_moment.specs.declared.Refusal.{Refusal}
 use Rattle.pass_moment.specs.declared.Refusal.the-variants.{NotRefused, RefusedBy}
-use Rattle.pass_one.specs.Lacking.{flagsOf, SomeAbsent}
-use Rattle.pass_one.specs.Marks.{Sound}
-use Rattle.pass_one.specs.Finding.{IsPattern, Ready, Differs, LastPlace, Finds}
+use Rattle.pass_lack.specs.Lacking.{differsIn, flagsOf, SomeAbsent}
+use Rattle.pass_unit.specs.Pattern.{IsPattern}
+use Rattle.pass_one.specs.Finding.{Ready, LastPlace, Finds}
 use Rattle.pass_one.specs.Trying.{Tried}
 use Rattle.pass_one.specs.Seen.{Seen}
 use Rattle.pass_moment.specs.Moments.{pastPlaces, startAt, Starts, StepsOver, answerOf, passedOf}
 use Rattle.pass_one.specs.Places.{matchAt, ItemsOf, ToTry, AtPlace, Makes, Goes, GoesBy, NoneBelow, Searches, Walking, Origin, Came, Reached, Going}
 use Rattle.pass_one.proofs.MarkLaws.{sound-zero}
-use Rattle.pass_one.proofs.LackLaws.{absent-none}
-use Rattle.pass_one.proofs.FindLaws.{find-first, tried-none}
+use Rattle.pass_lack.proofs.LackLaws.{absent-none}
+use Rattle.pass_one.proofs.FindLaws.{differs-is, find-first, tried-none}
 use Rattle.pass_one.proofs.MomentLaws.{below-or, pass-starts, pass-none, pass-goes-on}
 use Rattle.pass_one.proofs.PlaceLaws.{drop-on, finds-none, goes-free, makes}
 
@@ -128,8 +130,8 @@ module _ (s items kinds t : List ℕ) (h : Origin) (y : Came s items kinds t h) 
           }
 
       -- no match begins here
-      pub skipped : (x : Bool) → Differs items t (a .place) x → x ≡ true → GoesBy s items t b b out out marks marks seen ends a a
-      skipped x d e = goes-free s items kinds t b out marks ends a trying seen (g .sees) NoMatch marks ends (finds-none s items kinds t b out marks ends a trying x d e) refl
+      pub skipped : (x : Bool) → x ≡ differsIn items t (a .place) → x ≡ true → GoesBy s items t b b out out marks marks seen ends a a
+      skipped x d e = goes-free s items kinds t b out marks ends a trying seen (g .sees) NoMatch marks ends (finds-none s items kinds t b out marks ends a trying x (differs-is items t (a .place) d) e) refl
 
       module _ (b′ out′ marks′ seen′ ends′ : List ℕ) (r : Moment) (z : Goes s items t b b′ out out′ marks marks′ seen′ ends′ a r) where
         came : (m : Macro) → IsSlot s m → (st : State) → Holds (h .state) st → Reached t b′ out′ r m st
@@ -225,9 +227,9 @@ module _ (items kinds t b marks ends : List ℕ) (y : Ready items kinds b t 0 ma
         sound = g .sound;
       }
 
-      pub search-past : (x : Bool) → Differs items t p x → x ≡ true → Searching items b t marks marks′ ends′ (p + 1)
+      pub search-past : (x : Bool) → x ≡ differsIn items t p → x ≡ true → Searching items b t marks marks′ ends′ (p + 1)
       search-past x d e = record {
-        below = below-next items b t p (g .below) (λ es i st h. d .none-here e es i st);
+        below = below-next items b t p (g .below) (λ es i st h. differs-is items t p d .none-here e es i st);
         size = g .size;
         count = g .count;
         inside = g .inside;

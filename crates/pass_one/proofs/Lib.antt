@@ -1,16 +1,11 @@
-pub mod ItemLaws
-pub mod TextLaws
 pub mod MarkLaws
-pub mod CopyFits
 pub mod RepeatLaws
 pub mod TryLaws
 pub mod RowLaws
 pub mod FindLaws
-pub mod PairLaws
 pub mod CallLaws
 pub mod GrowLaws
 pub mod MomentLaws
 pub mod PlaceLaws
 pub mod GoingLaws
 pub mod SlotLaws
-pub mod LackLaws

@@ -16,12 +16,11 @@ use Rattle.lines.specs.State.{State, contents}
 use Rattle.lines.specs.Matching.{Division, begins, fits, width}
 use Rattle.lines.specs.Choosing.{Rest, more, repeated, chosen, then, isEnd}
 use Rattle.form_state.specs.Access.{Holds, IsState}
-use Rattle.pass_one.specs.Pattern.{IsPattern, IsRest}
+use Rattle.pass_unit.specs.Pattern.{IsPattern, IsRest}
 use Rattle.pass_marks.specs.Marks.{mark, byteOf, marked}
 use Rattle.pass_marks.proofs.MarkLaws.{SameMark, mark-only, mark-zero}
-use Rattle.pass_one.specs.Marks.{copiesFrom, Sound}
-use Rattle.pass_one.specs.Finding.{Agree}
-use Rattle.pass_one.proofs.ItemLaws.{rest-even, rest-inside}
+use Rattle.pass_one.specs.Marks.{copiesFrom, Sound, Agree}
+use Rattle.pass_unit.proofs.ItemLaws.{rest-even, rest-inside}
 
 -- TRUE MARKS
 

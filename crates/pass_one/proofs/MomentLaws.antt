@@ -28,7 +28,7 @@ use Rattle.refusals.specs.Faults.{refusalOf}
 use Rattle.refusals.specs.declared.WorkFault.{WorkFault}
 use Rattle.refusals.specs.declared.WorkFault.the-variants.{NewLineTooLong}
 use Rattle.refusals.specs.declared.Outcome.the-variants.{Made, Refused as MadeRefused}
-use Rattle.pass_replace.specs.Contract.{IsMoment}
+use Rattle.pass_steps.specs.Moments.{IsMoment}
 use Rattle.pass_moment.specs.declared.Moment.{Moment}
 use Rattle.pass_moment.specs.declared.Refusal.{Refusal}
 use Rattle.pass_moment.specs.declared.Refusal.the-variants.{NotRefused}

@@ -16,7 +16,8 @@ use Rattle.refusals.specs.declared.WorkFault.{WorkFault}
 use Rattle.refusals.specs.declared.WorkFault.the-variants.{NewLineTooLong}
 use Rattle.refusals.specs.declared.Outcome.{Outcome}
 use Rattle.refusals.specs.declared.Outcome.the-variants.{Made, Refused as MadeRefused}
-use Rattle.pass_replace.specs.Contract.{EndsFrom, IsSlot, IsDivided, IsMoment, Lent, Occurs, doneOf, sizeOf}
+use Rattle.pass_replace.specs.Contract.{EndsFrom, IsSlot, IsDivided, Lent, Occurs}
+use Rattle.pass_steps.specs.Moments.{IsMoment, doneOf, sizeOf}
 use Rattle.pass_one.specs.declared.Found.{Found}
 use Rattle.pass_one.specs.declared.Found.the-variants.{Matched, NoMatch}
 use Rattle.pass_moment.specs.declared.Moment.{Moment}

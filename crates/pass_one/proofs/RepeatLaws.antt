@@ -4,10 +4,10 @@ use mathlib.Core.Path.{_≡_, refl, sym, ap, _∙_}
 use mathlib.Core.Bool.{Bool, true, false, false≢true}
 use mathlib.Core.List.{List, [], _∷_}
 use mathlib.Core.Option.{Option, none, some}
-use Prim.Native.Nat.{ℕ, zero, suc, _+_, _-_, _≤_, _<_}
+use Prim.Native.Nat.{ℕ, suc, _+_, _-_, _≤_, _<_}
 use native.Mathlib.Omega.{arith}
 use borrow.Author.Tests.{ltb-true, ltb-false}
-use lib.Dec.{ltb, eqb}
+use lib.Dec.{eqb}
 use lib.ListN.{length, drop}
 use lib.Seq.{drop-drop}
 use Rattle.macros.specs.Macro.{Closure, PatternUnit, Piece, pick}
@@ -16,13 +16,13 @@ use Rattle.macros.specs.Macro.Mark.{stack, counter}
 use Rattle.macros.specs.Macro.PatternUnit.{literal, kind, class, callOf}
 use Rattle.macros.specs.Macro.Piece.{element, start, end, left, right}
 use Rattle.lines.specs.State.{State}
-use Rattle.lines.specs.Matching.{Division, fits, width, stops}
+use Rattle.lines.specs.Matching.{Division, fits, width}
 use Rattle.lines.specs.Choosing.{Rest, isEnd, then, more, spare, repeated, chosen}
 use Rattle.lines.proofs.MoreLaws.{stopsOf, or-else, more-false, more-true, more-count, more-again}
 use Rattle.form_element.specs.Element.{codeUnit, codeClosure, closureOf}
-use Rattle.pass_one.specs.Pieces.{membersOf, fitU, widthU, ledTo, leadOf, again}
+use Rattle.pass_unit.specs.Pieces.{membersOf, fitU, widthU, ledTo, leadOf, again}
 use Rattle.pass_one.specs.Trying.{thenP, foundOf}
-use Rattle.pass_one.specs.declared.unit.Lead.the-variants.{After, Nothing}
+use Rattle.pass_unit.specs.declared.Lead.the-variants.{After, Nothing}
 
 -- END PLACES
 

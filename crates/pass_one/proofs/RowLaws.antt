@@ -2,7 +2,7 @@
 -- Assumes nothing.
 use mathlib.Core.Path.{_≡_, refl, sym, ap, _∙_, subst}
 use mathlib.Core.Bool.{Bool, true, false}
-use mathlib.Core.List.{List, [], _∷_}
+use mathlib.Core.List.{List, _∷_}
 use mathlib.Core.Option.{Option, none, some}
 use Prim.Native.Nat.{ℕ, zero, suc, _+_, _-_, _*_, _≤_, _<_}
 use native.Mathlib.Omega.{arith}
@@ -12,25 +12,24 @@ use lib.ListN.{length, set, drop}
 use Rattle.macros.specs.Bounds.{mostLineBytes}
 use Rattle.macros.specs.Macro.{Closure, PatternUnit, Piece}
 use Rattle.macros.specs.Macro.Piece.{element}
-use Rattle.form_table.specs.Form.{pieceItems}
 use Rattle.lines.specs.State.{State}
 use Rattle.lines.specs.Matching.{Division, fits, width}
 use Rattle.lines.specs.Choosing.{chosen}
 use Rattle.lines.proofs.MoreLaws.{stopsOf}
 use Rattle.lines.proofs.CopyLaws.{fits-inside}
 use Rattle.form_state.specs.Access.{Holds, OfState}
-use Rattle.pass_one.specs.Pattern.{IsRest, OfPiece}
+use Rattle.pass_unit.specs.Pattern.{IsRest, OfPiece}
 use Rattle.pass_marks.specs.Marks.{mark, marked}
 use Rattle.pass_marks.proofs.MarkLaws.{length-marked, drop-marked}
 use Rattle.pass_one.specs.Marks.{copiesFrom}
-use Rattle.pass_one.specs.Pieces.{membersOf, fitU, widthU, Stands, IsUnit, Wide}
+use Rattle.pass_unit.specs.Pieces.{membersOf, fitU, widthU, IsUnit, Wide}
 use Rattle.pass_one.specs.Trying.{answer, after, thenP, foundOf, Row, Furthest, Counting, Most, Repeating, Tried, Copied}
 use Rattle.form_element.specs.declared.Unit.{Unit as CodeUnit}
 use Rattle.pass_one.specs.declared.Found.{Found}
 use Rattle.pass_one.specs.declared.Found.the-variants.{Matched, NoMatch}
-use Rattle.pass_one.proofs.ItemLaws.{rest-next, rest-inside, rest-even}
+use Rattle.pass_unit.proofs.ItemLaws.{rest-next, rest-inside, rest-even}
 use Rattle.pass_one.proofs.MarkLaws.{sound-at, sound-set}
-use Rattle.pass_one.proofs.CopyFits.{copy-inside}
+use Rattle.pass_unit.proofs.CopyFits.{copy-inside}
 use Rattle.pass_one.proofs.RepeatLaws.{orP, more-stop, more-step, fit-element, width-element}
 use Rattle.pass_one.proofs.TryLaws.{found-none, said-none, said-first, said-any, kept-on, kept-end}
 

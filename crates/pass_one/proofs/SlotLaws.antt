@@ -9,7 +9,7 @@ use Rattle.form_table.specs.Form.{bodyBytes}
 use Rattle.form_table.specs.Check.{twoAt}
 use Rattle.pass_replace.specs.Contract.{IsSlot}
 use Rattle.pass_replace.proofs.Parts.{pattern-long, parts-short, pattern-here}
-use Rattle.pass_one.specs.Finding.{IsPattern}
+use Rattle.pass_unit.specs.Pattern.{IsPattern}
 use Rattle.pass_one.proofs.CallLaws.{formed-units}
 
 module _ (s : List ℕ) (m : Macro) (h : IsSlot s m) {x y : ℕ} (p : x ≡ twoAt s 2) (q : y ≡ twoAt s 4) where

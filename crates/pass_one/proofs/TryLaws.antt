@@ -8,37 +8,35 @@ use Prim.Native.Nat.{ℕ, _+_, _*_, _/_, _≤_, _<_}
 use native.Mathlib.Omega.{arith}
 use native.Mathlib.Decide.{ℕ-discrete}
 use borrow.Author.Tests.{ltb-true}
-use lib.Dec.{ltb}
 use lib.ListN.{length, getD, set, drop, length-set, length-drop}
 use lib.Seq.{getD-set-same, getD-set-other}
 use Rattle.macros.specs.Macro.{Closure, PatternUnit, Piece}
 use Rattle.macros.specs.Macro.Piece.{element, start, end, left, right}
 use Rattle.form_table.specs.Form.{bodyBytes, pieceItems, patternItems}
 use Rattle.lines.specs.State.{State}
-use Rattle.lines.specs.Matching.{Division, fits, width}
+use Rattle.lines.specs.Matching.{fits, width}
 use Rattle.lines.specs.Choosing.{more, chosen}
 use Rattle.lines.proofs.MoreLaws.{stopsOf}
-use Rattle.lines.proofs.CopyLaws.{fits-inside}
 use Rattle.form_state.specs.Access.{Holds, IsState, OfState}
 use Rattle.pass_replace.specs.Contract.{EndsFrom}
-use Rattle.pass_one.specs.Contract.{rowsBytes}
-use Rattle.pass_one.specs.Pattern.{IsRest, OfPiece}
+use Rattle.pass_one.specs.Marks.{rowsBytes}
+use Rattle.pass_unit.specs.Pattern.{IsRest, OfPiece}
 use Rattle.pass_marks.specs.Marks.{mark}
 use Rattle.form_element.specs.Element.{codeClosure, elementOf, AnyPiece}
-use Rattle.pass_one.specs.Pieces.{membersOf, fitU, widthU, leadOf, again, Stands, IsUnit, IsElement, Wide}
+use Rattle.pass_unit.specs.Pieces.{membersOf, fitU, widthU, leadOf, again, Stands, IsElement, Wide}
 use Rattle.pass_one.specs.Trying.{answer, after, thenP, foundOf, endedIn, Said, Given, Noted, Trying, Kept, Tried, Copied}
 use Rattle.form_element.specs.declared.Element.{Element}
 use Rattle.form_element.specs.declared.Unit.{Unit as CodeUnit}
 use Rattle.form_element.specs.declared.Closure.{Closure as CodeClosure}
 use Rattle.form_element.specs.declared.Closure.the-variants.{Once, OneOrMore, ZeroOrMore}
-use Rattle.pass_one.specs.declared.unit.Lead.{Lead}
-use Rattle.pass_one.specs.declared.unit.Lead.the-variants.{After, Nothing}
+use Rattle.pass_unit.specs.declared.Lead.{Lead}
+use Rattle.pass_unit.specs.declared.Lead.the-variants.{After, Nothing}
 use Rattle.pass_one.specs.declared.Found.{Found}
 use Rattle.pass_one.specs.declared.Found.the-variants.{Matched, NoMatch}
-use Rattle.pass_one.proofs.ItemLaws.{piece-even, rest-next, rest-inside, rest-end, rest-more, rest-even, rest-long, element-is}
-use Rattle.pass_one.proofs.MarkLaws.{sound-at, sound-set}
-use Rattle.pass_one.proofs.CopyFits.{fit-inside}
-use Rattle.pass_one.proofs.TextLaws.{led-true}
+use Rattle.pass_unit.proofs.ItemLaws.{piece-even, rest-next, rest-inside, rest-end, rest-more, rest-long, element-is}
+use Rattle.pass_one.proofs.MarkLaws.{sound-at}
+use Rattle.pass_unit.proofs.CopyFits.{fit-inside}
+use Rattle.pass_unit.proofs.TextLaws.{led-true}
 use Rattle.pass_one.proofs.RepeatLaws.{more-any, rep-nothing, rep-once, rep-star, fit-element, width-element, pieceClosure, closure-piece, fitP, widthP, piece-next}
 
 -- ENDS

@@ -1,5 +1,5 @@
 -- What a pass's function promises (01, part 5).
-use Prim.Native.Nat.{ℕ, _*_, _≤_}
+use Prim.Native.Nat.{ℕ, _≤_}
 use mathlib.Core.Path.{_≡_}
 use mathlib.Core.Bool.{Bool, true, false}
 use mathlib.Core.List.{List}
@@ -13,16 +13,13 @@ use Rattle.lines.specs.Replacing.{Work, Done}
 use Rattle.lines.specs.Replacing.Done.{bad, good}
 use Rattle.lines.specs.Pass.{pass, occurred, outcome}
 use Rattle.lines.specs.Line.{textOf}
-use Rattle.pass_one.specs.Lacking.{flagsOf}
+use Rattle.pass_lack.specs.Lacking.{flagsOf}
 use Rattle.form_state.specs.Access.{Holds, IsState}
 use Rattle.refusals.specs.Faults.{refusalOf}
-use Rattle.pass_replace.specs.Contract.{IsSlot, IsMoment}
+use Rattle.pass_replace.specs.Contract.{IsSlot}
+use Rattle.pass_steps.specs.Moments.{IsMoment}
 use Rattle.pass_moment.specs.declared.Passed.{Passed}
 use Rattle.pass_moment.specs.declared.Passed.the-variants.{Over, Refused}
-
--- the marks of a pattern: for each item, two bytes, a row of 132 bytes, 1,056 bits, for at most 1,055 places
-abbrev pub rowsBytes : List ℕ → ℕ
-rowsBytes items = 66 * length items
 
 -- what the caller lends: a macro's slot, the kinds, the flags of the line's bytes, the line, a state and room for the new line
 pub record Lent (s kinds present t b out : List ℕ) : Type 0 where

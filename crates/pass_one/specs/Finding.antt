@@ -2,39 +2,25 @@
 use Prim.Native.Nat.{ℕ, _*_, _≤_, _<_}
 use mathlib.Core.Path.{_≡_}
 use mathlib.Core.Bool.{Bool, true, false}
-use mathlib.Core.List.{List, [], _∷_}
+use mathlib.Core.List.{List}
 use mathlib.Core.Option.{Option, none, some}
 use lib.Dec.{eqb, leb}
 use lib.ListN.{length, getD, drop}
 use Rattle.kinds.specs.Kind.{kindTable}
 use Rattle.macros.specs.Bounds.{mostLineBytes}
-use Rattle.macros.specs.Macro.{Mark, PatternUnit, Piece}
-use Rattle.macros.specs.Macro.PatternUnit.{literal, kind, class, callOf}
-use Rattle.macros.specs.Macro.Piece.{element, start, end, left, right}
+use Rattle.macros.specs.Macro.{Piece}
+use Rattle.macros.specs.Macro.Piece.{end}
 use Rattle.form_table.specs.Form.{bodyBytes}
-use Rattle.lines.specs.State.{State, contents}
+use Rattle.lines.specs.State.{State}
 use Rattle.lines.specs.Matching.{Division, endOf, stops}
 use Rattle.lines.specs.Choosing.{chosen}
 use Rattle.lines.specs.Pass.{match}
 use Rattle.form_state.specs.Access.{Holds, IsState}
 use Rattle.pass_replace.specs.Contract.{EndsFrom}
-use Rattle.pass_one.specs.Contract.{rowsBytes}
-pub use Rattle.pass_one.specs.Pattern.{FormedUnits, IsPattern}
-use Rattle.pass_one.specs.Marks.{Sound}
+use Rattle.pass_one.specs.Marks.{rowsBytes, Sound}
 use Rattle.pass_one.specs.declared.Found.{Found}
 use Rattle.pass_one.specs.declared.Found.the-variants.{Matched, NoMatch}
-
--- every call of the pieces stands for the same text in both states
-abbrev pub Agree : State → State → List Piece → Type 0
-Agree st st′ [] = Unit {0}
-Agree st st′ (element (callOf m i) c ∷ es) = (contents st m i ≡ contents st′ m i) × Agree st st′ es
-Agree st st′ (element (literal b) c ∷ es) = Agree st st′ es
-Agree st st′ (element (kind n) c ∷ es) = Agree st st′ es
-Agree st st′ (element (class neg ms) c ∷ es) = Agree st st′ es
-Agree st st′ (start ∷ es) = Agree st st′ es
-Agree st st′ (end ∷ es) = Agree st st′ es
-Agree st st′ (left ∷ es) = Agree st st′ es
-Agree st st′ (right ∷ es) = Agree st st′ es
+use Rattle.pass_unit.specs.Pattern.{IsPattern}
 
 -- the matcher's memories: `ends` has a place for each byte of the items, `marks` 66 bytes
 pub record Ready (items kinds b t : List ℕ) (p : ℕ) (marks ends : List ℕ) : Type 0 where

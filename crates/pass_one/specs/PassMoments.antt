@@ -15,7 +15,7 @@ use Rattle.lines.specs.Replacing.{Work, startIn, occur}
 use Rattle.lines.specs.Pass.{Walk, pass}
 use Rattle.lines.specs.Line.{textOf}
 use Rattle.refusals.specs.declared.Outcome.{Outcome}
-use Rattle.pass_replace.specs.Contract.{IsMoment, doneOf, sizeOf}
+use Rattle.pass_steps.specs.Moments.{IsMoment, doneOf, sizeOf}
 use Rattle.pass_moment.specs.declared.Moment.{Moment}
 use Rattle.pass_moment.specs.declared.Refusal.the-variants.{NotRefused}
 use Rattle.pass_moment.specs.Moments.{pastPlaces, startAt, afterOf, StepsOver}

@@ -20,10 +20,12 @@ use Rattle.pass_moment.specs.declared.Moment.{Moment}
 use Rattle.pass_moment.specs.declared.Refusal.the-variants.{NotRefused}
 use Rattle.pass_moment.specs.Moments.{pastPlaces, passedOf, StepsOver}
 use Rattle.form_state.specs.Access.{Holds, IsState}
-use Rattle.pass_replace.specs.Contract.{IsSlot, IsMoment}
-use Rattle.pass_one.specs.Contract.{rowsBytes, doneOf, SaysOccurred, Passes}
-use Rattle.pass_one.specs.Marks.{Sound}
-use Rattle.pass_one.specs.Finding.{IsPattern, lastOf, Finds}
+use Rattle.pass_replace.specs.Contract.{IsSlot}
+use Rattle.pass_steps.specs.Moments.{IsMoment}
+use Rattle.pass_one.specs.Marks.{rowsBytes, Sound}
+use Rattle.pass_one.specs.Contract.{doneOf, SaysOccurred, Passes}
+use Rattle.pass_unit.specs.Pattern.{IsPattern}
+use Rattle.pass_one.specs.Finding.{lastOf, Finds}
 use Rattle.pass_one.specs.Seen.{Seen}
 use Rattle.pass_one.specs.declared.Found.the-variants.{Matched}
 use Rattle.pass_one.specs.declared.walking.First.{First}

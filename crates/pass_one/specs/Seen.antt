@@ -2,22 +2,15 @@
 use Prim.Native.Nat.{ℕ, _*_, _≤_, _<_}
 use mathlib.Core.Path.{_≡_}
 use mathlib.Core.Bool.{Bool, true, false}
-use mathlib.Core.List.{List, [], _∷_}
+use mathlib.Core.List.{List}
 use lib.ListN.{length, drop}
 use Rattle.macros.specs.Macro.{Piece}
-use Rattle.macros.specs.Formed.{Letter}
 use Rattle.form_table.specs.Form.{bodyBytes}
 use Rattle.lines.specs.State.{State, currentEntry, counterOf}
 use Rattle.form_state.specs.Access.{Holds, IsState}
-use Rattle.pass_one.specs.Contract.{rowsBytes}
-use Rattle.pass_one.specs.Marks.{Sound}
-use Rattle.pass_one.specs.Finding.{IsPattern}
-
--- a fact of every item, two bytes each
-abbrev pub Pairs : (ℕ → ℕ → Type 0) → List ℕ → Type 0
-Pairs P [] = Unit {0}
-Pairs P (c ∷ []) = ⊥
-Pairs P (c ∷ i ∷ l) = P c i × Pairs P l
+use Rattle.pass_one.specs.Marks.{rowsBytes, Sound}
+use Rattle.pass_unit.specs.Pattern.{IsPattern}
+use Rattle.pass_lack.specs.Twos.{Pairs}
 
 -- what an answer of true says
 abbrev pub WhenTrue : Bool → Type 0 → Type 0
@@ -30,10 +23,6 @@ WhenFalse r P = r ≡ false → P
 -- the codes of calls are 16 to 23, those of stacks before those of counters
 abbrev pub NoCall : ℕ → ℕ → Type 0
 NoCall c i = 16 ≤ c → c < 24 → ⊥
-
--- the operand of a call is a letter
-abbrev pub LetterIn : ℕ → ℕ → Type 0
-LetterIn c i = 16 ≤ c → c < 24 → Letter i
 
 -- the item stands for the same text in both states, if it is a call
 pub record SameAt (st st′ : State) (c i : ℕ) : Type 0 where

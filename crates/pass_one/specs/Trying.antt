@@ -15,10 +15,9 @@ use Rattle.lines.specs.Matching.{Division, stops, fits, width}
 use Rattle.lines.specs.Choosing.{chosen}
 use Rattle.form_state.specs.Access.{IsState, OfState}
 use Rattle.pass_replace.specs.Contract.{EndsFrom}
-use Rattle.pass_one.specs.Contract.{rowsBytes}
-use Rattle.pass_one.specs.Pattern.{IsRest, OfPiece}
-use Rattle.pass_one.specs.Marks.{copiesFrom, Sound}
-use Rattle.pass_one.specs.Pieces.{Stands, IsUnit, Wide}
+use Rattle.pass_one.specs.Marks.{rowsBytes, copiesFrom, Sound}
+use Rattle.pass_unit.specs.Pattern.{IsRest, OfPiece}
+use Rattle.pass_unit.specs.Pieces.{Stands, IsUnit, Wide}
 use Rattle.form_element.specs.declared.Unit.{Unit as CodeUnit}
 use Rattle.pass_one.specs.declared.Found.{Found}
 use Rattle.pass_one.specs.declared.Found.the-variants.{Matched, NoMatch}

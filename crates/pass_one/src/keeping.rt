@@ -6,7 +6,8 @@ ghost use Prim.Native.Nat.{_≤_};
 ghost use mathlib.Core.Path.{_≡_};
 ghost use lib.ListN.{length};
 ghost use Rattle.form_state.specs.Access.{IsState};
-ghost use Rattle.pass_one.specs.Seen.{WhenTrue, WhenFalse, NoCall, LetterIn, Pairs, SameIn, Alike, Renewing, Renewed};
+ghost use Rattle.pass_lack.specs.Twos.{LetterIn, Pairs};
+ghost use Rattle.pass_one.specs.Seen.{WhenTrue, WhenFalse, NoCall, SameIn, Alike, Renewing, Renewed};
 
 // Part 2: a call `&(i)` or `#(i)`.
 fn is_call(code: u8) -> bool

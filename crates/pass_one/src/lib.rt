@@ -1,8 +1,6 @@
 // A pass (01, parts 3 and 5): one macro over one line.
 mod keeping;
-pub mod lacking;
 mod matcher;
-mod unit;
 mod walking;
 
 use form_items::layout::BEFORE_AT;
@@ -11,7 +9,7 @@ use form_items::layout::PATTERN_AT;
 use form_items::two_at;
 use keeping::copy_state;
 use keeping::has_calls;
-use lacking::lacks;
+use pass_lack::lacks;
 use pass_moment::Passed;
 use walking::First;
 use walking::first_match;

@@ -1,24 +1,36 @@
 // The matcher (01, part 3): the stack grows with the pattern's elements and, for each closure, with the halvings of its copies;
 // each closure is tried at each place once.
 use crate::Found;
-use crate::unit::Lead;
-use crate::unit::behind;
-use crate::unit::copy_at;
-use crate::unit::lead_at;
-use crate::unit::may_repeat;
-use crate::unit::width_of;
+use form_element::Closure;
 use form_element::Element;
 use form_element::element_at;
 use form_items::codes::START;
 use pass_marks::is_marked;
 use pass_marks::set_mark;
+use pass_unit::Lead;
+use pass_unit::behind;
+use pass_unit::copy_at;
+use pass_unit::lead_at;
+use pass_unit::width_of;
 ghost use Prim.Native.Nat.{_≤_, _<_};
 ghost use mathlib.Core.Path.{_≡_};
 ghost use lib.ListN.{length};
 ghost use Rattle.macros.specs.Bounds.{mostLineBytes};
 ghost use Rattle.form_table.specs.Form.{bodyBytes};
+ghost use Rattle.pass_one.specs.Finding.{LastPlace, countedOf};
 ghost use Rattle.pass_one.specs.Trying.{endedIn, Trying, Counting, Repeating, Tried, Most, Copied};
-ghost use Rattle.pass_one.specs.Finding.{Differs, LastPlace, countedOf};
+ghost use Rattle.pass_unit.specs.Pieces.{again};
+
+// Whether further copies, w bytes wide, can follow.
+fn may_repeat(element: Element, w: usize) -> bool
+    ensures { λ r. ⌜ r ≡ again (element .closure) w ⌝ }
+{
+    let c = element.closure;
+    match c {
+        Closure::Once => false,
+        _ => 0 < w,
+    }
+}
 
 // How many copies of an element's unit, w bytes wide, stand in a row from q on. Places with a mark end the row: there is no division from there.
 fn most_copies(
@@ -130,28 +142,6 @@ fn closure(
         return found;
     }
     closure(items, kinds, state, line, at, next, w, q, low, marks, ends)
-}
-
-// Whether the pattern begins with a literal that must stand at p and does not, or with `^` where p is not 0: most places are decided so.
-pub(crate) fn differs(items: &[u8], line: &[u8], p: usize) -> bool
-    ensures { λ r. ⌜ Differs (now (items .entry)) (now (line .entry)) p r ⌝ }
-{
-    if items.len() < 2 {
-        return false;
-    }
-    if items[0] == START {
-        return 0 < p;
-    }
-    if items[0] < 8 {
-        return false;
-    }
-    if 9 < items[0] {
-        return false;
-    }
-    if line.len() <= p {
-        return true;
-    }
-    items[1] != line[p]
 }
 
 // The last place where a match can begin: a pattern that begins with `^` has place 0 alone.

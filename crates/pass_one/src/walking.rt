@@ -2,9 +2,9 @@
 use crate::Found;
 use crate::keeping::renew;
 use crate::matcher::counted;
-use crate::matcher::differs;
 use crate::matcher::elements;
 use crate::matcher::last_place;
+use pass_lack::differs;
 use pass_moment::Moment;
 use pass_moment::Passed;
 use pass_moment::after;

@@ -8,19 +8,18 @@ use native.Mathlib.Omega.{arith}
 use borrow.Author.Tests.{ltb-true, ltb-false, lt-ltb, le-ltb, ne-eqb}
 use lib.Dec.{eqb, ltb}
 use lib.ListN.{length, getD, take, drop, length-drop, length-take, drop-of-length-le}
-use lib.Seq.{drop-cons, drop-drop, getD-drop, slice, slice-empty, take-add, drop-at, length-take-le}
+use lib.Seq.{drop-cons, drop-drop, getD-drop, slice, slice-empty}
 use Rattle.macros.specs.Macro.{Closure, Member, PatternUnit, Piece, pick}
 use Rattle.macros.specs.Macro.Member.{single, range}
 use Rattle.macros.specs.Macro.Mark.{stack, counter}
 use Rattle.macros.specs.Macro.PatternUnit.{literal, kind, class, callOf}
 use Rattle.macros.specs.Macro.Piece.{element, start, end, left, right}
 use Rattle.form_table.specs.Form.{closureCode, unitCode, memberItems, membersItems, unitRest, pieceItems, patternItems}
-use Rattle.macros.specs.Formed.{Bytes}
 use Rattle.lines.specs.Matching.{closing, tagText}
 use Rattle.lines.proofs.KeepTests.{by-pick}
-use Rattle.lines.proofs.KeepBytes.{bytes-take, bytes-drop}
 use Rattle.pass_replace.specs.Contract.{EndsFrom}
-use Rattle.pass_replace.specs.Tags.{closeStep, closeIn, tagStep, tagIn, Spans, Cut, Divided}
+use Rattle.pass_replace.specs.Tags.{closeStep, closeIn, tagStep, tagIn, Spans, Divided}
+use Rattle.pass_steps.specs.Texts.{Cut}
 
 -- AN ITEM
 
@@ -198,20 +197,6 @@ spans-nothing e = record { text = λ t. sym (e t); ordered = omega arith; inside
 -- the part of the line that is handed out
 pub span-cut : {f : List ℕ → List ℕ} {line pat ends : List ℕ} {from to : ℕ} → Divided pat ends line → Spans f ends from to → Cut line from to
 span-cut {line = line} d s = record { ordered = s .ordered; inside = s .inside (length line) (d .inside); bytes = d .bytes }
-
-module _ {line : List ℕ} {from to : ℕ} (p : Cut line from to) where
-  pub cut-is : take (to - from) (drop from line) ≡ slice from to line
-  cut-is =
-      let h = p .ordered in
-      let l = p .inside in
-      let e : to ≡ from + (to - from) = omega arith in
-      sym
-      (ap (λ (k : ℕ). drop from (take k line)) e
-      ∙ ap (drop from) (take-add from (to - from) line)
-      ∙ drop-at (take from line) (take (to - from) (drop from line)) from (length-take-le from line (omega arith)))
-
-  pub cut-bytes : Bytes (take (to - from) (drop from line))
-  cut-bytes = bytes-take (to - from) (drop from line) (bytes-drop from line (p .bytes))
 
 -- THE PIECES OF A PATTERN
 

@@ -27,9 +27,12 @@ use Rattle.lines.proofs.KeepTests.{within-between}
 use Rattle.form_table.specs.Actions.{numberIn, textIn, Held}
 use Rattle.form_table.proofs.Actions.{even-taken, action-size, action-some, action-rest}
 use Rattle.pass_replace.specs.Tags.{tagIn}
-use Rattle.pass_replace.specs.Acting.{taggedIn, markIn, moveIn, movesIn, setsIn, actIn, contentsIn, insertsIn, storedIn, dividesIn, accessIn, actionIn, actsIn, Fit, Fits}
+use Rattle.pass_replace.specs.Acting.{taggedIn, actIn, storedIn, dividesIn, accessIn, actionIn, actsIn, Fits}
+use Rattle.pass_steps.specs.Codes.{markIn}
+use Rattle.pass_call.specs.Moving.{moveIn, movesIn, setsIn}
+use Rattle.pass_texts.specs.Inserting.{contentsIn, insertsIn, Fit}
 use Rattle.pass_replace.specs.Acting.Fits.{none, next}
-use Rattle.pass_replace.proofs.Inserting.{acts-cons}
+use Rattle.pass_replace.proofs.Acting.{acts-cons}
 
 -- THE SAME STEP
 

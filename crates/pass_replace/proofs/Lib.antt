@@ -1,9 +1,6 @@
 pub mod Braces
-pub mod Stepping
-pub mod Moving
-pub mod Inserting
+pub mod Acting
 pub mod Decoding
 pub mod Parts
 pub mod Occurring
 pub mod Preparing
-pub mod Entries

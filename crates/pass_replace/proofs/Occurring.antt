@@ -13,7 +13,7 @@ use Rattle.lines.specs.Replacing.{Work, occur}
 use Rattle.pass_replace.specs.Contract.{IsSlot, IsDivided, Lent, Occurs}
 use Rattle.pass_replace.specs.Tags.{Divided}
 use Rattle.pass_replace.specs.Acting.{actIn, actsIn, Fits}
-use Rattle.pass_replace.specs.Moments.{Does}
+use Rattle.pass_steps.specs.Moments.{Does}
 use Rattle.refusals.specs.declared.Outcome.{Outcome}
 use Rattle.pass_replace.proofs.Braces.{tag-is}
 use Rattle.pass_replace.proofs.Decoding.{actions-do, both-do}

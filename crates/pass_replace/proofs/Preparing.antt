@@ -15,10 +15,10 @@ use Rattle.lines.specs.Replacing.{Work, onto, startIn, beforeActs}
 use Rattle.lines.specs.Replacing.Done.{good}
 use Rattle.lines.specs.Line.{textOf}
 use Rattle.form_state.specs.Access.{Holds}
-use Rattle.pass_replace.specs.Contract.{IsSlot, IsMoment, Prepared, Prepares}
+use Rattle.pass_steps.specs.Moments.{IsMoment, Does}
+use Rattle.pass_replace.specs.Contract.{Prepared, Prepares}
 use Rattle.pass_replace.specs.Tags.{tagIn, Divided}
 use Rattle.pass_replace.specs.Acting.{actIn, actsIn, Fits}
-use Rattle.pass_replace.specs.Moments.{Does}
 use Rattle.refusals.specs.declared.Outcome.{Outcome}
 use Rattle.refusals.specs.declared.Outcome.the-variants.{Made}
 use Rattle.pass_replace.proofs.Decoding.{actions-do, commands-as}

@@ -2,7 +2,7 @@
 use Prim.Native.Nat.{ℕ, _+_, _≤_}
 use mathlib.Core.Path.{_≡_}
 use mathlib.Core.List.{List, [], _∷_}
-use lib.ListN.{length, getD, take, drop}
+use lib.ListN.{length, getD, drop}
 use Rattle.macros.specs.Bounds.{mostLineBytes}
 use Rattle.macros.specs.Macro.{Piece, Macro}
 use Rattle.macros.specs.Formed.{Bytes}
@@ -10,13 +10,10 @@ use Rattle.macros.specs.Accepted.{Spellable}
 use Rattle.form_table.specs.Form.{bodyBytes, pieceItems, slot}
 use Rattle.lines.specs.State.{State}
 use Rattle.lines.specs.Matching.{Division, stops}
-use Rattle.lines.specs.Replacing.{Work, Done, startIn, beforeActs, occur}
-use Rattle.lines.specs.Replacing.Done.{bad, good}
-use Rattle.lines.specs.Line.{textOf}
+use Rattle.lines.specs.Replacing.{Work, startIn, beforeActs, occur}
 use Rattle.form_state.specs.Access.{Holds, IsState}
-use Rattle.refusals.specs.Faults.{refusalOf}
 use Rattle.refusals.specs.declared.Outcome.{Outcome}
-use Rattle.refusals.specs.declared.Outcome.the-variants.{Made, Refused}
+use Rattle.pass_steps.specs.Moments.{IsMoment, doneOf, sizeOf}
 
 -- the bytes s are the slot of the macro m, which some file spells
 pub record IsSlot (s : List ℕ) (m : Macro) : Type 0 where
@@ -45,22 +42,6 @@ pub record Lent (s ends t b out : List ℕ) (size : ℕ) : Type 0 where
   pub state : IsState b
   pub room : length out ≡ mostLineBytes
   pub sized : size ≤ mostLineBytes
-
--- the first n bytes are a moment's new line, and b is its state
-pub record IsMoment (out b : List ℕ) (n : ℕ) (w : Work) : Type 0 where
-  pub line : textOf w ≡ take n out
-  pub size : w .size ≡ n
-  pub state : Holds b (w .state)
-
--- what an answer says of the moment v that it leaves
-abbrev pub doneOf : Outcome → Work → Done
-doneOf (Made n) v = good v
-doneOf (Refused f n) v = bad (refusalOf f) v
-
--- the bytes of the new line
-abbrev pub sizeOf : Outcome → ℕ
-sizeOf (Made n) = n
-sizeOf (Refused f n) = n
 
 -- the moment that the memories hold then is that of the definition, done or refused; behind the new line nothing changes
 pub record Occurs (s ends t b b′ out out′ : List ℕ) (size : ℕ) (r : Outcome) : Type 0 where

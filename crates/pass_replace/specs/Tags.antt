@@ -46,12 +46,6 @@ pub record Spans (f : List ℕ → List ℕ) (ends : List ℕ) (from to : ℕ) :
   pub ordered : from ≤ to
   pub inside : (z : ℕ) → ((i : ℕ) → getD ends i 0 ≤ z) → to ≤ z
 
--- a part of the line
-pub record Cut (line : List ℕ) (from to : ℕ) : Type 0 where
-  pub ordered : from ≤ to
-  pub inside : to ≤ length line
-  pub bytes : Bytes line
-
 -- what the texts of tags are taken from
 pub record Divided (pat ends line : List ℕ) : Type 0 where
   pub ended : Ended pat ends

@@ -1,9 +1,6 @@
 // Replacing (01, part 4): what an occurrence inserts and changes; and what the calls before a pattern change (02, N2).
 mod actions;
-mod calls;
-mod setting;
 mod tags;
-mod texts;
 
 use actions::act;
 use form_items::layout::BEFORE_AT;

@@ -1,4 +1,5 @@
 // Tags (01, part 3): where the text of a tag stands in the line.
+use pass_steps::Span;
 ghost use mathlib.Core.Path.{_≡_};
 ghost use Prim.Native.Nat.{_-_, _≤_};
 ghost use lib.Dec.{ltb};
@@ -6,12 +7,6 @@ ghost use lib.ListN.{drop};
 ghost use Rattle.macros.specs.Macro.{pick};
 ghost use Rattle.form_table.specs.Form.{bodyBytes};
 ghost use Rattle.pass_replace.specs.Tags.{closeIn, tagIn, Ended, Spans};
-
-// A part of the line: from a place up to another.
-pub(crate) struct Span {
-    pub(crate) from: usize,
-    pub(crate) to: usize,
-}
 
 // An end as a place of the line.
 fn wide(x: u16) -> usize

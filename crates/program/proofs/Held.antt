@@ -10,7 +10,7 @@ use Rattle.lines.proofs.KeepState.{fresh-in-range}
 use Rattle.form_state.specs.Form.{stateForm}
 use Rattle.line_memory.specs.Memory.{Memories, Feeding}
 use Rattle.line_feed.specs.Contract.{Lent}
-use Rattle.line_feed.specs.Answering.{SomeTable}
+use Rattle.line_feed.specs.Taking.{SomeTable}
 use Rattle.line_answer.specs.declared.Answer.{Answer}
 use Rattle.m7.specs.Contract.{Gives, reads}
 use Rattle.m7.specs.Feeding.{Feeds}

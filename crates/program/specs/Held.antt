@@ -2,7 +2,7 @@
 use Prim.Native.Nat.{ℕ}
 use mathlib.Core.List.{List}
 use Rattle.form_state.specs.Access.{IsState}
-use Rattle.line_feed.specs.Answering.{SomeTable}
+use Rattle.line_feed.specs.Taking.{SomeTable}
 use Rattle.program.specs.declared.parts.Parts.{Parts}
 use Rattle.program.specs.declared.parts.Parts.the-variants.{Table, Refused}
 

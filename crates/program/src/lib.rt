@@ -16,7 +16,7 @@ ghost use mathlib.Core.Path.{_≡_};
 ghost use Prim.Native.Nat.{_≤_};
 ghost use lib.ListN.{length, take, replicate};
 ghost use Rattle.line_feed.specs.Contract.{Lent};
-ghost use Rattle.line_feed.specs.Answering.{SomeTable};
+ghost use Rattle.line_feed.specs.Taking.{SomeTable};
 ghost use Rattle.m7.specs.Feeding.{Feeds};
 ghost use Rattle.program.specs.Said.{Within};
 ghost use Rattle.program.specs.Lines.{Put, Answered, LinesDone, FreshLines};

@@ -1,3 +1,2 @@
 pub mod Waiting
 pub mod Replacing
-pub mod Commanding

@@ -24,9 +24,10 @@ use Rattle.macros.specs.ReadSoFar.Step.{on, stop}
 use Rattle.read_scan.specs.Scan.MacroRead.{refusedAt}
 use Rattle.form_table.specs.Form.{replacementItems, actionItems}
 use Rattle.read_scan.specs.Scan.{run, At, Here, Passes, Stays, Reached, faultOf}
-use Rattle.read_number.specs.Number.{Counts, Digits, Kept, most}
+use Rattle.read_number.specs.Number.{Counts, Digits, Kept, most, Unclosed, numberEnd}
 use Rattle.form_items.specs.Items.{Wrote}
-use Rattle.read_call.specs.Call.{CalledFrom, Unclosed, markOf, nextEnd, numberEnd, leftBy}
+use Rattle.read_call.specs.Call.{CalledFrom, markOf}
+use Rattle.read_ends.specs.Ends.{nextEnd, leftBy}
 use Rattle.read_action.specs.Action.{Acts, ActionFrom, EscapeFrom, Replaced, ReplacedFrom, ReplacementRead, IsMark, wrongTag}
 use Rattle.read_scan.specs.declared.FileFault.{FileFault}
 use Rattle.read_scan.specs.declared.FileFault.the-variants.{Incomplete, BadCall}
@@ -34,12 +35,12 @@ use Rattle.read_scan.specs.declared.Next.{Next}
 use Rattle.read_scan.specs.declared.Next.the-variants.{Byte, Refused as NoByte}
 use Rattle.read_number.specs.declared.Number.{Number}
 use Rattle.read_number.specs.declared.Number.the-variants.{Got, Refused as NoNumber}
-use Rattle.read_call.specs.declared.Ended.{Ended}
-use Rattle.read_call.specs.declared.Ended.the-variants.{Upto, Refused as NoEnd}
+use Rattle.read_ends.specs.declared.Ended.{Ended}
+use Rattle.read_ends.specs.declared.Ended.the-variants.{Upto, Refused as NoEnd}
 use Rattle.read_scan.proofs.Laws.{here-on, here-stop, here-same, at-on, reached-behind, reached-at}
 use Rattle.read_number.proofs.Numbers.{eats-tag}
 use Rattle.form_items.proofs.Writing.{wrote-none, wrote-more}
-use Rattle.read_call.proofs.Leaving.{zeroed}
+use Rattle.read_ends.proofs.Leaving.{zeroed}
 use Rattle.read_call.proofs.Ending.{most-same, within-yes, unfit}
 
 -- ACTIONS ONE BEHIND ANOTHER

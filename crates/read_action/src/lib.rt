@@ -1,2 +1,2 @@
-// Reads replacements and commands. What each answer says of the machine of the definitions stands in specs/.
+// Reads replacements. What each answer says of the machine of the definitions stands in specs/.
 pub mod actions;

@@ -20,9 +20,11 @@ use Rattle.macros.specs.ReadSoFar.Phase.{begun, signed, named, equals, incremen
 use Rattle.macros.specs.ReadCalls.Turn.{into, textOf, closed, wrong}
 use Rattle.form_table.specs.Form.{callItems, moveCode}
 use Rattle.read_scan.specs.Scan.{run, Here, Calls, faultOf, wrongCall}
-use Rattle.read_number.specs.Number.{Counts, Digits, Kept, most}
+use Rattle.read_number.specs.Number.{Counts, Digits, Kept, most, numberEnd}
 use Rattle.form_items.specs.Items.{Wrote}
-use Rattle.read_call.specs.Call.{Names, Letter, Naming, Comes, Ends, CalledFrom, NamedFrom, Sets, SetFrom, TagFrom, StoreFrom, Asks, Starts, signsIn, markOf, nextEnd, numberEnd, nameEnd}
+use Rattle.read_call.specs.Call.{Names, Letter, Naming, CalledFrom, NamedFrom, Sets, SetFrom, TagFrom, Asks, Starts, signsIn, markOf, nameEnd}
+use Rattle.read_text.specs.Text.{Comes, Ends, StoreFrom}
+use Rattle.read_ends.specs.Ends.{nextEnd}
 use Rattle.read_scan.specs.declared.FileFault.{FileFault}
 use Rattle.read_scan.specs.declared.Next.{Next}
 use Rattle.read_scan.specs.declared.Next.the-variants.{Byte, Refused as NoByte}
@@ -32,12 +34,14 @@ use Rattle.read_call.specs.declared.Name.{Name}
 use Rattle.read_call.specs.declared.Name.the-variants.{Got as GotName, Refused as NoName}
 use Rattle.read_call.specs.declared.Tail.{Tail}
 use Rattle.read_call.specs.declared.Tail.the-variants.{Text, Set, Insert, Wrong}
-use Rattle.read_call.specs.declared.Ended.{Ended}
-use Rattle.read_call.specs.declared.Ended.the-variants.{Upto, Refused as NoEnd}
+use Rattle.read_ends.specs.declared.Ended.{Ended}
+use Rattle.read_ends.specs.declared.Ended.the-variants.{Upto, Refused as NoEnd}
 use Rattle.read_scan.proofs.Laws.{here-on}
 use Rattle.read_number.proofs.Numbers.{tagState, eats-tagged, eats-equals, eats-increment, eats-divisor}
-use Rattle.read_call.proofs.Naming.{turn-text, call-next, here-into, code-none, code-some}
-use Rattle.read_call.proofs.Ending.{ends-from, ends-none, ends-wrong, ends-closed, joined, names-stack, names-counter}
+use Rattle.read_text.proofs.Turns.{turn-text, call-next, here-into}
+use Rattle.read_text.proofs.Closing.{ends-from, ends-none, ends-wrong, ends-closed}
+use Rattle.read_call.proofs.Naming.{code-none, code-some}
+use Rattle.read_call.proofs.Ending.{joined, names-stack, names-counter}
 
 -- BYTES BEHIND A LETTER
 

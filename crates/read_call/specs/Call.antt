@@ -1,43 +1,40 @@
 -- Calls: what reading one says of the machine, at every place where it may stand.
-use Prim.Native.Nat.{ℕ, _+_, _-_, _*_, _%_, _≤_, _<_}
+use Prim.Native.Nat.{ℕ, _+_, _≤_, _<_}
 use mathlib.Core.Path.{_≡_}
 use mathlib.Core.Bool.{Bool, true, false, _&&_}
-use mathlib.Core.List.{List, [], _∷_, reverse}
-use mathlib.Core.Option.{Option, none, some}
-use mathlib.Core.Logic.{_⊎_}
+use mathlib.Core.List.{List, [], _∷_}
+use mathlib.Core.Option.{Option, none}
 use lib.Dec.{eqb}
-use lib.ListN.{length, replicate}
+use lib.ListN.{length}
 use Rattle.macros.specs.Macro.{Mark, Sign, Move, Call, pick, within, asciiLower, digit, tags}
 use Rattle.macros.specs.Macro.Mark.{stack, counter}
 use Rattle.macros.specs.Macro.Move.{still, before, after}
 use Rattle.macros.specs.Macro.Call.{insert}
 use Rattle.macros.specs.Formed.{numberFits}
-use Rattle.macros.specs.Read.{Part, Prior, Site, CallSite, Phase, callByte, siteOf, piecesOf, mayInsert, mayStoreTag}
+use Rattle.macros.specs.Read.{Prior, Site, CallSite, Phase, callByte, siteOf, mayInsert, mayStoreTag}
 use Rattle.macros.specs.ReadSoFar.Site.{beforePattern, inReplacement, asCommand}
-use Rattle.macros.specs.Read.{behindCall, isSign, signOf, isStill, numberEnd as closing}
-use Rattle.macros.specs.ReadSoFar.Part.{calling, callText}
-use Rattle.macros.specs.ReadSoFar.Phase.{begun, named, tagged, tagNamed, texted}
+use Rattle.macros.specs.Read.{isSign, signOf, isStill, numberEnd as closing}
+use Rattle.macros.specs.ReadSoFar.Part.{calling}
+use Rattle.macros.specs.ReadSoFar.Phase.{begun, named, tagged, tagNamed}
 use Rattle.macros.specs.ReadCalls.Turn.{into, textOf, closed, wrong}
 use Rattle.read_scan.specs.Scan.MacroRead.{refusedAt}
 use Rattle.form_bytes.specs.Fours.{four}
 use Rattle.form_table.specs.Form.{callItems, moveCode}
-use Rattle.read_scan.specs.Scan.{faultOf, run, Reached, Here}
+use Rattle.read_scan.specs.Scan.{faultOf, run, Here}
+use Rattle.read_ends.specs.Ends.{Zeroed}
+use Rattle.read_text.specs.Text.{Ends}
 use Rattle.read_number.specs.Number.{Eats, most}
-use Rattle.form_items.specs.Items.{Wrote}
-use Rattle.read_scan.specs.declared.FileFault.{FileFault}
 use Rattle.read_scan.specs.declared.FileFault.the-variants.{Incomplete}
 use Rattle.read_scan.specs.declared.Next.{Next}
 use Rattle.read_scan.specs.declared.Next.the-variants.{Byte, Refused as NoByte}
-use Rattle.read_number.specs.declared.Number.{Number}
-use Rattle.read_number.specs.declared.Number.the-variants.{Got, Refused as NoNumber}
 use Rattle.read_call.specs.declared.Site.{Site as CodeSite}
 use Rattle.read_call.specs.declared.Site.the-variants.{BeforePattern, Replacement, Command}
 use Rattle.read_call.specs.declared.Name.{Name}
 use Rattle.read_call.specs.declared.Name.the-variants.{Got as GotName, Refused as NoName}
 use Rattle.read_call.specs.declared.Tail.{Tail}
 use Rattle.read_call.specs.declared.Tail.the-variants.{Text, Set, Insert, Wrong}
-use Rattle.read_call.specs.declared.Ended.{Ended}
-use Rattle.read_call.specs.declared.Ended.the-variants.{Upto, Refused as NoEnd}
+use Rattle.read_ends.specs.declared.Ended.{Ended}
+use Rattle.read_ends.specs.declared.Ended.the-variants.{Refused as NoEnd}
 
 -- `#` if true, else `&`
 abbrev pub markOf : Bool → Mark
@@ -106,43 +103,9 @@ TagNaming s a p (NoName f q) =
 
 -- THE ENDS OF CALLS
 
--- the machine comes from p in the state F to q in the state G, at every place of this kind,
--- behind a pattern of k tags
-abbrev pub Comes : List ℕ → ℕ → Site → ℕ → (CallSite → Part) → ℕ → (CallSite → Part) → ℕ → Type 0
-Comes s a si k F p G q =
-    (pl : CallSite) → siteOf pl ≡ si → tags (piecesOf pl) ≡ k → (pr : Prior)
-    → run s a pr false p (F pl) ≡ run s a pr false q (G pl)
-
--- the call read from p up to q, from the state F on, and its items written from n up to e; x bytes of room come from what was read before p
-pub record Called (s : List ℕ) (a p : ℕ) (old out : List ℕ) (n x : ℕ) (si : Site) (k : ℕ) (F : CallSite → Part) (q e : ℕ) : Type 0 where
-  pub call : Call
-  pub wrote : Wrote old out n (callItems call)
-  pub used : e ≡ n + length (callItems call)
-  pub room : e ≤ n + x + 2 * (q - p)
-  pub further : p < q
-  pub reached : Reached s a q
-  pub answer : Comes s a si k F p (λ pl. behindCall pl call) q
-
--- what reading to the end of a call says
-abbrev pub Ends : List ℕ → ℕ → ℕ → List ℕ → List ℕ → ℕ → ℕ → Site → ℕ → (CallSite → Part) → Ended → Type 0
-Ends s a p old out n x si k F (Upto q e) = Called s a p old out n x si k F q e
-Ends s a p old out n x si k F (NoEnd f q) =
-    (q ≤ length s) × ((pl : CallSite) → siteOf pl ≡ si → tags (piecesOf pl) ≡ k → (pr : Prior)
-    → run s a pr false p (F pl) ≡ refusedAt (faultOf f) q)
-
 -- a whole call, in a pattern of k tags
 abbrev pub CalledFrom : List ℕ → ℕ → ℕ → List ℕ → List ℕ → ℕ → Mark → Site → ℕ → Ended → Type 0
 CalledFrom s a p old out n m si k r = Ends s a p old out n 0 si k (λ pl. calling pl (begun m)) r
-
--- the lent bytes behind an answer: a refusal leaves zeros
-abbrev pub leftBy : List ℕ → Ended → List ℕ
-leftBy out (Upto q e) = out
-leftBy out (NoEnd f q) = replicate (length out) 0
-
--- that a refusal leaves zeros
-abbrev pub Zeroed : List ℕ → List ℕ → Ended → Type 0
-Zeroed old out (Upto q e) = Unit {0}
-Zeroed old out (NoEnd f q) = out ≡ replicate (length old) 0
 
 -- what reading a whole call says of the answer and of all lent bytes
 pub record CallRead (s : List ℕ) (a p : ℕ) (old out : List ℕ) (n : ℕ) (m : Mark) (si : Site) (k : ℕ) (r : Ended) : Type 0 where
@@ -183,73 +146,11 @@ Asks mk si sg c m (Insert code) =
 Asks mk si sg c m Wrong =
     (i : ℕ) (v : Move) → m ≡ moveCode v → (isStill v ≡ true → (isSign c && sg) ≡ false) → callByte si (named mk i v) c ≡ wrong
 
--- that a number, which has a digit if m, is not closed by z, or is none from 1 to top
-abbrev pub Unclosed : ℕ → ℕ → Bool → ℕ → ℕ → Bool → Type 0
-Unclosed b z m v top true = (b ≡ z → ⊥) ⊎ ((b ≡ z) × ((m ≡ false) ⊎ ((m ≡ true) × ((v < 1) ⊎ (top < v)))))
-Unclosed b z m v top false = (b ≡ z) × (m ≡ true) × (1 ≤ v) × (v ≤ top)
-
 -- behind a tag's number w, of which v is kept
 abbrev pub TagFrom : List ℕ → ℕ → ℕ → List ℕ → List ℕ → ℕ → ℕ → ℕ → Ended → Type 0
 TagFrom s a p old out n v k r = (w : ℕ) → v ≡ most w → (si : Site) → Ends s a p old out n 0 si k (λ pl. calling pl (tagged w)) r
 
--- TEXT
-
--- what a byte of a text of k bytes says, spelled from p up to q
-abbrev pub Texting : List ℕ → ℕ → ℕ → ℕ → Next → Type 0
-Texting s a p k (Byte b q) =
-    (p ≤ q) × (q < length s) × (q ≤ a + 512) × (k < 100)
-    × ((pl : CallSite) (i : ℕ) (v : Move) (t : List ℕ) → length t ≡ k → (pr : Prior)
-    → run s a pr false p (callText pl i v t) ≡ run s a pr false (q + 1) (callText pl i v (b ∷ t)))
-Texting s a p k (NoByte f q) =
-    (q ≤ length s) × ((pl : CallSite) (i : ℕ) (v : Move) (t : List ℕ) → length t ≡ k → (pr : Prior)
-    → run s a pr false p (callText pl i v t) ≡ refusedAt (faultOf f) q)
-
--- the text t, newest byte first, read from p up to q and written from n up to e
-pub record TextRead (s : List ℕ) (a p : ℕ) (old out : List ℕ) (n q e : ℕ) : Type 0 where
-  pub text : List ℕ
-  pub wrote : Wrote old out n (reverse text)
-  pub used : e ≡ n + length text
-  pub short : length text ≤ 100
-  pub room : length text < q - p
-  pub reached : Reached s a q
-  pub answer : (pl : CallSite) (i : ℕ) (v : Move) (pr : Prior)
-      → run s a pr false p (callText pl i v []) ≡ run s a pr false q (calling pl (texted i v text))
-
--- what reading the text of `&(i:text:)` gives
-abbrev pub TextFrom : List ℕ → ℕ → ℕ → List ℕ → List ℕ → ℕ → Ended → Type 0
-TextFrom s a p old out n (Upto q e) = TextRead s a p old out n q e
-TextFrom s a p old out n (NoEnd f q) =
-    (q ≤ length s) × ((pl : CallSite) (i : ℕ) (v : Move) (pr : Prior)
-    → run s a pr false p (callText pl i v []) ≡ refusedAt (faultOf f) q)
-
--- behind a text of k bytes
-unfoldable pub padding : ℕ → List ℕ
-padding k = pick (eqb (k % 2) 0) [] (0 ∷ [])
-
--- around a text from n + 4 up to e: first its padding, then its length, then the item of the letter i with a move of the code m
-abbrev pub PutStore : List ℕ → List ℕ → ℕ → ℕ → ℕ → ℕ → ℕ → Type 0
-PutStore old out n e i m r =
-    (r ≡ e + length (padding (e - (n + 4)))) × (padded : List ℕ) × (sized : List ℕ) × (length padded ≡ length old)
-    × (length sized ≡ length old)
-    × Wrote old padded e (padding (e - (n + 4))) × Wrote padded sized (n + 2) (43 ∷ (e - (n + 4)) ∷ [])
-    × Wrote sized out n ((72 + m) ∷ i ∷ [])
-
--- behind the `:` of the letter i, whose move has the code m
-abbrev pub StoreFrom : List ℕ → ℕ → ℕ → List ℕ → List ℕ → ℕ → ℕ → ℕ → Ended → Type 0
-StoreFrom s a p old out n i m r =
-    (v : Move) → m ≡ moveCode v → (si : Site) (k : ℕ) → Ends s a p old out n 4 si k (λ pl. callText pl i v []) r
-
 -- REFUSALS HANDED ON
-
--- a refusal of a byte handed on
-abbrev pub nextEnd : Next → Ended
-nextEnd (Byte b q) = NoEnd Incomplete q
-nextEnd (NoByte f q) = NoEnd f q
-
--- a refusal of a number handed on
-abbrev pub numberEnd : Number → Ended
-numberEnd (Got n m b q) = NoEnd Incomplete q
-numberEnd (NoNumber f q) = NoEnd f q
 
 -- a refusal of a letter with its sign handed on
 abbrev pub nameEnd : Name → Ended

@@ -1,13 +1,10 @@
 // Reads calls. What each answer says of the machine of the definitions stands in specs/.
 pub mod calls;
-pub mod ends;
 
 use read_scan::FileFault;
 
-// The entries of a stack, the bytes of an entry, and the largest counter.
+// The entries of a stack, and the largest counter.
 pub(crate) const MOST_ENTRIES: u64 = 20;
-
-pub(crate) const MOST_ENTRY_BYTES: usize = 100;
 
 pub(crate) const MOST_COUNTER: u64 = 999_999_999;
 
@@ -30,10 +27,4 @@ pub(crate) enum Tail {
     Set(u8, u64),
     Insert(u8),
     Wrong,
-}
-
-// The place behind what was read, and the end of the items written; or a refusal with its place.
-pub enum Ended {
-    Upto(usize, usize),
-    Refused(FileFault, usize),
 }

@@ -17,23 +17,25 @@ use Rattle.form_items.specs.Items.{Wrote}
 use Rattle.form_table.proofs.Actions.{slot-length}
 use Rattle.read_scan.specs.Scan.{MacroRead}
 use Rattle.read_scan.specs.Scan.MacroRead.{refusedAt as noneAt, patternTo, macroTo as oneTo}
-use Rattle.read_file.specs.Next.{nextFrom}
-use Rattle.read_file.specs.Next.Coming.{refusedAt}
-use Rattle.read_file.specs.NextLaw.{readOn}
-use Rattle.read_file.specs.File.{started, startedBehind, comes, ended, macroAt, Macroed, MacroFrom, ReadsMacro, usedBytes, slotOf}
-use Rattle.read_file.specs.File.{Seeks, InSlot, NextSlot, Adds, AddsFrom, noStart, noMacro, noneFound}
+use Rattle.read_start.specs.Next.{nextFrom}
+use Rattle.read_start.specs.Next.Coming.{refusedAt}
+use Rattle.read_start.specs.NextLaw.{readOn}
+use Rattle.read_file.specs.File.{slotOf}
+use Rattle.read_macro.specs.OneMacro.{ended, macroAt, Macroed, MacroFrom, ReadsMacro, usedBytes}
+use Rattle.read_start.specs.Start.{started, startedBehind, comes, Seeks}
+use Rattle.read_file.specs.File.{InSlot, NextSlot, Adds, AddsFrom, noStart, noMacro, noneFound}
 use Rattle.read_scan.specs.declared.FileFault.{FileFault}
 use Rattle.read_scan.specs.declared.FileFault.the-variants.{TooManyMacros}
-use Rattle.read_file.specs.declared.Head.{Head}
-use Rattle.read_file.specs.declared.Built.{Built}
-use Rattle.read_file.specs.declared.Built.the-variants.{Made, Refused as NoMacro}
-use Rattle.read_file.specs.declared.Seek.{Seek}
-use Rattle.read_file.specs.declared.Seek.the-variants.{Start, Done, Skipping}
+use Rattle.read_macro.specs.declared.Head.{Head}
+use Rattle.read_macro.specs.declared.Built.{Built}
+use Rattle.read_macro.specs.declared.Built.the-variants.{Made, Refused as NoMacro}
+use Rattle.read_start.specs.declared.Seek.{Seek}
+use Rattle.read_start.specs.declared.Seek.the-variants.{Start, Done, Skipping}
 use Rattle.read_file.specs.declared.Found.{Found}
 use Rattle.read_file.specs.declared.Found.the-variants.{Macro as MacroUpTo, End, Refused as NotFound}
 use Rattle.read_file.specs.declared.Added.{Added}
 use Rattle.form_items.proofs.Writing.{wrote-none, wrote-behind}
-use Rattle.read_file.proofs.Coming.{read-next}
+use Rattle.read_start.proofs.Coming.{read-next}
 
 -- SLOTS
 

@@ -1,6 +1,3 @@
-pub mod Joining
-pub mod Coming
-pub mod Seeking
 pub mod Storing
 pub mod Adding
 pub mod Restoring

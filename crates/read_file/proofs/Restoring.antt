@@ -22,11 +22,12 @@ use Rattle.form_table.specs.Form.{slotBytes, tableBytes, slots, form}
 use Rattle.form_table.proofs.Tables.{slots-size, formSize}
 use Rattle.read_scan.specs.Scan.{faultOf}
 use Rattle.form_items.specs.Items.{Wrote}
-use Rattle.read_file.specs.File.{WholeFile, Adds, AddsFrom, Lent, Onto, notPlain, macrosBy, tableOf}
-use Rattle.read_file.specs.File.WholeFile.{plain, long, zeroed}
+use Rattle.read_file.specs.File.{Adds, AddsFrom, Lent, Onto, notPlain, macrosBy, tableOf}
+use Rattle.read_start.specs.Start.{WholeFile}
+use Rattle.read_start.specs.Start.WholeFile.{plain, long, zeroed}
 use Rattle.read_scan.specs.declared.FileFault.{FileFault}
-use Rattle.read_file.specs.declared.FileTest.{FileTest}
-use Rattle.read_file.specs.declared.FileTest.the-variants.{Plain, Refused as NotPlain}
+use Rattle.read_start.specs.declared.FileTest.{FileTest}
+use Rattle.read_start.specs.declared.FileTest.the-variants.{Plain, Refused as NotPlain}
 use Rattle.read_file.specs.declared.Added.{Added}
 use Rattle.read_file.specs.declared.Added.the-variants.{All, Refused as NotAll}
 use Rattle.read_file.specs.declared.Reading.{Reading}

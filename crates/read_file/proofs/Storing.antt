@@ -9,8 +9,9 @@ use lib.ListN.{length, getD, take, set, replicate}
 use lib.Seq.{take-suc, length-take-le}
 use Rattle.form_table.specs.Form.{two}
 use Rattle.form_items.specs.Items.{Wrote}
-use Rattle.read_file.specs.File.{headBytes, usedBytes, slotOf}
-use Rattle.read_file.specs.declared.Head.{Head}
+use Rattle.read_file.specs.File.{slotOf}
+use Rattle.read_macro.specs.OneMacro.{headBytes, usedBytes}
+use Rattle.read_macro.specs.declared.Head.{Head}
 use Rattle.form_items.proofs.Writing.{wrote-one, wrote-behind}
 
 pub wrote-take : {a b : List ℕ} {n : ℕ} (f : List ℕ) (i : ℕ) → Wrote a b n (take i f) → i < length f → n + i < length b → Wrote a (set b (n + i) (getD f i 0)) n (take (i + 1) f)

@@ -1,5 +1,4 @@
 // Storing a macro in its slot of a table.
-use crate::Head;
 use crate::SLOT_BYTES;
 use form_items::clear;
 use form_items::layout::BEFORE_AT;
@@ -8,12 +7,14 @@ use form_items::layout::HEADER_BYTES;
 use form_items::layout::PATTERN_AT;
 use form_items::layout::REPLACEMENT_AT;
 use form_items::put_item;
+use read_macro::Head;
 ghost use Prim.Native.Nat.{_≤_, _<_, _+_};
 ghost use lib.ListN.{length, take};
 ghost use Rattle.macros.specs.Bounds.{mostTags};
 ghost use Rattle.form_table.specs.Form.{slotBytes, bodyBytes, two};
 ghost use Rattle.form_items.specs.Items.{Wrote};
-ghost use Rattle.read_file.specs.File.{headBytes, usedBytes, slotOf};
+ghost use Rattle.read_macro.specs.OneMacro.{headBytes, usedBytes};
+ghost use Rattle.read_file.specs.File.{slotOf};
 
 // A number of two bytes, low byte first.
 fn put_two(out: &mut [u8], n: usize, v: usize)

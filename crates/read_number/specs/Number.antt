@@ -1,9 +1,10 @@
 -- Numbers of any length, and what a run of digits does in every state that takes them.
-use Prim.Native.Nat.{ℕ, _+_, _-_, _*_, _≤_}
+use Prim.Native.Nat.{ℕ, _+_, _-_, _*_, _≤_, _<_}
 use mathlib.Core.Path.{_≡_}
 use mathlib.Core.Bool.{Bool, true, false}
 use mathlib.Core.List.{List, [], _∷_}
 use mathlib.Core.Option.{Option, none, some}
+use mathlib.Core.Logic.{_⊎_}
 use lib.Dec.{ltb}
 use lib.ListN.{length}
 use Rattle.macros.specs.Bounds.{mostCounter}
@@ -17,6 +18,8 @@ use Rattle.read_scan.specs.Scan.MacroRead.{refusedAt}
 use Rattle.read_scan.specs.declared.FileFault.the-variants.{Incomplete}
 use Rattle.read_scan.specs.declared.Next.{Next}
 use Rattle.read_scan.specs.declared.Next.the-variants.{Byte, Refused as NoByte}
+use Rattle.read_ends.specs.declared.Ended.{Ended}
+use Rattle.read_ends.specs.declared.Ended.the-variants.{Refused as NoEnd}
 use Rattle.read_number.specs.declared.Number.{Number}
 use Rattle.read_number.specs.declared.Number.the-variants.{Got, Refused as NoNumber}
 
@@ -91,3 +94,15 @@ Counts s a p sp (Got n m b q) =
 Counts s a p sp (NoNumber f q) =
     (q ≤ length s) × ((F : Option ℕ → Part) → Eats sp F → (pr : Prior) → run s a pr false p (F none) ≡ refusedAt (faultOf f) q)
     × (NoNumber f q ≡ numberFrom s a p sp)
+
+-- HOW A NUMBER ENDS
+
+-- a refusal of a number handed on
+abbrev pub numberEnd : Number → Ended
+numberEnd (Got n m b q) = NoEnd Incomplete q
+numberEnd (NoNumber f q) = NoEnd f q
+
+-- that a number, which has a digit if m, is not closed by z, or is none from 1 to top
+abbrev pub Unclosed : ℕ → ℕ → Bool → ℕ → ℕ → Bool → Type 0
+Unclosed b z m v top true = (b ≡ z → ⊥) ⊎ ((b ≡ z) × ((m ≡ false) ⊎ ((m ≡ true) × ((v < 1) ⊎ (top < v)))))
+Unclosed b z m v top false = (b ≡ z) × (m ≡ true) × (1 ≤ v) × (v ≤ top)

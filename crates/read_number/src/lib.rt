@@ -1,5 +1,6 @@
 // Numbers of a macro file: digits of any number, taken by their value.
 use read_bytes::is_digit;
+use read_ends::Ended;
 use read_scan::FileFault;
 use read_scan::Next;
 use read_scan::scan::next_byte;
@@ -9,7 +10,7 @@ ghost use Prim.Native.Nat.{_≤_, _*_, _+_, _-_};
 ghost use Rattle.macros.specs.Bounds.{mostCounter};
 ghost use Rattle.macros.specs.Macro.{digit};
 ghost use Rattle.read_scan.specs.Scan.{Reached};
-ghost use Rattle.read_number.specs.Number.{Counts, most, numberFault};
+ghost use Rattle.read_number.specs.Number.{Counts, Unclosed, most, numberFault, numberEnd};
 
 // A number, at most 1,000,000,000, whether it has a digit, and the byte behind it with its place.
 pub enum Number {
@@ -73,4 +74,35 @@ pub fn digits(s: &[u8], a: usize, first: usize, spaces: bool) -> Number
             at = q + 1;
         }
     }
+}
+
+// HOW A NUMBER ENDS
+
+// A number's refusal, as that of the part it belongs to. Callers hand on nothing else.
+pub fn number_end(n: Number) -> Ended
+    ensures { λ r. ⌜ r ≡ numberEnd n ⌝ }
+{
+    match n {
+        Number::Got(_, _, _, q) => Ended::Refused(FileFault::Incomplete, q),
+        Number::Refused(f, q) => Ended::Refused(f, q),
+    }
+}
+
+// Whether a number, which may have no digit, is not closed by `close`, or is none from 1 to `top`.
+pub fn unclosed(b: u8, close: u8, some: bool, v: u64, top: u64) -> bool
+    ensures { λ r. ⌜ Unclosed b close some v top r ⌝ }
+{
+    if b != close {
+        return true;
+    }
+    if !some {
+        return true;
+    }
+    if v < 1 {
+        return true;
+    }
+    if top < v {
+        return true;
+    }
+    false
 }

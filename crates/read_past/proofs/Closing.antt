@@ -18,9 +18,9 @@ use Rattle.faults.specs.Refusal.RecoverRefusal.{asBefore}
 use Rattle.faults.specs.Recover.{recover, recoverFrom}
 use Rattle.faults.specs.Recover.Recovered.{refused}
 use Rattle.form_faults.specs.Form.{faultsBytes}
-use Rattle.read_file.specs.File.{WholeFile}
-use Rattle.read_file.specs.File.WholeFile.{plain, long, zeroed}
-use Rattle.read_file.specs.declared.FileTest.{FileTest}
+use Rattle.read_start.specs.Start.{WholeFile}
+use Rattle.read_start.specs.Start.WholeFile.{plain, long, zeroed}
+use Rattle.read_start.specs.declared.FileTest.{FileTest}
 use Rattle.read_file.proofs.Restoring.{Refuses}
 use Rattle.read_past.specs.Past.{Answered, ReadsPast, notPlain}
 use Rattle.read_past.specs.declared.Past.{Past}

@@ -1,4 +1,3 @@
-pub mod Searching
 pub mod Stretching
 pub mod Standing
 pub mod Closing

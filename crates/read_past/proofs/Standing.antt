@@ -7,15 +7,15 @@ use mathlib.Core.Option.{Option, none, some}
 use Prim.Native.Nat.{ℕ, suc, _+_, _-_, _*_, _≤_, _<_}
 use native.Mathlib.Omega.{arith}
 use borrow.Author.Tests.{le-ltb}
-use lib.ListN.{length, take, drop, replicate, length-append, length-drop, length-replicate, length-reverse, replicate-append-replicate}
-use lib.Seq.{take-at, drop-at, drop-append-add}
-use Rattle.form_bytes.specs.Fours.{four, withNumber}
+use lib.ListN.{length, take, drop, replicate, length-append, length-drop, length-replicate, length-reverse}
+use lib.Seq.{take-at, drop-append-add}
+use Rattle.form_bytes.specs.Fours.{four}
 use Rattle.macros.specs.Bounds.{mostMacros}
-use Rattle.macros.specs.Refusals.{FileRefusal, fileNumber}
+use Rattle.macros.specs.Refusals.{fileNumber}
 use Rattle.macros.specs.Macro.{Macro, Table, pick}
 use Rattle.form_table.specs.Form.{slotBytes, tableBytes, slot, slots, form}
 use Rattle.form_items.specs.Items.{Wrote}
-use Rattle.form_items.proofs.Writing.{wrote-is, wrote-of, wrote-behind}
+use Rattle.form_items.proofs.Writing.{wrote-is}
 use Rattle.faults.specs.Refusal.{mostFaults, recoverNumber, recoverPlace}
 use Rattle.faults.specs.Refusal.RecoverRefusal.{asBefore, tooManyFaults}
 use Rattle.faults.specs.Recover.{Fault, Recovered, behindFirst, isFault, recoverFrom, resumed, withFault}
@@ -23,21 +23,23 @@ use Rattle.faults.specs.Recover.Fault.{faultAt}
 use Rattle.faults.specs.Recover.Recovered.{kept, refused}
 use Rattle.faults.proofs.Exactly.{Found, look-for, listed}
 use Rattle.faults.proofs.Exactly.Found.{nowhere, there}
-use Rattle.form_faults.specs.Form.{faultItems, faultsBytes, faultsForm, listBytes}
-use Rattle.form_faults.proofs.Laws.{form-length, four-length, items-append, items-length}
+use Rattle.form_faults.specs.Form.{faultItems, faultsBytes, faultsForm}
+use Rattle.form_faults.proofs.Laws.{form-length}
 use Rattle.read_scan.specs.Scan.{faultOf}
 use Rattle.read_scan.specs.declared.FileFault.{FileFault}
-use Rattle.read_file.specs.Next.{nextFrom}
-use Rattle.read_file.specs.Next.Coming.{refusedAt, noMore}
+use Rattle.read_start.specs.Next.{nextFrom}
+use Rattle.read_start.specs.Next.Coming.{refusedAt, noMore}
 use Rattle.read_file.specs.File.{InSlot, NextSlot}
 use Rattle.read_file.specs.declared.Found.{Found as FoundNext}
 use Rattle.read_file.specs.declared.Found.the-variants.{Macro as MacroUpTo, End, Refused as NotFound}
 use Rattle.read_file.proofs.Adding.{slots-append}
-use Rattle.read_file.proofs.Coming.{next-place}
-use Rattle.read_past.specs.Past.{Answered, Lists, Moved, Notes, Standing, noFault, orZero, overWith, resumesAt, withFaults}
-use Rattle.read_past.specs.Past.Notes.{listed as noted, oneTooMany, unlisted}
-use Rattle.read_past.specs.declared.Moment.{Moment}
-use Rattle.read_past.specs.declared.Moment.the-variants.{On, Ended, Refused as Stops}
+use Rattle.read_start.proofs.Coming.{next-place}
+use Rattle.read_past.specs.Past.{Answered, Moved, Standing, noFault, overWith, withFaults}
+use Rattle.read_fault.specs.Noting.{Notes, orZero, resumesAt}
+use Rattle.read_fault.specs.Noting.Notes.{listed as noted, oneTooMany, unlisted}
+use Rattle.read_fault.specs.declared.Moment.{Moment}
+use Rattle.read_fault.specs.declared.Moment.the-variants.{On, Ended, Refused as Stops}
+use Rattle.read_fault.proofs.Listing.{zeros-drop}
 use Rattle.read_past.proofs.Stretching.{recover-end, recover-fault, recover-macro, recover-refused}
 
 -- FAULTS BEFORE THOSE OF THE REST
@@ -58,12 +60,6 @@ with-one [] f v = refl
 with-one (g ∷ fs) f v = ap (withFault g) (with-one fs f v)
 
 -- BYTES
-
-zeros-drop : (i n : ℕ) → i ≤ n → drop i (replicate {A = ℕ} n 0) ≡ replicate (n - i) 0
-zeros-drop i n h =
-    let e : i + (n - i) ≡ n = omega arith in
-    let z : replicate i 0 ++ replicate (n - i) 0 ≡ replicate {A = ℕ} n 0 = rw e at (replicate-append-replicate {A = ℕ} i (n - i) 0) in
-    ap (drop i) (sym z) ∙ drop-at (replicate i 0) (replicate (n - i) 0) i (length-replicate i 0)
 
 -- one macro more in its slot
 form-more : (ms : Table) (m : Macro) (old out : List ℕ) (n b : ℕ) → length ms ≡ n → n < mostMacros → b ≡ slotBytes * n → length (slots ms) ≡ slotBytes * n → length (slot m) ≡ slotBytes
@@ -90,79 +86,6 @@ form-more ms m old out n b l f e g h o w = sym (wrote-is w ∙ bytes)
         (sym (append-assoc (slots ms) (slot m) (replicate (slotBytes * (mostMacros - length (ms ++ (m ∷ [])))) 0))
         ∙ ap (λ (x : List ℕ). x ++ replicate (slotBytes * (mostMacros - length (ms ++ (m ∷ [])))) 0)
         (sym (slots-append ms (m ∷ []) ∙ ap (λ (x : List ℕ). slots ms ++ x) (append-nil (slot m)))))
-
--- one fault more behind the others, and their count
-module _ (old b₁ b₂ out : List ℕ) (k c q a : ℕ) (i : length old ≡ faultsBytes) (j : length b₁ ≡ faultsBytes) (h : k < mostFaults) (e : a ≡ 4 + 8 * k)
-    (x : b₁ ≡ withNumber old a c) (y : b₂ ≡ withNumber b₁ (a + 4) q) (z : out ≡ withNumber b₂ 0 (k + 1)) where
-  both : Wrote old b₂ a (four c ++ four q)
-  unfolding withNumber four
-  both = wrote-behind (wrote-of (four c) a (omega arith) x) (omega arith) (wrote-of (four q) (a + 4) (omega arith) y)
-
-  module _ (fs : List Fault) (r : FileRefusal) (o : faultsForm fs ≡ old) (l : length fs ≡ k) (t : fileNumber r ≡ c) where
-    zeros : ℕ → List ℕ
-    zeros n = replicate (listBytes - n) 0
-
-    front : List ℕ
-    front = four (length fs) ++ faultItems fs
-
-    front-length : length front ≡ a
-    unfolding front
-    front-length = let u = length-append (four (length fs)) (faultItems fs) in let v = four-length (length fs) in let w = items-length fs in omega arith
-
-    old-is : old ≡ front ++ zeros (length (faultItems fs))
-    unfolding faultsForm front zeros
-    old-is = sym o ∙ sym (append-assoc (four (length fs)) (faultItems fs) (replicate (listBytes - length (faultItems fs)) 0))
-
-    taken : take a old ≡ front
-    taken = ap (take a) old-is ∙ take-at front (zeros (length (faultItems fs))) a front-length
-
-    left : drop (a + 8) old ≡ zeros (length (faultItems fs) + 8)
-    unfolding zeros
-    left =
-        let u : a + 8 ≡ length front + 8 = omega (arith, front-length) in
-        let v : listBytes - length (faultItems fs) - 8 ≡ listBytes - (length (faultItems fs) + 8) = omega arith in
-        let w = items-length fs in
-        ap (drop (a + 8)) old-is
-        ∙ (ap (λ (n : ℕ). drop n (front ++ replicate (listBytes - length (faultItems fs)) 0)) u
-        ∙ (drop-append-add front (replicate (listBytes - length (faultItems fs)) 0) 8
-        ∙ (zeros-drop 8 (listBytes - length (faultItems fs)) (omega arith) ∙ ap (λ (n : ℕ). replicate n 0) v)))
-
-    -- the list with one more
-    listed-is : b₂ ≡ front ++ ((four c ++ four q) ++ zeros (length (faultItems fs) + 8))
-    unfolding four
-    listed-is = wrote-is both ∙ rw (taken, left)
-
-    behind-count : drop 4 b₂ ≡ faultItems fs ++ ((four c ++ four q) ++ zeros (length (faultItems fs) + 8))
-    unfolding front
-    behind-count =
-        ap (drop 4) (listed-is ∙ append-assoc (four (length fs)) (faultItems fs) ((four c ++ four q) ++ zeros (length (faultItems fs) + 8)))
-        ∙ drop-at (four (length fs)) (faultItems fs ++ ((four c ++ four q) ++ zeros (length (faultItems fs) + 8))) 4 (four-length (length fs))
-
-    out-is : out ≡ four (k + 1) ++ (faultItems fs ++ ((four c ++ four q) ++ zeros (length (faultItems fs) + 8)))
-    unfolding withNumber
-    out-is = z ∙ ap (λ (u : List ℕ). four (k + 1) ++ u) behind-count
-
-    abbrev more : List Fault
-    more = fs ++ (faultAt r q ∷ [])
-
-    items-are : faultItems more ≡ faultItems fs ++ (four c ++ four q)
-    unfolding faultItems
-    items-are =
-        items-append fs (faultAt r q ∷ [])
-        ∙ rw (t, append-nil (four q))
-
-    pub form-listed : faultsForm more ≡ out
-    unfolding faultsForm zeros
-    form-listed =
-        let u : length more ≡ k + 1 = length-append fs (faultAt r q ∷ []) ∙ omega arith in
-        let v : length (faultItems more) ≡ length (faultItems fs) + 8 = items-length more ∙ (let w = items-length fs in omega arith) in
-        ap (λ (n : ℕ). four n ++ (faultItems more ++ replicate (listBytes - length (faultItems more)) 0)) u
-        ∙ (ap (λ (n : ℕ). four (k + 1) ++ (faultItems more ++ replicate (listBytes - n) 0)) v
-        ∙ (ap (λ (b : List ℕ). four (k + 1) ++ (b ++ replicate (listBytes - (length (faultItems fs) + 8)) 0)) items-are
-        ∙ (ap (λ (b : List ℕ). four (k + 1) ++ b) (append-assoc (faultItems fs) (four c ++ four q) (replicate (listBytes - (length (faultItems fs) + 8)) 0)) ∙ sym out-is)))
-
-  pub lists-more : Lists old out k c q
-  lists-more fs r o l t = form-listed fs r o l t
 
 -- ONE MORE
 

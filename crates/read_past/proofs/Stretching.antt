@@ -19,9 +19,9 @@ use Rattle.faults.proofs.Grown.{newest, whole-newest, between-same, InMacro, in
 use Rattle.faults.proofs.Grown.InMacro.{stays, ends}
 use Rattle.faults.proofs.Stretches.{stretch-go, stretch-refuse, stretch-before}
 use Rattle.faults.proofs.Exactly.{listed, recover-stretched}
-use Rattle.read_file.specs.Next.{Coming, endsAt, nextBy, nextFrom}
-use Rattle.read_file.specs.Next.Coming.{macroTo, refusedAt, noMore}
-use Rattle.read_file.proofs.Coming.{next-by, behind-drop}
+use Rattle.read_start.specs.Next.{Coming, endsAt, nextBy, nextFrom}
+use Rattle.read_start.specs.Next.Coming.{macroTo, refusedAt, noMore}
+use Rattle.read_start.proofs.Coming.{next-by, behind-drop}
 use Rattle.read_past.specs.StretchLaw.{stretchOn, StretchNext}
 
 module _ (s : List ℕ) where

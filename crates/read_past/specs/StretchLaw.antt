@@ -9,8 +9,8 @@ use Rattle.macros.specs.ReadFile.Pending.{clear}
 use Rattle.macros.specs.ReadFile.Reader.{between}
 use Rattle.faults.specs.Recover.{Stretch, stretch}
 use Rattle.faults.specs.Recover.Stretch.{toEnd, toRefusal}
-use Rattle.read_file.specs.Next.{Coming, nextFrom}
-use Rattle.read_file.specs.Next.Coming.{macroTo, refusedAt, noMore}
+use Rattle.read_start.specs.Next.{Coming, nextFrom}
+use Rattle.read_start.specs.Next.Coming.{macroTo, refusedAt, noMore}
 
 -- the file s, by what comes next behind the macros ms, newest first
 unfoldable pub stretchOn : List ℕ → List Macro → Coming → Stretch

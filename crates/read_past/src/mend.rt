@@ -1,16 +1,16 @@
 // Reading from one fault to the next, over the reader's one-macro step.
 use crate::FAULTS_BYTES;
-use crate::Moment;
 use crate::Past;
 use crate::SLOT_BYTES;
 use crate::TABLE_BYTES;
-use crate::list::note;
 use form_items::clear;
-use line_answer::file_number;
-use read_file::FileTest;
+use read_fault::Moment;
+use read_fault::note;
 use read_file::Found;
 use read_file::file::next_slot;
-use read_file::file::whole_file;
+use read_scan::file_number;
+use read_start::FileTest;
+use read_start::start::whole_file;
 ghost use mathlib.Core.Path.{_≡_};
 ghost use Prim.Native.Nat.{_≤_};
 ghost use lib.ListN.{length, replicate};

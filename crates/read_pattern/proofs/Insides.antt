@@ -15,13 +15,14 @@ use Rattle.macros.specs.ReadSoFar.Part.{pattern}
 use Rattle.form_table.specs.Form.{pieceItems, patternItems}
 use Rattle.read_scan.specs.Scan.{run, Here, Passes}
 use Rattle.form_items.specs.Items.{Wrote, itemsOf}
-use Rattle.read_pattern.specs.Pattern.{IsElement, Pieced, Pieces, Fits, Grown, Ends, Reads, Begins, Starts, behindLeft, behindRight, behindElement, insideFault, pieceFault, innerFault, wholeFault}
+use Rattle.read_pattern.specs.Pattern.{Fits, Grown, Ends, Reads, Begins, Starts, behindLeft, behindRight, behindElement, insideFault, pieceFault, innerFault, wholeFault}
+use Rattle.read_element.specs.Element.{IsElement, Pieced, Pieces}
 use Rattle.read_scan.specs.declared.FileFault.{FileFault}
 use Rattle.read_scan.specs.declared.FileFault.the-variants.{BadBrace, NoElement, MacroTooLong}
 use Rattle.read_scan.specs.declared.Next.{Next}
 use Rattle.read_scan.specs.declared.Next.the-variants.{Byte, Refused as NoByte}
-use Rattle.read_pattern.specs.declared.Put.{Put}
-use Rattle.read_pattern.specs.declared.Put.the-variants.{At as PutAt, Refused as NoPut}
+use Rattle.read_ends.specs.declared.Ended.{Ended}
+use Rattle.read_ends.specs.declared.Ended.the-variants.{Upto, Refused as NoEnd}
 use Rattle.read_pattern.specs.declared.PatternSoFar.{PatternSoFar}
 use Rattle.read_pattern.specs.declared.Inside.{Inside}
 use Rattle.read_pattern.specs.declared.Inside.the-variants.{Closed, Quote, Refused as NoInside}
@@ -29,7 +30,7 @@ use Rattle.read_pattern.specs.declared.Whole.{Whole}
 use Rattle.read_pattern.specs.declared.Whole.the-variants.{Pattern, Refused as NoWhole}
 use Rattle.read_scan.proofs.Laws.{reached-behind}
 use Rattle.form_items.proofs.Writing.{wrote-none, wrote-more, wrote-all}
-use Rattle.read_pattern.proofs.Signs.{at-left, at-full, at-right, at-unmatched, at-unclosed, at-empty, at-quote, at-late-quote}
+use Rattle.read_pattern.proofs.Braces.{at-left, at-full, at-right, at-unmatched, at-unclosed, at-empty, at-quote, at-late-quote}
 
 -- ITEMS
 
@@ -187,15 +188,15 @@ module _ {s : List ℕ} {a p v : ℕ} {f g : PatternSoFar} {x y : List ℕ} (k :
         record { is = (omega (arith, near .stands .there), λ ps c pr. there .answer ps c pr ∙ at-full near pr (there .pieces ++ ps) h (omega (arith, there .fits ps c .0))) }
 
     -- an element
-    module _ {out : List ℕ} {o : Put} (w : Pieces s a q y out (g .used) o) where
-      pub reads-no-piece : (fin : List ℕ) {h : FileFault} {n : ℕ} {i : Inside} → o ≡ NoPut h n → i ≡ pieceFault o → Reads s a p f x fin i
+    module _ {out : List ℕ} {o : Ended} (w : Pieces s a q y out (g .used) o) where
+      pub reads-no-piece : (fin : List ℕ) {h : FileFault} {n : ℕ} {i : Inside} → o ≡ NoEnd h n → i ≡ pieceFault o → Reads s a p f x fin i
       reads-no-piece fin {h} {n} j c =
-          let u : Pieces s a q y out (g .used) (NoPut h n) = rw j at w in
+          let u : Pieces s a q y out (g .used) (NoEnd h n) = rw j at w in
           rw (c ∙ ap pieceFault j) (record { is = (u .is .0, λ ps d pr. there .answer ps d pr ∙ u .is .1 (there .pieces ++ ps) pr) })
 
-      module _ {m n : ℕ} (j : o ≡ PutAt m n) where
+      module _ {m n : ℕ} (j : o ≡ Upto m n) where
         pub its-piece : Pieced s a q y out (g .used) m n
-        its-piece = let u : Pieces s a q y out (g .used) (PutAt m n) = rw j at w in u .is
+        its-piece = let u : Pieces s a q y out (g .used) (Upto m n) = rw j at w in u .is
 
         pub grown-element : Grown s a p f m (behindElement g n) x out
         grown-element = grown-then there (grown-piece its-piece)

@@ -1,4 +1,2 @@
-pub mod Classes
-pub mod Signs
-pub mod Elements
+pub mod Braces
 pub mod Insides

@@ -24,11 +24,11 @@ use Rattle.macros.specs.Accepted.{Each, Spellable}
 use Rattle.macros.proofs.Pending.{after, after-go, read-after}
 use Rattle.macros.proofs.ReadOnto.{read-plain}
 use Rattle.macros.proofs.Paid.{SpelledIn, produced}
-use Rattle.read_file.specs.Next.{Coming, endsAt, onward, nextBy, nextFrom}
-use Rattle.read_file.specs.Next.Coming.{macroTo, refusedAt, noMore}
-use Rattle.read_file.proofs.Coming.{Steps, between-steps, Inner, inside-steps, next-by}
-use Rattle.read_file.proofs.Coming.Steps.{stays, enters, refuses, refusesBefore}
-use Rattle.read_file.proofs.Coming.Inner.{keeps, leaves, stops}
+use Rattle.read_start.specs.Next.{Coming, endsAt, onward, nextBy, nextFrom}
+use Rattle.read_start.specs.Next.Coming.{macroTo, refusedAt, noMore}
+use Rattle.read_start.proofs.Coming.{Steps, between-steps, Inner, inside-steps, next-by}
+use Rattle.read_start.proofs.Coming.Steps.{stays, enters, refuses, refusesBefore}
+use Rattle.read_start.proofs.Coming.Inner.{keeps, leaves, stops}
 
 -- BYTES
 

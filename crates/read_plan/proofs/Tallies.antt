@@ -30,14 +30,15 @@ use Rattle.plans.proofs.Most.{Larger, larger-is}
 use Rattle.plans.proofs.Most.Larger.{first, second}
 use Rattle.read_scan.specs.Scan.{faultOf}
 use Rattle.read_scan.specs.declared.FileFault.{FileFault}
-use Rattle.read_file.specs.Next.{nextFrom}
-use Rattle.read_file.specs.NextLaw.{readOn}
-use Rattle.read_file.specs.File.{InSlot, NextSlot, WholeFile, notPlain}
-use Rattle.read_file.specs.declared.FileTest.{FileTest}
-use Rattle.read_file.specs.declared.FileTest.the-variants.{Plain, Refused as NotPlain}
+use Rattle.read_start.specs.Next.{nextFrom}
+use Rattle.read_start.specs.NextLaw.{readOn}
+use Rattle.read_file.specs.File.{InSlot, NextSlot, notPlain}
+use Rattle.read_start.specs.Start.{WholeFile}
+use Rattle.read_start.specs.declared.FileTest.{FileTest}
+use Rattle.read_start.specs.declared.FileTest.the-variants.{Plain, Refused as NotPlain}
 use Rattle.read_file.specs.declared.Found.{Found}
 use Rattle.read_file.specs.declared.Found.the-variants.{Macro as MacroUpTo, End, Refused as NotFound}
-use Rattle.read_file.proofs.Coming.{read-next}
+use Rattle.read_start.proofs.Coming.{read-next}
 use Rattle.read_file.proofs.Restoring.{Refuses, onto-not-plain}
 use Rattle.write_file.specs.Slots.{refusalOf}
 use Rattle.write_file.specs.Contract.{Reply, meaning, reply, SomeMacro, WritesOn}

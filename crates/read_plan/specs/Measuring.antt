@@ -5,8 +5,8 @@ use Rattle.plans.specs.Measure.Size.{bytes, unwritten}
 use Rattle.plans.specs.Measure.Measured.{takes, unread}
 use Rattle.read_scan.specs.Scan.{faultOf}
 use Rattle.read_scan.specs.declared.FileFault.the-variants.{Incomplete}
-use Rattle.read_file.specs.declared.FileTest.{FileTest}
-use Rattle.read_file.specs.declared.FileTest.the-variants.{Plain, Refused as NotPlain}
+use Rattle.read_start.specs.declared.FileTest.{FileTest}
+use Rattle.read_start.specs.declared.FileTest.the-variants.{Plain, Refused as NotPlain}
 use Rattle.write_file.specs.Slots.{refusalOf}
 use Rattle.write_file.specs.declared.Answer.{Answer}
 use Rattle.write_file.specs.declared.Answer.the-variants.{Written, Refused}

@@ -22,10 +22,11 @@ use Rattle.form_bytes.specs.Fours.{four}
 use Rattle.form_bytes.proofs.Laws.{four-there}
 use Rattle.form_table.specs.Form.{closureCode, unitCode, unitOperand, memberItems, membersItems, unitRest, pieceItems, patternItems, moveCode, callItems, actionItems, replacementItems}
 use Rattle.form_table.specs.Actions.{numberIn, textIn, actionSize}
-use Rattle.write_file.specs.Items.{closureText, unitText, braceByte, memberText, headText, tailText, itemText, patternText, nameText, numberSign, callByte, firstText, middleText, lastText, callText, openText, endText, actionText, actionsText, Whole}
-use Rattle.write_file.specs.Items.Whole.{none, next}
+use Rattle.write_pattern.specs.Items.{closureText, unitText, braceByte, memberText, headText, tailText, itemText, patternText}
+use Rattle.write_actions.specs.Items.{nameText, numberSign, callByte, firstText, middleText, lastText, callText, openText, endText, actionText, actionsText, Whole}
+use Rattle.write_actions.specs.Items.Whole.{none, next}
 use Rattle.form_table.proofs.Actions.{even-taken, action-size, action-some, action-rest}
-use Rattle.write_file.proofs.Steps.{actions-cons}
+use Rattle.write_actions.proofs.Steps.{actions-cons}
 
 -- PATTERN
 

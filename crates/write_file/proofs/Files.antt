@@ -15,7 +15,7 @@ use Rattle.macros.specs.Macro.{Macro, Table, pick}
 use Rattle.macros.specs.Refusals.FileRefusal.{fileTooLong, macroTooLong}
 use Rattle.macros.specs.Write.{Written, written, writeFrom}
 use Rattle.macros.specs.Write.Written.{refused, file}
-use Rattle.write_file.specs.Puts.{Puts}
+use Rattle.write_put.specs.Puts.{Puts}
 use Rattle.write_file.specs.Slots.{limitOf, faultOf, answerOf, refusalOf, Adds}
 use Rattle.write_file.specs.declared.WritingFault.{WritingFault}
 use Rattle.write_file.specs.declared.WritingFault.the-variants.{MacroTooLong, FileTooLong}

@@ -1,5 +1,3 @@
-pub mod Putting
-pub mod Steps
 pub mod Decoded
 pub mod Slotted
 pub mod Tabled

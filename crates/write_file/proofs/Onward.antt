@@ -19,8 +19,11 @@ use Rattle.macros.specs.WriteRefusals.{WritesWell}
 use Rattle.macros.specs.WriteRefusals.WritesWell.{whole, long, full}
 use Rattle.macros.specs.Accepted.{Spellable}
 use Rattle.macros.proofs.WriteRefusals.{writes-whole}
-use Rattle.form_table.specs.Form.{slot}
-use Rattle.write_file.specs.Puts.{Puts}
+use Rattle.form_table.specs.Form.{slot, headerBytes}
+use Rattle.write_put.specs.Puts.{Counts}
+use Rattle.write_pattern.specs.Items.{patternText}
+use Rattle.write_actions.specs.Items.{actionsText}
+use Rattle.write_file.specs.Slots.{beforeEnd, patternEnd, replacementEnd, commandsEnd, part, beforeText, leftText, rightText}
 use Rattle.write_file.specs.Slots.{limitOf, faultOf, answerOf, capped, refusalOf, slotText, Parts}
 use Rattle.write_file.specs.Contract.{Reply, meaning, reply, SomeMacro, SoFar, WritesOn}
 use Rattle.write_file.specs.Contract.Reply.{size, refusal}
@@ -37,15 +40,26 @@ use Rattle.write_file.proofs.Tabled.{body-room}
 pub macro-parts : {t : List ℕ} → SomeMacro t → Parts t
 macro-parts x = rw (← x .2) (slot-parts (x .0) (body-room (x .0) (x .1)))
 
--- its bytes, put into a line of 512
-module _ {text old new : List ℕ} {n : ℕ} (p : Puts 0 text old new n) (l : length old ≡ 512) where
-  pub size-over : 512 < n → 513 ≡ capped (length text)
-  unfolding capped pick
-  size-over h = let f = p .ends .full (omega arith) in rw (lt-ltb 512 (length text) (omega arith)) refl
+-- the bytes that its parts have
+abbrev partsText : List ℕ → List ℕ
+partsText s =
+    actionsText 0 (part headerBytes (beforeEnd s) s)
+    ++ (patternText 0 (part (beforeEnd s) (patternEnd s) s)
+    ++ (actionsText 0 (part (patternEnd s) (replacementEnd s) s) ++ actionsText 0 (part (replacementEnd s) (commandsEnd s) s)))
 
-  pub size-within : n ≤ 512 → n ≡ capped (length text)
+-- and six more: the quotes, the symbol and `;`
+six-more : (s : List ℕ) → length (slotText s) ≡ 6 + length (partsText s)
+unfolding slotText beforeText leftText rightText
+six-more s = simp length-append (omega arith)
+
+module _ (s : List ℕ) {n : ℕ} (p : Counts 6 (partsText s) n) where
+  pub size-over : 512 < n → 513 ≡ capped (length (slotText s))
   unfolding capped pick
-  size-within h = let f = p .ends .count (omega arith) in rw (le-ltb 512 (length text) (omega arith)) (omega arith)
+  size-over h = let f = p .ends .full (omega arith) in rw (lt-ltb 512 (length (slotText s)) (omega (arith, six-more s))) refl
+
+  pub size-within : n ≤ 512 → n ≡ capped (length (slotText s))
+  unfolding capped pick
+  size-within h = let f = p .ends .count (omega arith) in rw (le-ltb 512 (length (slotText s)) (omega (arith, six-more s))) (omega (arith, six-more s))
 
 pub capped-small : (n : ℕ) → capped n ≤ 513
 unfolding capped

@@ -17,7 +17,7 @@ use Rattle.macros.specs.Write.{writePattern, writeText, commandsBytes, symbolSi
 use Rattle.form_table.specs.Check.{twoAt, itemsAt}
 use Rattle.form_table.specs.Form.{memberItems, membersItems, unitRest, pieceItems, patternItems, callsItems, replacementItems, symbolCode, body}
 use Rattle.form_table.specs.Form.{headerBytes, bodyBytes, slot, slotBytes}
-use Rattle.write_file.specs.Items.{actionsText, Whole}
+use Rattle.write_actions.specs.Items.{actionsText, Whole}
 use Rattle.write_file.specs.Slots.{beforeEnd, patternEnd, replacementEnd, commandsEnd, symbolByte, part}
 use Rattle.write_file.specs.Slots.{beforeText, leftText, rightText, slotText, Parts}
 use Rattle.form_table.proofs.Sizes.{body-length}

@@ -1,4 +1,2 @@
-pub mod Puts
-pub mod Items
 pub mod Slots
 pub mod Contract

@@ -13,7 +13,8 @@ use Rattle.macros.specs.Write.Written.{refused, file}
 use Rattle.macros.specs.Accepted.{Accepted}
 use Rattle.form_table.specs.Check.{twoAt}
 use Rattle.form_table.specs.Form.{form, headerBytes, slotBytes}
-use Rattle.write_file.specs.Items.{patternText, actionsText, Whole}
+use Rattle.write_pattern.specs.Items.{patternText}
+use Rattle.write_actions.specs.Items.{actionsText, Whole}
 use Rattle.write_file.specs.declared.WritingFault.{WritingFault}
 use Rattle.write_file.specs.declared.WritingFault.the-variants.{MacroTooLong, FileTooLong}
 use Rattle.write_file.specs.declared.Answer.{Answer}

@@ -1,7 +1,4 @@
 // Writing out (01, part 7): from a table in its byte form to the macro file.
-mod actions;
-mod pattern;
-mod put;
 pub mod slots;
 
 use slots::write_slots;

@@ -1,21 +1,24 @@
 // The macros of a table, from their slots.
 use crate::Answer;
 use crate::WritingFault;
-use crate::actions::put_actions;
-use crate::actions::put_quoted;
-use crate::pattern::put_pattern;
-use crate::put::Short;
-use crate::put::put;
 use form_items::layout::BEFORE_AT;
 use form_items::layout::COMMANDS_AT;
 use form_items::layout::HEADER_BYTES;
 use form_items::layout::PATTERN_AT;
 use form_items::layout::REPLACEMENT_AT;
 use form_items::two_at;
+use write_actions::count_actions;
+use write_actions::put_actions;
+use write_pattern::count_pattern;
+use write_pattern::put_pattern;
+use write_put::Short;
+use write_put::put;
 ghost use mathlib.Core.Path.{_≡_};
+ghost use mathlib.Core.List.{_∷_};
 ghost use Prim.Native.Nat.{_≤_};
 ghost use lib.ListN.{length};
-ghost use Rattle.write_file.specs.Puts.{Puts};
+ghost use Rattle.write_put.specs.Puts.{Puts};
+ghost use Rattle.write_actions.specs.Items.{actionsText, Whole};
 ghost use Rattle.write_file.specs.Slots.{beforeEnd, patternEnd, symbolByte, beforeText, leftText, rightText, slotText};
 ghost use Rattle.write_file.specs.Slots.{limitOf, faultOf, answerOf, capped, Parts, Adds, Lists};
 ghost use Rattle.write_file.specs.Contract.{SomeTable, SomeMacro, SoFar, WritesOn};
@@ -52,6 +55,15 @@ fn put_before(file: &mut [u8], n: usize, slot: &[u8]) -> usize
 {
     let e = before_end(slot);
     put_actions(file, n, &slot[HEADER_BYTES..e])
+}
+
+// A quote and the actions behind it.
+pub fn put_quoted(file: &mut [u8], start: usize, items: &[u8]) -> usize
+    requires { ⌜ (length (now file) ≤ 32768) × Whole (now items) ⌝ }
+    ensures { λ r. ⌜ Puts start (39 ∷ actionsText 0 (now (items .entry))) (now (file .entry)) (now (file .exit)) r ⌝ }
+{
+    let n = put(file, start, Short::One(b'\''));
+    put_actions(file, n, items)
 }
 
 // The pattern in quotes, and the symbol.
@@ -159,13 +171,19 @@ pub(crate) fn write_slots(file: &mut [u8], table: &[u8]) -> Answer
 
 // ONE MACRO MORE, without its bytes
 
-// The bytes of a slot's macro; 513 stand for any more than 512.
+// The bytes of a slot's macro; 513 stand for any more than 512. Six are its quotes, symbol and `;`.
 fn written_size(slot: &[u8]) -> usize
     requires { ⌜ Parts (now slot) ⌝ }
     ensures { λ r. ⌜ r ≡ capped (length (slotText (now (slot .entry)))) ⌝ }
 {
-    let mut line = [0u8; 512];
-    let n = put_macro(&mut line, 0, slot);
+    let b = before_end(slot);
+    let p = pattern_end(slot);
+    let r = p + two_at(slot, REPLACEMENT_AT);
+    let e = r + two_at(slot, COMMANDS_AT);
+    let called = count_actions(6, &slot[HEADER_BYTES..b]);
+    let matched = count_pattern(called, &slot[b..p]);
+    let replaced = count_actions(matched, &slot[p..r]);
+    let n = count_actions(replaced, &slot[r..e]);
     if 512 < n {
         return 513;
     }

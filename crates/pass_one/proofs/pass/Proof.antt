@@ -4,7 +4,7 @@ use Prim.Native.Nat.{ℕ}
 use lib.ListN.{length, replicate, length-replicate}
 use lib.Seq.{length-take-le}
 use Rattle.pass_one.proofs.CallLaws.{pattern-letters}
-use Rattle.pass_one.proofs.LackLaws.{flags-size}
+use Rattle.pass_lack.proofs.LackLaws.{flags-size}
 use Rattle.pass_one.proofs.GoingLaws.{to-try, pass-lacks}
 use Rattle.pass_one.proofs.pass.Statement.{statement}
 use Rattle.pass_one.proofs.pass.Tie as tie
@@ -16,7 +16,7 @@ lacks-requires : tie.Need-lacks-requires
 lacks-requires c κs = let y = c .before .before .before .before .before .before .pre in let i = c .items-of .ensures in (pattern-letters _ (y .macro .0 .pattern) (i .pattern (y .macro .0) (y .macro .1)), i .fits, ap length (y .flags) ∙ flags-size _)
 
 returns : tie.Need-returns
-returns c = pass-lacks _ _ _ _ _ _ _ (c .before .before .before .before .before .before .before .before .pre) (c .before .before .items-of .ensures) (c .before .lacks .ensures (c .if1 .taken))
+returns c = pass-lacks _ _ _ _ _ _ _ (c .before .before .before .before .before .before .before .before .pre) (c .before .before .items-of .ensures) (c .before .lacks .ensures .0 (c .if1 .taken))
 
 mul-rows : tie.Need-mul-rows
 mul-rows c = omega (arith, c .before .before .items-of .ensures .fits)

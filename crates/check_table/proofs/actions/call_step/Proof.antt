@@ -1,7 +1,7 @@
 -- `check_table::actions::call_step` meets its contract. Assumes nothing.
 use mathlib.Core.Path.{_∙_, sym}
 use Rattle.check_table.specs.ActionCode.{spotOf, nextOf}
-use Rattle.check_table.proofs.ByteLaws.{bit-small}
+use Rattle.form_marks.proofs.ByteLaws.{bit-small}
 use Rattle.check_table.proofs.ActionLaws.{call-unmoved, call-below, call-above, call-insert, call-count, call-tag, call-text, call-pointer, call-counter, call-increment, call-divide, call-not}
 use native.Mathlib.Omega.{arith}
 use borrow.Author.Needs.{needs}

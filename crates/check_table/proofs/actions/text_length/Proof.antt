@@ -1,6 +1,6 @@
 -- `check_table::actions::text_length` meets its contract. Assumes nothing.
 use Rattle.form_table.specs.ActionWalk.{textLength}
-use Rattle.check_table.proofs.ByteLaws.{bit-small}
+use Rattle.form_marks.proofs.ByteLaws.{bit-small}
 use native.Mathlib.Omega.{arith}
 use borrow.Author.Needs.{needs}
 use Rattle.check_table.proofs.actions.text_length.Statement.{statement}

@@ -2,7 +2,7 @@
 use Rattle.form_table.specs.PatternWalk.{memberLength}
 use mathlib.Core.Path.{sym}
 use Rattle.check_table.proofs.PatternLaws.{inside-start}
-use Rattle.check_table.proofs.ByteLaws.{bit-small}
+use Rattle.form_marks.proofs.ByteLaws.{bit-small}
 use native.Mathlib.Omega.{arith}
 use borrow.Author.Needs.{needs}
 use Rattle.check_table.proofs.pattern.member_length.Statement.{statement}

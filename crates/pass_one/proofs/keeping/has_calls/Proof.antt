@@ -4,8 +4,9 @@ use mathlib.Core.Bool.{false≢true}
 use native.Mathlib.Omega.{arith}
 use denote.Ref.{now}
 use lib.ListN.{length, drop}
-use Rattle.pass_one.specs.Seen.{NoCall, LetterIn, Pairs}
-use Rattle.pass_one.proofs.PairLaws.{pair-whole, pair-next, pair-more, pairs-end}
+use Rattle.pass_one.specs.Seen.{NoCall}
+use Rattle.pass_lack.specs.Twos.{LetterIn, Pairs}
+use Rattle.pass_lack.proofs.PairLaws.{pair-whole, pair-next, pair-more, pairs-end}
 use borrow.Author.Needs.{needs}
 use Rattle.pass_one.proofs.keeping.has_calls.Statement.{statement}
 use Rattle.pass_one.proofs.keeping.has_calls.Tie as tie

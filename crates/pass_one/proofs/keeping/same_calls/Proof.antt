@@ -6,8 +6,9 @@ use denote.Ref.{now}
 use lib.ListN.{length, drop}
 use Rattle.lines.specs.State.{State}
 use Rattle.form_state.specs.Access.{Holds}
-use Rattle.pass_one.specs.Seen.{LetterIn, SameAt, Pairs}
-use Rattle.pass_one.proofs.PairLaws.{pair-whole, pair-here, pair-next, pair-more, pairs-end}
+use Rattle.pass_lack.specs.Twos.{LetterIn, Pairs}
+use Rattle.pass_one.specs.Seen.{SameAt}
+use Rattle.pass_lack.proofs.PairLaws.{pair-whole, pair-here, pair-next, pair-more, pairs-end}
 use Rattle.pass_one.proofs.keeping.same_calls.Statement.{statement}
 use Rattle.pass_one.proofs.keeping.same_calls.Tie as tie
 

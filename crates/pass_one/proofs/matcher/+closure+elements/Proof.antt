@@ -3,7 +3,7 @@ use mathlib.Core.Path.{refl, sym, _∙_}
 use native.Mathlib.Omega.{arith}
 use borrow.Author.Tests.{eqb-true}
 use lib.ListN.{length, length-set}
-use Rattle.pass_one.proofs.ItemLaws.{piece-here}
+use Rattle.pass_unit.proofs.ItemLaws.{piece-here}
 use Rattle.pass_one.proofs.TryLaws.{again-wide, read-inside, stands, element-here, tried-done, tried-nothing, tried-more, tried-ended, next-trying, next-inside, copied-marked, at-small, in-row, in-ends, place-small}
 use Rattle.pass_one.proofs.RowLaws.{row-small, start-place, start-small, copied-first, copied-none, upper-repeating, copied-upper, lower-repeating, copied-lower, count-inside}
 use mir.Val.{Fits}
@@ -21,12 +21,12 @@ use Rattle.pass_one.proofs.matcher.+closure+elements.Lts-elements as el
 use Rattle.pass_marks.proofs.is_marked.Reads as is-marked-reads
 use Rattle.pass_marks.proofs.set_mark.Reads as set-mark-reads
 use Rattle.pass_one.proofs.matcher.most_copies.Reads as most-copies-reads
-use Rattle.pass_one.proofs.unit.behind.Reads as behind-reads
+use Rattle.pass_unit.proofs.behind.Reads as behind-reads
 use Rattle.form_element.proofs.element_at.Reads as element-at-reads
 use Rattle.pass_one.proofs.matcher.ended.Reads as ended-reads
-use Rattle.pass_one.proofs.unit.lead_at.Reads as lead-at-reads
-use Rattle.pass_one.proofs.unit.may_repeat.Reads as may-repeat-reads
-use Rattle.pass_one.proofs.unit.width_of.Reads as width-of-reads
+use Rattle.pass_unit.proofs.lead_at.Reads as lead-at-reads
+use Rattle.pass_one.proofs.matcher.may_repeat.Reads as may-repeat-reads
+use Rattle.pass_unit.proofs.width_of.Reads as width-of-reads
 use Rattle.pass_one.proofs.matcher.+closure+elements.{statement}
 use Rattle.pass_one.proofs.matcher.+closure+elements.Tie.{close}
 

@@ -4,14 +4,14 @@ use Prim.Native.Nat.{_-_}
 use native.Mathlib.Omega.{arith}
 use borrow.Author.Tests.{eqb-true}
 use lib.ListN.{length}
-use Rattle.pass_one.proofs.ItemLaws.{unit-inside}
+use Rattle.pass_unit.proofs.ItemLaws.{unit-inside}
 use Rattle.pass_one.proofs.RowLaws.{Counted, count-start, counted-inside, step-inside, count-step, count-stop, count-marked, count-inside}
 use Rattle.pass_one.proofs.matcher.most_copies.Statement.{statement}
 use Rattle.pass_one.proofs.matcher.most_copies.Tie as tie
 use Rattle.pass_one.proofs.matcher.most_copies.Reads as reads
 use Rattle.pass_one.proofs.matcher.most_copies.Lts as lts
 use Rattle.pass_marks.proofs.is_marked.Reads as is-marked-reads
-use Rattle.pass_one.proofs.unit.copy_at.Reads as copy-at-reads
+use Rattle.pass_unit.proofs.copy_at.Reads as copy-at-reads
 
 abbrev Inv-loop : tie.InvT-loop
 Inv-loop items kinds state line at element w q marks n₀ r₀ n r = Counted items state line at w q n r

@@ -1,4 +1,4 @@
-use mathlib.Core.Path.{refl, _∙_}
+use mathlib.Core.Path.{_∙_}
 use native.Mathlib.Omega.{arith}
 use Rattle.pass_one.proofs.MomentLaws.{steps-occurred}
 use Rattle.pass_one.proofs.GoingLaws.{making, behind-first}

@@ -1,5 +1,5 @@
 use borrow.Author.Needs.{needs}
-use Prim.Native.Nat.{_+_, _-_, _≤_}
+use Prim.Native.Nat.{_-_, _≤_}
 use mathlib.Core.Path.{_≡_, refl, sym, ap, _∙_}
 use native.Mathlib.Omega.{arith}
 use lib.ListN.{length, drop}
@@ -8,8 +8,8 @@ use Rattle.form_table.specs.Actions.{actionSize}
 use Rattle.form_table.proofs.Actions.{tail-part}
 use Rattle.pass_replace.specs.Acting.{actsIn, Fits}
 use Rattle.pass_replace.proofs.Braces.{span-cut}
-use Rattle.pass_replace.proofs.Stepping.{does-room}
-use Rattle.pass_replace.proofs.Inserting.{acts-tagged, Rest, rest-all, rest-end, rest-stop, rest-next, fit-here, fit-next, fit-end}
+use Rattle.pass_steps.proofs.Stepping.{does-room}
+use Rattle.pass_replace.proofs.Acting.{acts-tagged, Rest, rest-all, rest-end, rest-stop, rest-next, fit-here, fit-next, fit-end}
 use Rattle.pass_replace.proofs.actions.act.Statement.{statement}
 use Rattle.pass_replace.proofs.actions.act.Tie as tie
 

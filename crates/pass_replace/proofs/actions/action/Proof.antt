@@ -1,7 +1,7 @@
 use mathlib.Core.Path.{refl}
 use native.Mathlib.Omega.{arith}
 use Rattle.form_table.proofs.Actions.{some-size}
-use Rattle.pass_replace.proofs.Inserting.{letter-of, changes-room, action-before, action-after}
+use Rattle.pass_replace.proofs.Acting.{letter-of, changes-room, action-before, action-after}
 use borrow.Author.Needs.{needs}
 use Rattle.pass_replace.proofs.actions.action.Statement.{statement}
 use Rattle.pass_replace.proofs.actions.action.Tie as tie

@@ -4,7 +4,7 @@ use lib.ListN.{getD}
 use Rattle.form_table.proofs.Basics.{within-low, within-high}
 use Rattle.form_table.proofs.Actions.{some-size, size-tag}
 use Rattle.pass_replace.proofs.Braces.{spans-by, spans-nothing}
-use Rattle.pass_replace.proofs.Inserting.{tagged-inserted, tagged-stored, tagged-none}
+use Rattle.pass_replace.proofs.Acting.{tagged-inserted, tagged-stored, tagged-none}
 use borrow.Author.Needs.{needs}
 use Rattle.pass_replace.proofs.actions.span_of.Statement.{statement}
 use Rattle.pass_replace.proofs.actions.span_of.Tie as tie

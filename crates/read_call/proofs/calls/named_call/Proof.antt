@@ -133,7 +133,7 @@ returns-2 c =
     let pre = c .before .before .before .before .before .before .before .before .before .before .before .before .before .before .pre in
     let tail = c .before .before .before .before .before .before .tail in
     let enum-told2 = c .before .before .before .before .enum-told2 in
-    let z = signed-at (now (args .s)) (args .a) (args .at) (args .b) (signs-in .ensures) (name .result) (name .ensures) in let t = letter-at (now (args .s)) (args .a) (args .at) (args .b) (signsIn (args .counter) (siteIs (args .site))) z (named .given .1) in mark-text (now (args .s)) (args .a) (args .at) (now (args .out)) (text-call .last .1 .0) (args .n) (siteIs (args .site)) (markOf (args .counter)) (signsIn (args .counter) (siteIs (args .site))) (names-of (args .counter) (siteIs (args .site)) (args .b) (pre .2)) t (tail .ensures) (enum-told2 .given .1) (text-call .result) (text-call .ensures)
+    let z = signed-at (now (args .s)) (args .a) (args .at) (args .b) (signs-in .ensures) (name .result) (name .ensures) in let t = letter-at (now (args .s)) (args .a) (args .at) (args .b) (signsIn (args .counter) (siteIs (args .site))) z (named .given .1) in mark-text (now (args .s)) (args .a) (args .at) (now (args .out)) (text-call .last .1 .0) (args .n) (siteIs (args .site)) (markOf (args .counter)) (signsIn (args .counter) (siteIs (args .site))) (names-of (args .counter) (siteIs (args .site)) (args .b) (pre .2)) t (tail .ensures) (enum-told2 .given .1) (text-call .result) (text-call .ensures .from)
 
 same-length-2 : tie.Need-same-length-2
 same-length-2 c = search needs

@@ -5,9 +5,9 @@ use native.Mathlib.Omega.{arith}
 use denote.Ref.{now}
 use denote.Enum.Declared.{tagOf}
 use types.Run.{OneOf}
-use Rattle.read_file.specs.declared.Seek.{Seek}
-use Rattle.read_file.specs.declared.Seek.the-variants.{Start, Done, Skipping}
-use Rattle.read_file.proofs.Seek.{the-type}
+use Rattle.read_start.specs.declared.Seek.{Seek}
+use Rattle.read_start.specs.declared.Seek.the-variants.{Start, Done, Skipping}
+use Rattle.read_start.proofs.Seek.{the-type}
 use Rattle.read_file.proofs.Adding.{NoStart, slot-ended, at-start, slot-full, slot-fault, one-made, slot-made}
 use Rattle.read_file.proofs.file.next_slot.Statement.{statement}
 use Rattle.read_file.proofs.file.next_slot.Tie as tie

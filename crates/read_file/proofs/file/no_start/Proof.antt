@@ -1,6 +1,6 @@
 use mathlib.Core.Path.{ap, sym}
 use Rattle.read_file.specs.File.{noStart}
-use Rattle.read_file.specs.declared.Seek.{Seek}
+use Rattle.read_start.specs.declared.Seek.{Seek}
 use Rattle.read_file.proofs.file.no_start.Statement.{statement}
 use Rattle.read_file.proofs.file.no_start.Tie as tie
 

@@ -9,9 +9,9 @@ use denote.Enum.Declared.{tagOf}
 use types.Run.{OneOf}
 use lib.ListN.{length}
 use Rattle.read_past.specs.Past.{Moved, Standing}
-use Rattle.read_past.specs.declared.Moment.{Moment}
-use Rattle.read_past.specs.declared.Moment.the-variants.{On, Ended, Refused}
-use Rattle.read_past.proofs.Moment.{the-type}
+use Rattle.read_fault.specs.declared.Moment.{Moment}
+use Rattle.read_fault.specs.declared.Moment.the-variants.{On, Ended, Refused}
+use Rattle.read_fault.proofs.Moment.{the-type}
 use Rattle.read_past.proofs.Standing.{IsOver, answered-by, standing-start}
 use Rattle.read_past.proofs.mend.from_start.Statement.{statement}
 use Rattle.read_past.proofs.mend.from_start.Tie as tie

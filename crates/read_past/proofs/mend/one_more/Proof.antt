@@ -11,7 +11,7 @@ use Rattle.read_file.specs.File.{NextSlot}
 use Rattle.read_file.specs.declared.Found.{Found}
 use Rattle.read_file.specs.declared.Found.the-variants.{Macro, End, Refused}
 use Rattle.read_file.proofs.Found.{the-type}
-use Rattle.read_past.specs.Past.{Notes}
+use Rattle.read_fault.specs.Noting.{Notes}
 use Rattle.read_past.proofs.Standing.{NoRefusal, list-size, moved-on, moved-refused, refusal-place, table-size}
 use Rattle.read_past.proofs.mend.one_more.Statement.{statement}
 use Rattle.read_past.proofs.mend.one_more.Tie as tie

@@ -24,7 +24,7 @@ use Rattle.read_pattern.proofs.pattern.close_tag.Reads as close-tag-rea
 use Rattle.read_pattern.proofs.pattern.inner_fault.Reads as inner-fault-reads
 use Rattle.read_pattern.proofs.pattern.inside_fault.Reads as inside-fault-reads
 use Rattle.read_pattern.proofs.pattern.open_tag.Reads as open-tag-reads
-use Rattle.read_pattern.proofs.pattern.piece.Reads as piece-reads
+use Rattle.read_element.proofs.element.piece.Reads as piece-reads
 use Rattle.read_pattern.proofs.pattern.piece_fault.Reads as piece-fault-reads
 use Rattle.read_pattern.proofs.pattern.with_element.Reads as with-element-reads
 use Rattle.read_scan.proofs.scan.next_byte.Reads as next-byte-reads
@@ -213,7 +213,7 @@ inside-same-length-6 t c = omega (arith, c .before .before .before .before .befo
 inside-returns-6 : (t : ℕ) → inside-lts.Need-returns-6 (next-byte-reads.Asked, next-byte-reads.Learnt, inside-fault-reads.Asked, inside-fault-reads.Learnt, open-tag-reads.Asked, open-tag-reads.Learnt, inside-below t, inside.Post, inner-fault-reads.Asked, inner-fault-reads.Learnt, close-tag-reads.Asked, close-tag-reads.Learnt, piece-reads.Asked, piece-reads.Learnt, piece-fault-reads.Asked, piece-fault-reads.Learnt, with-element-reads.Asked, with-element-reads.Learnt) (inside-at t) inside.Post inside-Inv-loop inside-μ-loop
 inside-returns-6 t c =
     let loop = c .before .before .before .before .before .before .before .before .before .before .before .before .before .before .loop in
-    reads-no-piece (loop .inv .5) (loop .inv .0) (c .before .before .before .before .before .before .before .before .before .before .before .before .before .next-byte .ensures) (c .before .before .before .before .before .before .before .before .before .before .before .next .given .1) (c .before .before .before .before .before .piece .ensures) _ (c .before .enum-told2 .given .1) (c .piece-fault .ensures)
+    reads-no-piece (loop .inv .5) (loop .inv .0) (c .before .before .before .before .before .before .before .before .before .before .before .before .before .next-byte .ensures) (c .before .before .before .before .before .before .before .before .before .before .before .next .given .1) (c .before .before .before .before .before .piece .ensures .from) _ (c .before .enum-told2 .given .1) (c .piece-fault .ensures)
 
 inside-with-element-requires : (t : ℕ) → inside-lts.Need-with-element-requires (next-byte-reads.Asked, next-byte-reads.Learnt, inside-fault-reads.Asked, inside-fault-reads.Learnt, open-tag-reads.Asked, open-tag-reads.Learnt, inside-below t, inside.Post, inner-fault-reads.Asked, inner-fault-reads.Learnt, close-tag-reads.Asked, close-tag-reads.Learnt, piece-reads.Asked, piece-reads.Learnt, piece-fault-reads.Asked, piece-fault-reads.Learnt, with-element-reads.Asked, with-element-reads.Learnt) (inside-at t) inside.Post inside-Inv-loop inside-μ-loop
 inside-with-element-requires t c κs = tt
@@ -225,7 +225,7 @@ inside-loop-less-2 t c =
     let next = c .before .before .before .before .before .before .before .before .before .before .before .before .next in
     let x = near (loop .inv .5) (loop .inv .0) (next-byte .ensures) (next .given .1) .stands in
     let f = found (loop .inv .5) (loop .inv .0) (next-byte .ensures) (next .given .1) .found .0 in
-    let k = its-piece (loop .inv .5) (loop .inv .0) (next-byte .ensures) (next .given .1) (c .before .before .before .before .before .before .piece .ensures) (c .before .before .put .given .1) in
+    let k = its-piece (loop .inv .5) (loop .inv .0) (next-byte .ensures) (next .given .1) (c .before .before .before .before .before .before .piece .ensures .from) (c .before .before .put .given .1) in
     omega (arith, k .further, k .reached, f)
 
 inside-loop-again-2 : (t : ℕ) → inside-lts.Need-loop-again-2 (next-byte-reads.Asked, next-byte-reads.Learnt, inside-fault-reads.Asked, inside-fault-reads.Learnt, open-tag-reads.Asked, open-tag-reads.Learnt, inside-below t, inside.Post, inner-fault-reads.Asked, inner-fault-reads.Learnt, close-tag-reads.Asked, close-tag-reads.Learnt, piece-reads.Asked, piece-reads.Learnt, piece-fault-reads.Asked, piece-fault-reads.Learnt, with-element-reads.Asked, with-element-reads.Learnt) (inside-at t) inside.Post inside-Inv-loop inside-μ-loop
@@ -237,8 +237,8 @@ inside-loop-again-2 t c =
     let put = c .before .before .put in
     let x = near (loop .inv .5) (loop .inv .0) (next-byte .ensures) (next .given .1) .stands in
     let f = found (loop .inv .5) (loop .inv .0) (next-byte .ensures) (next .given .1) .found .0 in
-    let k = its-piece (loop .inv .5) (loop .inv .0) (next-byte .ensures) (next .given .1) (piece .ensures) (put .given .1) in
-    rw (c .with-element .ensures) (omega (arith, k .further, f, loop .inv .0), k .reached, loop .inv .2, omega (arith, k .room, k .further, f, loop .inv .0, loop .inv .3), omega (arith, piece .kept, loop .inv .4), grown-element (loop .inv .5) (loop .inv .0) (next-byte .ensures) (next .given .1) (piece .ensures) (put .given .1))
+    let k = its-piece (loop .inv .5) (loop .inv .0) (next-byte .ensures) (next .given .1) (piece .ensures .from) (put .given .1) in
+    rw (c .with-element .ensures) (omega (arith, k .further, f, loop .inv .0), k .reached, loop .inv .2, omega (arith, k .room, k .further, f, loop .inv .0, loop .inv .3), omega (arith, piece .kept, loop .inv .4), grown-element (loop .inv .5) (loop .inv .0) (next-byte .ensures) (next .given .1) (piece .ensures .from) (put .given .1))
 
 pub +inside-spec : {M : Type 1} → statement M
 +inside-spec = close μ-inside λ t. inside-lts.spec (next-byte-reads.Asked, next-byte-reads.Learnt, inside-fault-reads.Asked, inside-fault-reads.Learnt, open-tag-reads.Asked, open-tag-reads.Learnt, inside-below t, inside.Post, inner-fault-reads.Asked, inner-fault-reads.Learnt, close-tag-reads.Asked, close-tag-reads.Learnt, piece-reads.Asked, piece-reads.Learnt, piece-fault-reads.Asked, piece-fault-reads.Learnt, with-element-reads.Asked, with-element-reads.Learnt)

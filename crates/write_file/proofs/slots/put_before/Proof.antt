@@ -3,8 +3,8 @@ use mathlib.Core.Path.{refl, ap}
 use native.Mathlib.Omega.{arith}
 use denote.Ref.{now}
 use Rattle.write_file.proofs.Slotted.{ordered, part-here}
-use Rattle.write_file.proofs.Putting.{by-bytes}
-use Rattle.write_file.specs.Items.{actionsText}
+use Rattle.write_put.proofs.Putting.{by-bytes}
+use Rattle.write_actions.specs.Items.{actionsText}
 use Rattle.write_file.specs.Slots.{beforeText}
 use Rattle.write_file.proofs.slots.put_before.Statement.{statement}
 use Rattle.write_file.proofs.slots.put_before.Tie as tie

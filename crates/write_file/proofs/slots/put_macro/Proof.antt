@@ -1,6 +1,6 @@
 -- Assumes nothing.
 use native.Mathlib.Omega.{arith}
-use Rattle.write_file.proofs.Putting.{also}
+use Rattle.write_put.proofs.Putting.{also}
 use Rattle.write_file.specs.Slots.{slotText}
 use Rattle.write_file.proofs.slots.put_macro.Statement.{statement}
 use Rattle.write_file.proofs.slots.put_macro.Tie as tie

@@ -2,7 +2,7 @@
 use lib.Seq.{length-take-le}
 use mathlib.Core.Path.{sym}
 use Rattle.write_file.proofs.Files.{limit-room, adds}
-use Rattle.write_file.specs.Puts.{shortText}
+use Rattle.write_put.specs.Puts.{shortText}
 use denote.Ref.{now}
 use native.Mathlib.Omega.{arith}
 use borrow.Author.Needs.{needs}

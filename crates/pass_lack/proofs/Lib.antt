@@ -1,0 +1,3 @@
+pub mod PairLaws
+pub mod LackLaws
+pub mod DifferLaws

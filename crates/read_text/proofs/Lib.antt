@@ -1,0 +1,4 @@
+pub mod Phases
+pub mod Turns
+pub mod Closing
+pub mod Texts
