@@ -37,11 +37,11 @@
    shared. m7_feed may write its table, state, output and trace: give each
    thread its own.
 
-   A table, a state, an output, a trace, a file to write to and a list of
-   faults must have the sizes M7_TABLE_BYTES, M7_STATE_BYTES, M7_OUTPUT_BYTES,
-   M7_TRACE_BYTES, M7_FILE_BYTES and M7_FAULTS_BYTES, or the call is refused
-   with 3. So must a state of the old size: M7_OLD_STATE_BYTES. A file to read,
-   a line and a word-pattern may have any size.
+   A table, a state, a state of the old size, an output, a trace, a file to
+   write to and a list of faults must have the sizes M7_TABLE_BYTES,
+   M7_STATE_BYTES, M7_OLD_STATE_BYTES, M7_OUTPUT_BYTES, M7_TRACE_BYTES,
+   M7_FILE_BYTES and M7_FAULTS_BYTES, or the call is refused with 3. A file to
+   read, a line and a word-pattern may have any size.
 
    STORING TABLES AND STATES
 
@@ -55,8 +55,9 @@
    The form of a table changed when calls could stand before a pattern: tables
    with macros that were kept from before are refused with 1, and are to be
    read again from their macro files. The form of a state changed when entries
-   came to hold 100 bytes: a state that was kept from before has the old size.
-   m7_widen makes a state of it; every other call refuses it with 3.
+   came to hold 100 bytes, that of a table did not: a state that was kept from
+   before has the old size. m7_widen makes a state of it; every call that takes
+   a state refuses it with 3.
 
    LINES FROM STRANGERS
 
@@ -189,8 +190,9 @@ typedef struct m7_answer {
    The host's mistakes, looked at first and in this order:
     3  A lent memory has another size than is stated above.
     1  The table's bytes are no table.
-    2  The state's bytes are no state: a field is out of range, a byte 0 stands
-       inside an entry's text, or an unused byte is not 0.
+    2  The state's bytes, or those of the old state, are no state: a field is
+       out of range, a byte 0 stands inside an entry's text, or an unused byte
+       is not 0.
    42  m7_narrow: the state has an entry of more than 50 bytes.
     4  The budget is over 1,000,000.
 

@@ -1,15 +1,16 @@
 -- The laws of states of the old size.
-use Prim.Native.Nat.{ℕ, _+_, _*_, _≤_}
+use Prim.Native.Nat.{ℕ, zero, suc, _+_, _*_, _≤_}
 use mathlib.Core.Path.{_≡_, refl, sym, ap, _∙_}
 use mathlib.Core.Logic.{_↔_}
 use mathlib.Core.Bool.{true}
 use mathlib.Core.List.{List, [], _∷_, _++_, append-assoc}
 use native.Mathlib.Omega.{arith}
-use lib.ListN.{length, take, drop, length-append, length-drop, take-append-drop}
+use lib.ListN.{length, take, drop, replicate, length-append, length-drop, take-append-drop}
 use lib.Seq.{take-at, drop-at, length-take-le}
-use Rattle.macros.specs.Bounds.{mostEntryBytes, oldEntryBytes}
+use Rattle.macros.specs.Bounds.{letters, mostEntries, mostEntryBytes, oldEntryBytes}
 use Rattle.macros.specs.Formed.{Octets}
-use Rattle.lines.specs.State.{Stack, State, AllOf, EntryInRange, InRange}
+use Rattle.lines.specs.State.{Stack, State, AllOf, freshStack, fresh, EntryInRange, InRange}
+use Rattle.lines.proofs.KeepState.{fresh-in-range}
 use Rattle.m_widths.specs.Widths.{bounded, widened, narrowed, Short}
 use Rattle.form_state.specs.Form.{entriesFrom, entryCount, pointersForm, valuesForm, incrementsForm, entryForm, entryFormBy, stacksFormBy, stateForm, stateFormBy}
 use Rattle.form_state.specs.Check.{blocksCheck, stateChecks}
@@ -17,7 +18,7 @@ use Rattle.form_state.proofs.Each.{each, each-length, each-all, all-map, all-ap
 use Rattle.form_state.proofs.Parts as parts
 use Rattle.form_state.proofs.Decode.{entries-count, entries-all, one-state-form, state-check-exact}
 use Rattle.form_old.specs.Old.{oldStateBytes, HoldsOld, widenedEntries, widenedBytes, narrowedEntries, narrowedBytes, shortCheck, shortEntries}
-use Rattle.form_old.specs.OldLaws.{OldSize, OldOneForm, WidensForm, OldExact, NarrowsForm, ShortExact}
+use Rattle.form_old.specs.OldLaws.{OldFresh, OldSize, OldOneForm, WidensForm, OldExact, NarrowsForm, ShortExact}
 use Rattle.form_old.proofs.Entries.{Few, widened-each, narrowed-each, back, widened-size, small-entries, all-few, few-all, widened-short}
 
 -- the front of a form, which is the same in both sizes
@@ -162,6 +163,16 @@ holds-old b st r s f =
       short = s;
       form = sym (bound-free oldEntryBytes oldEntryBytes st) ∙ f;
     }
+
+all-same : {A : Type 0} (P : A → Type 0) (n : ℕ) (x : A) → P x → AllOf P (replicate n x)
+all-same P zero x h = tt
+all-same P (suc n) x h = (h, all-same P n x h)
+
+pub old-fresh : OldFresh
+unfolding fresh freshStack
+old-fresh =
+    holds-old _ fresh fresh-in-range
+    (all-same (λ (k : Stack). AllOf Few (k .entries)) letters freshStack (all-same Few mostEntries [] (omega arith))) refl
 
 pub old-exact : OldExact
 old-exact b o l = (there, here)

@@ -15,7 +15,7 @@ use Rattle.form_state.specs.Check.{blocksCheck}
 abbrev pub oldStateBytes : ℕ
 oldStateBytes = 26236
 
--- the bytes b are the form of the old state st: it is in range but for the new bound, and no entry is over the old one
+-- the bytes b are the form of the old state st: widened it is in range, and no entry has more than 50 bytes
 pub record HoldsOld (b : List ℕ) (st : State) : Type 0 where
   pub old : IsOld st
   pub inRange : InRange (widened st)
@@ -24,15 +24,22 @@ pub record HoldsOld (b : List ℕ) (st : State) : Type 0 where
 
 -- TO THE NEW SIZE
 
--- n entries of 50 bytes, each with 50 zeros more behind it
+-- an entry of 50 bytes, with 50 zeros more behind it
+abbrev pub widenedEntry : List ℕ → List ℕ
+widenedEntry e = e ++ replicate (mostEntryBytes - oldEntryBytes) 0
+
+-- n entries
 unfoldable pub widenedEntries : ℕ → List ℕ → List ℕ
 widenedEntries zero b = []
-widenedEntries (suc n) b =
-    (take oldEntryBytes b ++ replicate (mostEntryBytes - oldEntryBytes) 0) ++ widenedEntries n (drop oldEntryBytes b)
+widenedEntries (suc n) b = widenedEntry (take oldEntryBytes b) ++ widenedEntries n (drop oldEntryBytes b)
+
+-- all entries of a state
+abbrev pub entriesWidened : List ℕ → List ℕ
+entriesWidened b = widenedEntries entryCount (drop entriesFrom b)
 
 -- a whole state: flags, pointers, values and increments stand in front of the entries in both sizes
 unfoldable pub widenedBytes : List ℕ → List ℕ
-widenedBytes b = take entriesFrom b ++ widenedEntries entryCount (drop entriesFrom b)
+widenedBytes b = take entriesFrom b ++ entriesWidened b
 
 -- TO THE OLD SIZE
 
@@ -41,11 +48,15 @@ unfoldable pub narrowedEntries : ℕ → List ℕ → List ℕ
 narrowedEntries zero b = []
 narrowedEntries (suc n) b = take oldEntryBytes b ++ narrowedEntries n (drop mostEntryBytes b)
 
+-- all entries of a state
+abbrev pub entriesNarrowed : List ℕ → List ℕ
+entriesNarrowed b = narrowedEntries entryCount (drop entriesFrom b)
+
 -- a whole state
 unfoldable pub narrowedBytes : List ℕ → List ℕ
-narrowedBytes b = take entriesFrom b ++ narrowedEntries entryCount (drop entriesFrom b)
+narrowedBytes b = take entriesFrom b ++ entriesNarrowed b
 
--- 42: an entry of 100 bytes has a 0 behind its first 50, so its text has no more than 50: no text holds a 0
+-- whether an entry of 100 bytes has a 0 behind its first 50, so that its text has no more than 50 (no text holds a 0); if not, 42
 unfoldable pub shortCheck : List ℕ → Bool
 shortCheck e = eqb (getD e oldEntryBytes 0) 0
 

@@ -9,12 +9,16 @@ use Prim.Native.Nat.{ℕ}
 use lib.ListN.{length}
 use Rattle.macros.specs.Bounds.{oldEntryBytes}
 use Rattle.macros.specs.Formed.{Octets}
-use Rattle.lines.specs.State.{State}
-use Rattle.m_widths.specs.Widths.{widened, Short}
+use Rattle.lines.specs.State.{State, fresh}
+use Rattle.m_widths.specs.Widths.{widened, narrowed, Short}
 use Rattle.form_state.specs.Form.{stateForm, stateFormBy}
 use Rattle.form_state.specs.Check.{stateChecks}
 use Rattle.form_state.specs.Access.{Holds}
 use Rattle.form_old.specs.Old.{oldStateBytes, HoldsOld, widenedBytes, narrowedBytes, shortEntries}
+
+-- the fresh state, narrowed, is an old state
+abbrev pub OldFresh : Type 0
+OldFresh = HoldsOld (stateFormBy oldEntryBytes fresh) (narrowed fresh)
 
 -- an old state has the old size
 abbrev pub OldSize : Type 0

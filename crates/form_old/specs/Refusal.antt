@@ -1,5 +1,5 @@
--- 02, N6: the refusal of going back to the old size, and its number. It is on its own and not among the host's refusals of 01: only
--- m7_narrow has it.
+-- 02, N6: the refusal of going back to the old size, and its number. It is one of the host's, after 2; it has a type of its own, since
+-- only m7_narrow has it.
 use Prim.Native.Nat.{ℕ}
 
 -- "an entry over 50 on the way back"

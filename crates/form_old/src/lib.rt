@@ -2,14 +2,14 @@
 use form_items::clear;
 use form_state::layout::ENTRIES_AT;
 use form_state::layout::ENTRY_BYTES;
-ghost use Prim.Native.Nat.{_+_, _-_, _≤_};
+ghost use Prim.Native.Nat.{_+_, _≤_};
 ghost use mathlib.Core.Path.{_≡_};
-ghost use mathlib.Core.List.{_++_};
-ghost use lib.ListN.{length, drop, replicate};
+ghost use lib.ListN.{length};
 ghost use Rattle.macros.specs.Bounds.{mostEntryBytes, oldEntryBytes};
-ghost use Rattle.form_state.specs.Form.{stateBytes, entriesFrom, entryCount};
+ghost use Rattle.form_state.specs.Form.{stateBytes, entriesFrom};
 ghost use Rattle.form_state.specs.Access.{replaced};
-ghost use Rattle.form_old.specs.Old.{oldStateBytes, widenedEntries, widenedBytes, narrowedEntries, narrowedBytes, shortEntries};
+ghost use Rattle.form_old.specs.Old.{oldStateBytes, widenedEntry, entriesWidened, widenedBytes};
+ghost use Rattle.form_old.specs.Old.{entriesNarrowed, narrowedBytes, shortEntries};
 
 // The size of an old state's memory.
 pub const OLD_STATE_BYTES: usize = 26236;
@@ -35,7 +35,7 @@ fn copy(out: &mut [u8], at: usize, text: &[u8])
 // An entry of the old size, and zeros behind it up to the new size.
 fn put_wide(state: &mut [u8], at: usize, entry: &[u8])
     requires { ⌜ (length (now entry) ≡ oldEntryBytes) × (at + mostEntryBytes ≤ length (now state)) ⌝ }
-    ensures { λ _. ⌜ now (state .exit) ≡ replaced (now (state .entry)) at (now (entry .entry) ++ replicate (mostEntryBytes - oldEntryBytes) 0) ⌝ }
+    ensures { λ _. ⌜ now (state .exit) ≡ replaced (now (state .entry)) at (widenedEntry (now (entry .entry))) ⌝ }
 {
     copy(state, at, entry);
     clear(state, at + OLD_ENTRY_BYTES, ENTRY_BYTES - OLD_ENTRY_BYTES);
@@ -44,7 +44,7 @@ fn put_wide(state: &mut [u8], at: usize, entry: &[u8])
 // All entries, each with zeros behind it.
 fn widen_entries(old: &[u8], state: &mut [u8])
     requires { ⌜ (length (now old) ≡ oldStateBytes) × (length (now state) ≡ stateBytes) ⌝ }
-    ensures { λ _. ⌜ now (state .exit) ≡ replaced (now (state .entry)) entriesFrom (widenedEntries entryCount (drop entriesFrom (now (old .entry)))) ⌝ }
+    ensures { λ _. ⌜ now (state .exit) ≡ replaced (now (state .entry)) entriesFrom (entriesWidened (now (old .entry))) ⌝ }
 {
     let mut i = 0;
     while i < ENTRIES {
@@ -70,7 +70,7 @@ pub fn widen(old: &[u8], state: &mut [u8])
 // All entries, the first 50 bytes of each.
 fn narrow_entries(state: &[u8], old: &mut [u8])
     requires { ⌜ (length (now state) ≡ stateBytes) × (length (now old) ≡ oldStateBytes) ⌝ }
-    ensures { λ _. ⌜ now (old .exit) ≡ replaced (now (old .entry)) entriesFrom (narrowedEntries entryCount (drop entriesFrom (now (state .entry)))) ⌝ }
+    ensures { λ _. ⌜ now (old .exit) ≡ replaced (now (old .entry)) entriesFrom (entriesNarrowed (now (state .entry))) ⌝ }
 {
     let mut i = 0;
     while i < ENTRIES {

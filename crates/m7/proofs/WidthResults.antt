@@ -23,39 +23,39 @@ use Rattle.line_memory.proofs.Copying.{padded-whole}
 use Rattle.line_answer.specs.declared.Answer.{Answer}
 use Rattle.line_answer.specs.Replies.{reply}
 use Rattle.m7.specs.Contract.{refuses, takes}
-use Rattle.m7.specs.Widening.{sizedToWiden, refusesLong, Widens, Narrows}
+use Rattle.m7.specs.Widening.{sizedStates, refusesLong, Widens, Narrows}
 
 -- the copy
 pub wide-copied : (wide state : List ℕ) {b : List ℕ} → length wide ≡ stateBytes → length state ≡ stateBytes → b ≡ padded wide (length state) → b ≡ wide
 wide-copied wide state g h e = padded-whole wide (length state) (g ∙ sym h) e
 
 module _ (old state : List ℕ) where
-  pub other-old : (length old ≡ oldStateBytes → ⊥) → sizedToWiden old state ≡ false
-  unfolding sizedToWiden
+  pub other-old : (length old ≡ oldStateBytes → ⊥) → sizedStates old state ≡ false
+  unfolding sizedStates
   other-old h = let e : eqb (length old) oldStateBytes ≡ false = ne-eqb _ _ h in rw e
 
-  pub other-new : length old ≡ oldStateBytes → (length state ≡ stateBytes → ⊥) → sizedToWiden old state ≡ false
-  unfolding sizedToWiden
+  pub other-new : length old ≡ oldStateBytes → (length state ≡ stateBytes → ⊥) → sizedStates old state ≡ false
+  unfolding sizedStates
   other-new g h = let e : eqb (length state) stateBytes ≡ false = ne-eqb _ _ h in let f : eqb (length old) oldStateBytes ≡ true = eq-eqb _ _ g in rw (f, e)
 
-  pub new-other : (length state ≡ stateBytes → ⊥) → sizedToWiden old state ≡ false
-  unfolding sizedToWiden
+  pub new-other : (length state ≡ stateBytes → ⊥) → sizedStates old state ≡ false
+  unfolding sizedStates
   new-other h = let e : eqb (length state) stateBytes ≡ false = ne-eqb _ _ h in rw e (no (eqb (length old) oldStateBytes))
     where
       no : (a : Bool) → a && false ≡ false
       no true = refl
       no false = refl
 
-  both-sized : length old ≡ oldStateBytes → length state ≡ stateBytes → sizedToWiden old state ≡ true
-  unfolding sizedToWiden
+  both-sized : length old ≡ oldStateBytes → length state ≡ stateBytes → sizedStates old state ≡ true
+  unfolding sizedStates
   both-sized g h = and-both (eq-eqb _ _ g) (eq-eqb _ _ h)
 
   -- 3
-  pub widen-other : {a : Answer} → sizedToWiden old state ≡ false → a ≡ reply 3 0 0 → Widens old state a state
+  pub widen-other : {a : Answer} → sizedStates old state ≡ false → a ≡ reply 3 0 0 → Widens old state a state
   unfolding refuses number place hostNumber
   widen-other z e = record { otherSize = λ y. record { answers = e; holds = refl }; noState = λ y. clash y z; made = λ y. clash y z }
 
-  pub narrow-other : {a : Answer} → sizedToWiden old state ≡ false → a ≡ reply 3 0 0 → Narrows state old a old
+  pub narrow-other : {a : Answer} → sizedStates old state ≡ false → a ≡ reply 3 0 0 → Narrows state old a old
   unfolding refuses number place hostNumber
   narrow-other z e =
       record {
@@ -66,7 +66,7 @@ module _ (old state : List ℕ) where
       }
 
   module _ (g : length old ≡ oldStateBytes) (h : length state ≡ stateBytes) where
-    sizes : sizedToWiden old state ≡ true
+    sizes : sizedStates old state ≡ true
     sizes = both-sized g h
 
     module _ (o : Octets old) where

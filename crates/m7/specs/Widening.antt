@@ -22,8 +22,8 @@ use Rattle.line_answer.specs.Replies.{reply}
 use Rattle.m7.specs.Contract.{Result, Gives, refuses, takes}
 
 -- the memories of the old state and of the new one have the sizes that the docs state
-unfoldable pub sizedToWiden : (old state : List ℕ) → Bool
-sizedToWiden old state = eqb (length old) oldStateBytes && eqb (length state) stateBytes
+unfoldable pub sizedStates : (old state : List ℕ) → Bool
+sizedStates old state = eqb (length old) oldStateBytes && eqb (length state) stateBytes
 
 -- 42 has place 0, and leaves the memory as it was
 unfoldable pub refusesLong : List ℕ → Result
@@ -32,19 +32,19 @@ refusesLong old = record { answer = reply (widthNumber longEntry) 0 0; memory = 
 -- m7_widen, of the old state's bytes and the state's memory: the answer r, and the bytes b that the state's memory holds at exit
 pub record Widens (old state : List ℕ) (r : Answer) (b : List ℕ) : Type 0 where
   -- 3, a lent memory of another size
-  pub otherSize : sizedToWiden old state ≡ false → Gives (refuses (ofHost badMemory) state) r b
+  pub otherSize : sizedStates old state ≡ false → Gives (refuses (ofHost badMemory) state) r b
   -- 2, bytes that are the form of no old state
-  pub noState : sizedToWiden old state ≡ true → ((st : State) → HoldsOld old st → ⊥) → Gives (refuses (ofHost badState) state) r b
+  pub noState : sizedStates old state ≡ true → ((st : State) → HoldsOld old st → ⊥) → Gives (refuses (ofHost badState) state) r b
   -- else the same state in the new form
-  pub made : sizedToWiden old state ≡ true → (st : State) → HoldsOld old st → Gives (takes 0 (stateForm (widened st))) r b
+  pub made : sizedStates old state ≡ true → (st : State) → HoldsOld old st → Gives (takes 0 (stateForm (widened st))) r b
 
 -- m7_narrow, of the state's bytes and the old state's memory: the answer r, and the bytes b that the old state's memory holds at exit
 pub record Narrows (state old : List ℕ) (r : Answer) (b : List ℕ) : Type 0 where
   -- 3, a lent memory of another size
-  pub otherSize : sizedToWiden old state ≡ false → Gives (refuses (ofHost badMemory) old) r b
-  -- 2, bytes that are the form of no state: "2 is judged over the whole state before 42"
-  pub noState : sizedToWiden old state ≡ true → ((st : State) → Holds state st → ⊥) → Gives (refuses (ofHost badState) old) r b
+  pub otherSize : sizedStates old state ≡ false → Gives (refuses (ofHost badMemory) old) r b
+  -- 2, bytes that are the form of no state, over the whole state before 42 is judged (reading 15)
+  pub noState : sizedStates old state ≡ true → ((st : State) → Holds state st → ⊥) → Gives (refuses (ofHost badState) old) r b
   -- 42, "an entry over 50 on the way back"
-  pub tooLong : sizedToWiden old state ≡ true → (st : State) → Holds state st → (Short st → ⊥) → Gives (refusesLong old) r b
+  pub tooLong : sizedStates old state ≡ true → (st : State) → Holds state st → (Short st → ⊥) → Gives (refusesLong old) r b
   -- else the same state in the old form
-  pub made : sizedToWiden old state ≡ true → (st : State) → Holds state st → Short st → Gives (takes 0 (stateFormBy oldEntryBytes st)) r b
+  pub made : sizedStates old state ≡ true → (st : State) → Holds state st → Short st → Gives (takes 0 (stateFormBy oldEntryBytes st)) r b

@@ -34,18 +34,18 @@ use Rattle.line_answer.specs.declared.Answer.{Answer}
 use Rattle.line_answer.specs.Replies.{reply}
 use Rattle.m7.specs.Contract.{Result, Gives, refuses, takes}
 use Rattle.m7.specs.Feeding.{Call, Returns}
-use Rattle.m7.specs.Widening.{sizedToWiden, refusesLong, Widens, Narrows}
+use Rattle.m7.specs.Widening.{sizedStates, refusesLong, Widens, Narrows}
 use Rattle.m7_demands.specs.Demand3.{InTurn, AllReturn}
 use Rattle.m7_demands.specs.Widths.{sentBy, AllSized, OldAndNew, ThereAndBack, BackAndThere, OneWidened, OneNarrowed}
 
 -- SIZES
 
-sized : (old state : List ℕ) → length old ≡ oldStateBytes → length state ≡ stateBytes → sizedToWiden old state ≡ true
-unfolding sizedToWiden
+sized : (old state : List ℕ) → length old ≡ oldStateBytes → length state ≡ stateBytes → sizedStates old state ≡ true
+unfolding sizedStates
 sized old state g h = and-both (eq-eqb _ _ g) (eq-eqb _ _ h)
 
-old-sized : (old state : List ℕ) → sizedToWiden old state ≡ true → length old ≡ oldStateBytes
-unfolding sizedToWiden
+old-sized : (old state : List ℕ) → sizedStates old state ≡ true → length old ≡ oldStateBytes
+unfolding sizedStates
 old-sized old state y = eqb-true _ _ (and-left (eqb (length old) oldStateBytes) (eqb (length state) stateBytes) y)
 
 -- WHAT THE LENT BYTES TELL
@@ -53,44 +53,44 @@ old-sized old state y = eqb-true _ _ (and-left (eqb (length old) oldStateBytes) 
 -- of m7_widen: a refusal, or the old state
 data ToWiden (old state : List ℕ) : Type 0 where
   refused : (w : Result) → (w .answer .number ≡ 0 → ⊥) → ((r : Answer) (b : List ℕ) → Widens old state r b → Gives w r b) → ToWiden old state
-  taken : sizedToWiden old state ≡ true → (st : State) → HoldsOld old st → ToWiden old state
+  taken : sizedStates old state ≡ true → (st : State) → HoldsOld old st → ToWiden old state
 
 -- of m7_narrow: a refusal, or the state without an entry over 50 bytes
 data ToNarrow (state old : List ℕ) : Type 0 where
   refused : (w : Result) → (w .answer .number ≡ 0 → ⊥) → ((r : Answer) (b : List ℕ) → Narrows state old r b → Gives w r b) → ToNarrow state old
-  taken : sizedToWiden old state ≡ true → (st : State) → Holds state st → Short st → ToNarrow state old
+  taken : sizedStates old state ≡ true → (st : State) → Holds state st → Short st → ToNarrow state old
 
 to-widen : (old state : List ℕ) → Octets old → ToWiden old state
 unfolding refuses number hostNumber reply
-to-widen old state o = by-size (sizedToWiden old state) refl
+to-widen old state o = by-size (sizedStates old state) refl
   where
-    by-check : (d : Bool) → stateChecks (widenedBytes old) ≡ d → sizedToWiden old state ≡ true → ToWiden old state
+    by-check : (d : Bool) → stateChecks (widenedBytes old) ≡ d → sizedStates old state ≡ true → ToWiden old state
     by-check false e y =
         let no : (st : State) → HoldsOld old st → ⊥ = λ st h. clash (old-exact old o (old-sized old state y) .1 (st, h)) e in
         refused (refuses (ofHost badState) state) (λ z. omega arith) (λ r b k. k .noState y no)
     by-check true e y = let s = old-exact old o (old-sized old state y) .0 e in taken y (s .0) (s .1)
 
-    by-size : (d : Bool) → sizedToWiden old state ≡ d → ToWiden old state
+    by-size : (d : Bool) → sizedStates old state ≡ d → ToWiden old state
     by-size false e = refused (refuses (ofHost badMemory) state) (λ z. omega arith) (λ r b k. k .otherSize e)
     by-size true e = by-check (stateChecks (widenedBytes old)) refl e
 
 to-narrow : (state old : List ℕ) → Octets state → ToNarrow state old
 unfolding refuses refusesLong number hostNumber widthNumber reply
-to-narrow state old o = by-size (sizedToWiden old state) refl
+to-narrow state old o = by-size (sizedStates old state) refl
   where
-    by-entries : (d : Bool) → shortEntries state ≡ d → sizedToWiden old state ≡ true → (st : State) → Holds state st → ToNarrow state old
+    by-entries : (d : Bool) → shortEntries state ≡ d → sizedStates old state ≡ true → (st : State) → Holds state st → ToNarrow state old
     by-entries false e y st h =
         refused (refusesLong old) (λ z. omega arith) (λ r b k. k .tooLong y st h (λ s. clash (short-exact state st h .1 s) e))
     by-entries true e y st h = taken y st h (short-exact state st h .0 e)
 
-    by-check : (d : Bool) → stateChecks state ≡ d → sizedToWiden old state ≡ true → ToNarrow state old
+    by-check : (d : Bool) → stateChecks state ≡ d → sizedStates old state ≡ true → ToNarrow state old
     by-check false e y =
         let no : (st : State) → Holds state st → ⊥ = λ st h. clash (state-check-exact state o .1 (st, h .inRange, h .form)) e in
         refused (refuses (ofHost badState) old) (λ z. omega arith) (λ r b k. k .noState y no)
     by-check true e y =
         let s = state-check-exact state o .0 e in by-entries (shortEntries state) refl y (s .0) (record { inRange = s .1; form = s .2 })
 
-    by-size : (d : Bool) → sizedToWiden old state ≡ d → ToNarrow state old
+    by-size : (d : Bool) → sizedStates old state ≡ d → ToNarrow state old
     by-size false e = refused (refuses (ofHost badMemory) old) (λ z. omega arith) (λ r b k. k .otherSize e)
     by-size true e = by-check (stateChecks state) refl e
 
@@ -127,7 +127,7 @@ not-refused : {A : Type 0} (w : Result) {r : Answer} {b : List ℕ} → (w .answ
 not-refused w n g z = absurd (n (sym (ap (λ (x : Answer). x .number) (g .answers)) ∙ z))
 
 -- what m7_widen wrote is the state with the new bound
-wrote-wide : (old state b : List ℕ) (r : Answer) (st : State) → sizedToWiden old state ≡ true → HoldsOld old st → Widens old state r b → Holds b (widened st)
+wrote-wide : (old state b : List ℕ) (r : Answer) (st : State) → sizedStates old state ≡ true → HoldsOld old st → Widens old state r b → Holds b (widened st)
 wrote-wide old state b r st y h k = record { inRange = h .inRange; form = sym (holds (k .made y st h)) }
 
 wide-long : (b : List ℕ) (st : State) → Holds b st → length b ≡ stateBytes
@@ -165,7 +165,7 @@ all-fed ms st t b (c ∷ cs) f h k y =
 
 pub old-and-new : OldAndNew
 old-and-new t old state b r ms st cs h =
-    let y : sizedToWiden old state ≡ true = sized old state (old-size old st (h .saved)) (h .size) in
+    let y : sizedStates old state ≡ true = sized old state (old-size old st (h .saved)) (h .size) in
     let w : Holds b (widened st) = wrote-wide old state b r st y (h .saved) (h .widens) in
     let f : IsTable t ms = record { accepted = old-taken ms (h .table); form = h .formed } in
     let a : AllReturn cs (feeds ms (widened st) (sentBy cs)) = all-fed ms (widened st) t b cs f w (h .calls) (h .sized) in

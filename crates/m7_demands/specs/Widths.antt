@@ -34,7 +34,7 @@ AllSized [] = Unit {0}
 AllSized (c ∷ cs) = (sizedToFeed (c .feeding .lent) ≡ true) × AllSized cs
 
 -- a choir's state saved with the old size: m7_widen is lent its bytes `old` and the memory `state`, in which it writes the bytes b with the
--- answer r; then m7_feed is called in turn, from the table's bytes t and from b
+-- answer r; then m7_feed is called in turn, from the table's bytes t and from b. These are all conditions of 02
 pub record Turned (t old state b : List ℕ) (r : Answer) (ms : Table) (st : State) (cs : List Call) : Type 0 where
   -- "the same table, one that the old engine takes"
   pub table : AcceptedBy oldEntryBytes ms

@@ -1,3 +1,4 @@
 pub mod Passes
 pub mod Answers
 pub mod Laws
+pub mod OldRules

@@ -1,3 +1,4 @@
 pub mod Widths
 pub mod Widened
 pub mod WidthCases
+pub mod OldRules
