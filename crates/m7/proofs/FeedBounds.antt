@@ -45,7 +45,7 @@ flag-near ms st t =
 
 macro-near : (ms : Table) (st : State) (s : List ℕ) (r : Read) → readOntoBy (st .entryBytes) ms s ≡ r → Near (macroOrder ms st r)
 unfolding macroOrder orderPlace place
-macro-near ms st s (refusedAt f q) e = onto-place ms s e
+macro-near ms st s (refusedAt f q) e = onto-place (st .entryBytes) ms s e
 macro-near ms st s (table ks) e = by-pick Near (eqb (length ks) (suc (length ms))) _ _ (λ c. omega arith) (λ c. omega arith)
 
 order-near : (ms : Table) (st : State) (t : List ℕ) → Near (orderOf ms st t)

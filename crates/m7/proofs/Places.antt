@@ -31,17 +31,17 @@ unfolding placeIn atEnd
 end-place p (between skip m ms) = by-pick (λ (w : Read). placeIn w ≤ p) skip _ _ (λ e. omega arith) (λ e. omega arith)
 end-place p (inside skip n st ms) = omega arith
 
-next-place : {longest : ℕ} (bs : List ℕ) (p : ℕ) → ((r : Reader) → placeIn (readFromBy longest (suc p) r bs) ≤ suc p + length bs) → (n : Next)
+next-place : (longest : ℕ) (bs : List ℕ) (p : ℕ) → ((r : Reader) → placeIn (readFromBy longest (suc p) r bs) ≤ suc p + length bs) → (n : Next)
     → placeIn (elim n [ go r ↦ readFromBy longest (suc p) r bs | refuse f ↦ refusedAt f p | refuseBefore f n ↦ refusedAt f (p - n) ]) ≤ p + suc (length bs)
 unfolding placeIn
-next-place bs p h (go r) = omega (arith, h r)
-next-place bs p h (refuse f) = omega arith
-next-place bs p h (refuseBefore f n) = omega arith
+next-place longest bs p h (go r) = omega (arith, h r)
+next-place longest bs p h (refuse f) = omega arith
+next-place longest bs p h (refuseBefore f n) = omega arith
 
 from-place : (longest : ℕ) (s : List ℕ) (p : ℕ) (r : Reader) → placeIn (readFromBy longest p r s) ≤ p + length s
 unfolding readFromBy
 from-place longest [] p r = omega (arith, end-place p r)
-from-place longest (b ∷ bs) p r = next-place bs p (λ (n : Reader). from-place longest bs (suc p) n) (stepBy longest r b)
+from-place longest (b ∷ bs) p r = next-place longest bs p (λ (n : Reader). from-place longest bs (suc p) n) (stepBy longest r b)
 
 unfoldable zeroIn : Option ℕ → ℕ
 zeroIn none = 0
@@ -64,9 +64,9 @@ all-place longest older s =
     by-pick (λ (w : Read). placeIn w ≤ mostFileBytes) (ltb mostFileBytes (length s)) _ _ (λ e. omega arith)
     (λ e. whole-place longest s _ (firstZero 0 s) (ltb-false _ _ e) (omega (arith, zero-place s 0)))
 
-pub onto-place : {longest : ℕ} (older : Table) (s : List ℕ) {f : FileRefusal} {q : ℕ} → readOntoBy longest older s ≡ refusedAt f q → q ≤ mostFileBytes
+pub onto-place : (longest : ℕ) (older : Table) (s : List ℕ) {f : FileRefusal} {q : ℕ} → readOntoBy longest older s ≡ refusedAt f q → q ≤ mostFileBytes
 unfolding placeIn
-onto-place {longest} older s e = subst (λ (w : Read). placeIn w ≤ mostFileBytes) e (all-place longest older s)
+onto-place longest older s e = subst (λ (w : Read). placeIn w ≤ mostFileBytes) e (all-place longest older s)
 
 -- WRITING OUT
 

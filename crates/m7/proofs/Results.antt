@@ -9,7 +9,7 @@ use mir.Syntax.{w8}
 use mir.Val.{Fits}
 use lib.Dec.{eqb}
 use lib.ListN.{length, getD, replicate, length-replicate}
-use Rattle.macros.specs.Bounds.{mostFileBytes, mostMacros}
+use Rattle.macros.specs.Bounds.{mostFileBytes, mostMacros, mostEntryBytes}
 use Rattle.macros.specs.Refusals.{FileRefusal, number, place, hostNumber, fileNumber}
 use Rattle.macros.specs.Refusals.FileRefusal.{fileTooLong, zeroByte, incomplete, badClass, noUnit, badBrace, badCall, noElement, macroTooLong, tooManyMacros}
 use Rattle.macros.specs.Macro.{Table, pick}
@@ -104,7 +104,7 @@ module _ (s z made : List ℕ) (r : Reading) (zeros : z ≡ replicate 98304 0) (
     not-read = subst (Onto s 0 z made) e given [] none-accepted (none-form ∙ sym zeros) refl .0
 
     pub read-place : q ≤ mostFileBytes
-    read-place = onto-place [] s not-read
+    read-place = onto-place mostEntryBytes [] s not-read
 
     pub read-refused : (old : List ℕ) {a : Answer} {k : ℕ} → length old ≡ tableBytes → k ≡ fileNumber (faultOf f) → a ≡ reply k q 0 → Gives (reads s old) a old
     unfolding readFileBy ofReading refuses number place
