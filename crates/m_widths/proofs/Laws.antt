@@ -15,8 +15,9 @@ use Rattle.macros.proofs.ReadBounds.{smaller-bound}
 use Rattle.lines.specs.State.{State}
 use Rattle.lines.specs.Line.{Sent}
 use Rattle.lines.specs.Feeding.{Answer, feed, feeds}
+use Rattle.lines.proofs.Demand3.{lines}
 use Rattle.m_widths.specs.Widths.{IsOld, widened, Short}
-use Rattle.m_widths.specs.Widened.{Unbound, widenedAnswer, widenedAll, LineWidened, ListWidened, StaysOld, OldTaken}
+use Rattle.m_widths.specs.Widened.{Unbound, widenedAnswer, widenedAll, LineWidened, ListWidened, OldHolds, StaysOld, OldTaken}
 use Rattle.m_widths.proofs.Answers.{Answers, of-feeds}
 
 -- one line, and the state that it leaves
@@ -52,6 +53,10 @@ stays-old ms st (x ∷ xs) h s u =
     let g = one-line ms st x h (u .0) in
     let a : Answer = feed ms st x in
     ((g .1, g .2 s), stays-old (a .table) (a .state) xs (g .1) (g .2 s) (u .1))
+
+-- THE LAW, demand 3
+pub old-holds : OldHolds
+old-holds ms st xs h = lines ms st xs
 
 -- TABLES
 

@@ -1,4 +1,3 @@
 pub mod Passes
 pub mod Answers
 pub mod Laws
-pub mod OldRules

@@ -10,9 +10,10 @@ use Rattle.macros.specs.Accepted.{AcceptedBy, Accepted}
 use Rattle.lines.specs.State.{State, AllOf}
 use Rattle.lines.specs.Line.{Sent}
 use Rattle.lines.specs.Feeding.{Answer, numberOf, feed, feeds}
+use Rattle.lines.specs.Demand.{Lines}
 use Rattle.m_widths.specs.Widths.{IsOld, widened, Short}
 
--- "the old one meets no 33 and no 16": the answer has another number
+-- "the old one meets no 33 and no 16": the answer has another number, whatever it is; 02 asks no more of a line
 abbrev pub Unbound : Answer → Type 0
 Unbound a = (numberOf (a .kind) ≡ 33 → ⊥) × (numberOf (a .kind) ≡ 16 → ⊥)
 
@@ -37,6 +38,10 @@ abbrev pub ListWidened : Type 0
 ListWidened =
     (ms : Table) (st : State) (xs : List Sent) → IsOld st → AllOf Unbound (feeds ms st xs)
     → feeds ms (widened st) xs ≡ widenedAll (feeds ms st xs)
+
+-- THE LAW: demand 3 holds of the old engine too, with its 50 bytes: it meets 33 and 16 where 01's rules give them, and nowhere else
+abbrev pub OldHolds : Type 0
+OldHolds = (ms : Table) (st : State) (xs : List Sent) → IsOld st → Lines ms st xs (feeds ms st xs)
 
 -- THE LAW: each state that the old engine leaves then is one of the old engine again, without an entry over 50 bytes
 abbrev pub StaysOld : Type 0
