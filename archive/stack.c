@@ -16,6 +16,7 @@ static uint8_t table[M7_TABLE_BYTES];
 static uint8_t written[M7_FILE_BYTES];
 static uint8_t file[M7_FILE_BYTES];
 static uint8_t state[M7_STATE_BYTES];
+static uint8_t old[M7_OLD_STATE_BYTES];
 static uint8_t output[M7_OUTPUT_BYTES];
 static uint8_t trace[M7_TRACE_BYTES];
 static uint8_t faults[M7_FAULTS_BYTES];
@@ -55,6 +56,18 @@ static void *feeds(void *unused)
 {
     answer = m7_feed(table, sizeof table, state, sizeof state, line, line_size,
                      10000, output, sizeof output, trace, sizeof trace);
+    return unused;
+}
+
+static void *narrows(void *unused)
+{
+    answer = m7_narrow(state, sizeof state, old, sizeof old);
+    return unused;
+}
+
+static void *widens(void *unused)
+{
+    answer = m7_widen(old, sizeof old, state, sizeof state);
     return unused;
 }
 
@@ -294,6 +307,9 @@ int main(int count, char **words)
     show("m7_measure, classes", measures);
     show("m7_recover, classes", recovers);
     show("m7_write, classes", writes);
+    m7_fresh(state, sizeof state);
+    show("m7_narrow", narrows);
+    show("m7_widen", widens);
     worst("a*-", 168, "b");
     worst("a*-", 168, "");
     worst("a*", 252, "b");

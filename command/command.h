@@ -73,8 +73,8 @@ struct line {
     uint8_t bytes[M7_MOST_LINE_BYTES + 1]; /* of a longer line its first ones */
 };
 
-/* The state of a file, or a fresh one if none is named or there is no such file:
-   FINE, or WRONG after a message. */
+/* The state of a file, one of the old size widened, or a fresh one if none is named or
+   there is no such file: FINE, or WRONG after a message. */
 int load_state(const char *name, uint8_t *state);
 /* Whether standard input is read once at most, as TABLE, as LINES or for want of LINES. */
 int one_input(int count, char **words);

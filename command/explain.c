@@ -25,12 +25,15 @@ static const struct number numbers[] = {
      "before calls could stand before a pattern.\n",
      NULL, NULL, NULL, "a table whose first byte was set to 3"},
     {M7_BAD_STATE, host,
-     "The state's memory does not hold what m7_fresh or m7_feed left there. Lend those\n"
-     "bytes, or begin with m7_fresh. With m7 run: the file of --state is damaged.\n",
+     "The state's memory does not hold what m7_fresh, m7_widen or m7_feed left there.\n"
+     "Lend those bytes, or begin with m7_fresh. With m7 run: the file of --state is\n"
+     "damaged.\n",
      NULL, NULL, NULL, "a state whose first byte, a flag, was set to 2"},
     {M7_BAD_MEMORY, host,
      "A table, a state, an output, a trace or a file to write to has another size than\n"
-     "m7.h states. Take the sizes M7_TABLE_BYTES and so on from there.\n",
+     "m7.h states. Take the sizes M7_TABLE_BYTES and so on from there. A state that\n"
+     "was kept since before entries held 100 bytes goes through m7_widen first; m7 run\n"
+     "--state does that by itself.\n",
      NULL, NULL, NULL, "m7_fresh with a memory of 100 bytes"},
     {M7_BUDGET_TOO_LARGE, host,
      "A line may have 1,000,000 passes at most. m7 run takes no larger number.\n",
@@ -73,8 +76,8 @@ static const struct number numbers[] = {
      "Except in a pattern, one + or - may stand before or after the i of &(i), &(n,i),\n"
      "&(i:text:) and #(i). The n of {n} and &(n,i) is a tag that the pattern has, that\n"
      "of &(i=n) is 1 to 20, that of #(i=n), #(i,n) and #(i:n) 1 to 999,999,999. A text\n"
-     "has at most 50 bytes. Write \\{ for a brace, and \\& or \\# where no call is meant;\n"
-     "before a pattern \\ has no effect: put a comment between two /.\n",
+     "has at most 100 bytes. Write \\{ for a brace, and \\& or \\# where no call is\n"
+     "meant; before a pattern \\ has no effect: put a comment between two /.\n",
      "'a'='{2}';", NULL, NULL, NULL},
     {M7_NO_ELEMENT, writer,
      "Between its quotes a pattern has something to match. Braces alone do not count;\n"
@@ -116,9 +119,9 @@ static const struct number numbers[] = {
      "enough. m7 trace shows the passes.\n",
      "'int'='integer';", "print", NULL, NULL},
     {M7_TAG_TOO_LONG, work,
-     "&(n,i) stores tag n in an entry of a stack, which has 50 bytes. Let the tag\n"
+     "&(n,i) stores tag n in an entry of a stack, which has 100 bytes. Let the tag\n"
      "match less.\n",
-     "'{a*}'<'b'&(1,t);", "aaaaaaaaaaaaaaaaaaaaaaaaaaaaaaaaaaaaaaaaaaaaaaaaaaa", NULL, NULL},
+     "'{a*}'<'b'&(1,t);'x'<'aaaaaaaaaa';", "xxxxxxxxxxx", NULL, NULL},
     {M7_POINTER_TOO_HIGH, work,
      "A stack has 20 entries, and a + moves its pointer up by one. Move it down with -\n"
      "when an entry is no longer needed, or set it with &(i=n). A call before a\n"
@@ -140,6 +143,11 @@ static const struct number numbers[] = {
      "digits, also none: CA-T covers CAT, CART and CATARACT. A letter is one byte, as\n"
      "in ISO 8859-1: in UTF-8 those beyond ASCII are more, so convert them by iconv.\n",
      NULL, NULL, NULL, "m7 words 'CA--T'"},
+    {M7_LONG_ENTRY, host,
+     "m7_narrow goes back to a state of the old size, whose entries have 50 bytes, and\n"
+     "an entry of this state has more. Keep the state as it is, or store a shorter\n"
+     "text there first.\n",
+     NULL, NULL, NULL, "m7_narrow of a state with an entry of 51 bytes"},
     {M7_TOO_MANY_FAULTS, mended,
      "m7 check shows all faults of a macro file: it leaves a macro with a fault out\n"
      "and goes on behind the next ; of the file, for 256 faults at most. Mend the\n"

@@ -12,6 +12,15 @@ static int is_state(uint8_t *state)
                    sizeof output, trace, sizeof trace).number == 0;
 }
 
+/* Whether the bytes are a state, perhaps of the old size; the state is what they say. */
+static int take_state(const uint8_t *bytes, size_t size, uint8_t *state)
+{
+    if (size == M7_OLD_STATE_BYTES)
+        return m7_widen(bytes, size, state, M7_STATE_BYTES).number == 0;
+    memcpy(state, bytes, M7_STATE_BYTES);
+    return is_state(state);
+}
+
 int load_state(const char *name, uint8_t *state)
 {
     static const char advice[] = "name a state that m7 run saved, or remove the file to begin afresh";
@@ -22,11 +31,10 @@ int load_state(const char *name, uint8_t *state)
         return FINE;
     if (!load(name, advice, bytes, sizeof bytes, &size))
         return WRONG;
-    if (size != M7_STATE_BYTES)
+    if (size != M7_STATE_BYTES && size != M7_OLD_STATE_BYTES)
         return complain("%s: a state has %d bytes, this file %s; %s", name, M7_STATE_BYTES,
                         size > M7_STATE_BYTES ? "has more" : "has fewer", advice);
-    memcpy(state, bytes, M7_STATE_BYTES);
-    if (is_state(state))
+    if (take_state(bytes, size, state))
         return FINE;
     return complain("%s: %d: %s; %s", name, M7_BAD_STATE, m7_meaning(M7_BAD_STATE), advice);
 }

@@ -37,10 +37,11 @@
    shared. m7_feed may write its table, state, output and trace: give each
    thread its own.
 
-   A table, a state, an output, a trace, a file to write to and a list of
-   faults must have the sizes M7_TABLE_BYTES, M7_STATE_BYTES, M7_OUTPUT_BYTES,
-   M7_TRACE_BYTES, M7_FILE_BYTES and M7_FAULTS_BYTES, or the call is refused
-   with 3. A file to read, a line and a word-pattern may have any size.
+   A table, a state, a state of the old size, an output, a trace, a file to
+   write to and a list of faults must have the sizes M7_TABLE_BYTES,
+   M7_STATE_BYTES, M7_OLD_STATE_BYTES, M7_OUTPUT_BYTES, M7_TRACE_BYTES,
+   M7_FILE_BYTES and M7_FAULTS_BYTES, or the call is refused with 3. A file to
+   read, a line and a word-pattern may have any size.
 
    STORING TABLES AND STATES
 
@@ -53,7 +54,10 @@
    of them is bad, and 21 if both are good; nothing is changed either way.
    The form of a table changed when calls could stand before a pattern: tables
    with macros that were kept from before are refused with 1, and are to be
-   read again from their macro files. States did not change.
+   read again from their macro files. The form of a state changed when entries
+   came to hold 100 bytes, that of a table did not: a state that was kept from
+   before has the old size. m7_widen makes a state of it; every call that takes
+   a state refuses it with 3.
 
    LINES FROM STRANGERS
 
@@ -113,15 +117,20 @@ extern "C" {
 /* A state: the flags TRACE and NFLAG (a byte each, 0 or 1); the pointers of
    the stacks a to z (a byte each, 1 to 20); the values and then the increments
    of the counters a to z (four bytes each, low byte first, 1 to 999,999,999);
-   the 20 entries of stack a, then those of b, and so on (50 bytes each: a text
+   the 20 entries of stack a, then those of b, and so on (100 bytes each: a text
    without byte 0, then zeros). The offsets of these fields: */
-#define M7_STATE_BYTES 26236
+#define M7_STATE_BYTES 52236
 #define M7_STATE_TRACE 0
 #define M7_STATE_NFLAG 1
 #define M7_STATE_POINTERS 2
 #define M7_STATE_VALUES 28
 #define M7_STATE_INCREMENTS 132
 #define M7_STATE_ENTRIES 236
+
+/* A state of the old size, from before entries held 100 bytes: the same fields
+   at the same offsets, but its entries have 50 bytes each. */
+#define M7_OLD_STATE_BYTES 26236
+#define M7_OLD_ENTRY_BYTES 50
 
 /* The output of a line that is fed. */
 #define M7_OUTPUT_BYTES 1054
@@ -152,7 +161,7 @@ extern "C" {
    counts from 1; bytes of an entry; the value of a counter or increment. */
 #define M7_STACKS 26
 #define M7_MOST_ENTRIES 20
-#define M7_MOST_ENTRY_BYTES 50
+#define M7_MOST_ENTRY_BYTES 100
 #define M7_MOST_COUNT 999999999
 
 /* ANSWERS
@@ -181,8 +190,10 @@ typedef struct m7_answer {
    The host's mistakes, looked at first and in this order:
     3  A lent memory has another size than is stated above.
     1  The table's bytes are no table.
-    2  The state's bytes are no state: a field is out of range, a byte 0 stands
-       inside an entry's text, or an unused byte is not 0.
+    2  The state's bytes, or those of the old state, are no state: a field is
+       out of range, a byte 0 stands inside an entry's text, or an unused byte
+       is not 0.
+   42  m7_narrow: the state has an entry of more than 50 bytes.
     4  The budget is over 1,000,000.
 
    Those of whoever sends the line, looked at next, before any pass:
@@ -218,7 +229,7 @@ typedef struct m7_answer {
    The table's at work, at the first such step:
    31  Another pass is due and the budget is used up.
    32  The new line would have more than 1,054 bytes.
-   33  A tag of more than 50 bytes would be stored.
+   33  A tag of more than 100 bytes would be stored.
    34  A stack's pointer would go past 20.
    35  A counter would go past 999,999,999.
    36  Under TRACE 1, the three lines of the pass that just ended do not fit
@@ -254,6 +265,7 @@ typedef struct m7_answer {
 #define M7_COUNTER_TOO_HIGH 35
 #define M7_TRACE_TOO_LONG 36
 #define M7_BAD_WORD_PATTERN 41
+#define M7_LONG_ENTRY 42
 #define M7_TOO_MANY_FAULTS 61
 
 /* Kinds of an answer to m7_feed. */
@@ -336,6 +348,29 @@ m7_answer m7_write(const uint8_t *table, size_t table_size,
    flags 0. Refusal: 3. */
 m7_answer m7_fresh(uint8_t *state, size_t state_size);
 
+/* Makes a state of one of the old size, whatever the state's memory held
+   before: the same flags, pointers, values, increments and entries.
+   Refusals: 3 (of either memory), then 2 if the old bytes are no state of the
+   old size. Taken: the state's memory holds the state.
+
+   Lines then have the answers that they had from the old engine, the one with
+   entries of 50 bytes: under a table that it takes, so one without a text of
+   more than 50 bytes in a call, and under the same budgets, each line of any
+   list in which it refuses no line with 33 or 16 has the same answer, output
+   and trace and leaves the same table, and the old state widened. */
+m7_answer m7_widen(const uint8_t *old, size_t old_size,
+                   uint8_t *state, size_t state_size);
+
+/* Goes back: makes a state of the old size of a state without an entry of more
+   than 50 bytes, whatever the old memory held before.
+   Refusals: 3 (of either memory), 2 over the whole state, then 42. Taken: the
+   old memory holds the state of the old size.
+
+   m7_widen and then m7_narrow give the same bytes again; so do m7_narrow, where
+   it is taken, and then m7_widen. */
+m7_answer m7_narrow(const uint8_t *state, size_t state_size,
+                    uint8_t *old, size_t old_size);
+
 /* Feeds a line, without its line feed, to a table and a state, with at most
    `budget` passes of macros over it.
 
@@ -385,7 +420,7 @@ m7_answer m7_fresh(uint8_t *state, size_t state_size);
 
    Time: a pass tries each element of the pattern at each place of the line at
    most once, and again after a replacement that changes a stack or counter
-   that the pattern reads. To try a class costs its members, a call at most 50
+   that the pattern reads. To try a class costs its members, a call at most 100
    bytes. There are at most as many passes as the budget. */
 m7_answer m7_feed(uint8_t *table, size_t table_size,
                   uint8_t *state, size_t state_size,
@@ -414,7 +449,7 @@ m7_answer m7_words(const uint8_t *line, size_t line_size,
                    const uint8_t *pattern, size_t pattern_size);
 
 /* The version of this header, and that of the library that is linked. */
-#define M7_VERSION "2.2"
+#define M7_VERSION "3.0"
 const char *m7_version(void);
 
 /* What a number means, in a few words of English; of 0 it is "taken". A number
@@ -425,6 +460,7 @@ const char *m7_meaning(uint32_t number);
 /* The sizes above, for languages that cannot read this header. */
 size_t m7_table_bytes(void);
 size_t m7_state_bytes(void);
+size_t m7_old_state_bytes(void);
 size_t m7_output_bytes(void);
 size_t m7_trace_bytes(void);
 size_t m7_file_bytes(void);

@@ -93,6 +93,24 @@ def states():
     assert refused(m7.Song, b"", b"x") == refused(m7.Song, b"", b"") == (3, 0, 0)
 
 
+def widened():
+    macros = b"'{a*}'<'[&(t)]'&(1,t);"
+    old = m7.narrow(m7.fresh())
+    assert len(old) == m7.OLD_STATE_BYTES and m7.widen(old) == m7.fresh()
+    song = m7.Song(macros)
+    assert song.feed(b"$TRACE 1") is None and song.feed(b"a" * 50) == b"[]"
+    old = m7.narrow(song.state)
+    assert old[:1] == b"\1" and old[236 + 50 * 380:][:51] == b"a" * 50 + b"\0"
+    again = m7.Song(macros, m7.widen(old))
+    assert again.state == song.state and again.feed(b"aa") == b"[" + b"a" * 50 + b"]"
+    assert again.feed(b"a" * 100) == b"[aa]" and refused(again.feed, b"a" * 101) == (33, 0, 1)
+    assert refused(m7.narrow, again.state) == (42, 0, 0)
+    assert refused(m7.narrow, b"\2" + again.state[1:]) == (2, 0, 0)
+    assert refused(m7.widen, b"\2" + old[1:]) == refused(m7.widen, old[:-1] + b"x") == (2, 0, 0)
+    assert refused(m7.widen, old[1:]) == refused(m7.widen, song.state) == (3, 0, 0)
+    assert refused(m7.narrow, old) == refused(m7.Song, macros, old) == (3, 0, 0)
+
+
 def traces():
     song = m7.Song(b"'a'='b';'c'<'d';")
     assert song.feed(b"a") == b"b" and song.trace == b""
@@ -142,6 +160,6 @@ def threads():
     assert said == {key: [b"%d " % n + b"b" * key for n in range(1, 201)] for key in range(8)}
 
 
-for check in (answers, tables, measured, mended, states, traces, looked_up, words, threads):
+for check in (answers, tables, measured, mended, states, widened, traces, looked_up, words, threads):
     check()
 print("Python: the module's answers are those of 01")

@@ -31,7 +31,7 @@ BUDGET = 10000
 def _find():
     named = os.environ.get("M7_LIBRARY")
     here = os.path.dirname(os.path.abspath(__file__))
-    return named or os.path.join(here, os.pardir, "libm7.so.2")
+    return named or os.path.join(here, os.pardir, "libm7.so.3")
 
 
 class _Answer(ctypes.Structure):
@@ -46,13 +46,14 @@ class _Plan(ctypes.Structure):
 def _declare(library):
     memory, size = [ctypes.c_char_p, ctypes.c_size_t], ctypes.c_size_t
     for name, lent in (("m7_read", 2 * memory), ("m7_write", 2 * memory), ("m7_fresh", memory),
+                       ("m7_widen", 2 * memory), ("m7_narrow", 2 * memory),
                        ("m7_feed", 3 * memory + [ctypes.c_uint32] + 2 * memory),
                        ("m7_words", 2 * memory), ("m7_recover", 3 * memory)):
         function = getattr(library, name)
         function.restype, function.argtypes = _Answer, lent
     library.m7_measure.restype, library.m7_measure.argtypes = _Plan, memory
-    for name in ("m7_table_bytes", "m7_state_bytes", "m7_output_bytes", "m7_trace_bytes",
-                 "m7_file_bytes", "m7_faults_bytes"):
+    for name in ("m7_table_bytes", "m7_state_bytes", "m7_old_state_bytes", "m7_output_bytes",
+                 "m7_trace_bytes", "m7_file_bytes", "m7_faults_bytes"):
         getattr(library, name).restype = size
         getattr(library, name).argtypes = []
     library.m7_version.restype = library.m7_meaning.restype = ctypes.c_char_p
@@ -64,6 +65,7 @@ _library = _declare(ctypes.CDLL(_find()))
 
 TABLE_BYTES = _library.m7_table_bytes()
 STATE_BYTES = _library.m7_state_bytes()
+OLD_STATE_BYTES = _library.m7_old_state_bytes()
 OUTPUT_BYTES = _library.m7_output_bytes()
 TRACE_BYTES = _library.m7_trace_bytes()
 FILE_BYTES = _library.m7_file_bytes()
@@ -157,6 +159,22 @@ def fresh():
     return state.raw
 
 
+def widen(old):
+    """The state, as bytes, that a state of the old size becomes: one that was kept since
+    before entries held 100 bytes. Raises Refused with 3 or 2."""
+    old, state = _bytes(old, "a state"), _memory(STATE_BYTES)
+    _checked(_library.m7_widen(old, len(old), state, len(state)))
+    return state.raw
+
+
+def narrow(state):
+    """The state of the old size, as bytes, that a state becomes. Raises Refused with 3 or
+    2, and with 42 where an entry has more than 50 bytes."""
+    state, old = _bytes(state, "a state"), _memory(OLD_STATE_BYTES)
+    _checked(_library.m7_narrow(state, len(state), old, len(old)))
+    return old.raw
+
+
 def words(line, pattern):
     """How many words of a line a word-pattern covers, and the place of the first,
     counted in bytes from 0, or None if there is none. Raises Refused."""
@@ -169,7 +187,8 @@ class Song:
     """A table and a state, and lines that are fed to them.
 
     `file` is a macro file. `state` is a state that was kept before; without it
-    the song begins with a fresh one. After a refusal both are as they were.
+    the song begins with a fresh one. One of the old size goes through widen
+    first. After a refusal both are as they were.
     """
 
     def __init__(self, file=b"", state=None, budget=BUDGET):

@@ -28,11 +28,12 @@ const char *m7_meaning(uint32_t number)
     case M7_BAD_CONTROL: return "a $ line with an unknown word or value, or not one macro";
     case M7_BUDGET_USED_UP: return "another pass is due and the budget is used up";
     case M7_NEW_LINE_TOO_LONG: return "the new line grows past 1,054 bytes";
-    case M7_TAG_TOO_LONG: return "a tag to be stored has more than 50 bytes";
+    case M7_TAG_TOO_LONG: return "a tag to be stored has more than 100 bytes";
     case M7_POINTER_TOO_HIGH: return "the pointer of a stack goes past 20";
     case M7_COUNTER_TOO_HIGH: return "a counter goes past 999,999,999";
     case M7_TRACE_TOO_LONG: return "the trace grows past 65,536 bytes";
     case M7_BAD_WORD_PATTERN: return "a word-pattern that is empty, or not letters, digits and single dashes";
+    case M7_LONG_ENTRY: return "an entry of more than 50 bytes, too long for a state of the old size";
     case M7_TOO_MANY_FAULTS: return "more than 256 faults in the file";
     default: return "no number of this library";
     }
@@ -40,6 +41,7 @@ const char *m7_meaning(uint32_t number)
 
 size_t m7_table_bytes(void) { return M7_TABLE_BYTES; }
 size_t m7_state_bytes(void) { return M7_STATE_BYTES; }
+size_t m7_old_state_bytes(void) { return M7_OLD_STATE_BYTES; }
 size_t m7_output_bytes(void) { return M7_OUTPUT_BYTES; }
 size_t m7_trace_bytes(void) { return M7_TRACE_BYTES; }
 size_t m7_file_bytes(void) { return M7_FILE_BYTES; }

@@ -16,7 +16,7 @@ sub store {
     $pointer{$stack} += $step;
     die "34\n" if $pointer{$stack} > 20;
     $pointer{$stack} = 1 if $pointer{$stack} < 1;
-    die "33\n" if length $text > 50;
+    die "33\n" if length $text > 100;
     $entry{$stack}[ $pointer{$stack} ] = $text;
     return '';
 }

@@ -16,7 +16,7 @@ typedef struct memory {
     uint8_t before[M7_TABLE_BYTES + 64];
 } memory;
 
-static memory table, state, output, trace, file, faults, text;
+static memory table, state, old, output, trace, file, faults, text;
 static size_t text_size;
 static m7_answer answer;
 static m7_plan plan;
@@ -68,6 +68,7 @@ static void keep(void)
 {
     memcpy(table.before, table.now, sizeof table.now);
     memcpy(state.before, state.now, sizeof state.now);
+    memcpy(old.before, old.now, sizeof old.now);
     memcpy(output.before, output.now, sizeof output.now);
     memcpy(trace.before, trace.now, sizeof trace.now);
     memcpy(file.before, file.now, sizeof file.now);
@@ -82,7 +83,7 @@ static void after(void)
     seen[answer.number] = 1;
     if (answer.number != 0) {
         CHECK(same(&table) && same(&state) && same(&output));
-        CHECK(same(&trace) && same(&file) && same(&faults));
+        CHECK(same(&trace) && same(&file) && same(&faults) && same(&old));
         CHECK(answer.kind == 0 && answer.length == 0);
     }
 }
@@ -115,6 +116,30 @@ static uint32_t fresh_sized(size_t state_size)
     after();
     return answer.number;
 }
+
+static uint32_t widen_sized(size_t old_size, size_t state_size)
+{
+    keep();
+    answer = m7_widen(old.now, old_size, state.now, state_size);
+    after();
+    CHECK(same(&table) && same(&old) && same(&output) && same(&file));
+    CHECK(answer.place == 0 && answer.passes == 0 && answer.kind == 0 && answer.length == 0);
+    return answer.number;
+}
+
+static uint32_t widening(void) { return widen_sized(M7_OLD_STATE_BYTES, M7_STATE_BYTES); }
+
+static uint32_t narrow_sized(size_t state_size, size_t old_size)
+{
+    keep();
+    answer = m7_narrow(state.now, state_size, old.now, old_size);
+    after();
+    CHECK(same(&table) && same(&state) && same(&output) && same(&file));
+    CHECK(answer.place == 0 && answer.passes == 0 && answer.kind == 0 && answer.length == 0);
+    return answer.number;
+}
+
+static uint32_t narrowing(void) { return narrow_sized(M7_STATE_BYTES, M7_OLD_STATE_BYTES); }
 
 static uint32_t feed_sized(size_t table_size, size_t state_size, size_t output_size,
                            size_t trace_size, uint32_t budget)
@@ -308,6 +333,7 @@ static void sizes(void)
     CHECK(write_sized(M7_TABLE_BYTES, M7_FILE_BYTES + 1) == M7_BAD_MEMORY);
     CHECK(fresh_sized(M7_STATE_BYTES - 1) == M7_BAD_MEMORY);
     CHECK(fresh_sized(M7_STATE_BYTES + 1) == M7_BAD_MEMORY);
+    CHECK(fresh_sized(M7_OLD_STATE_BYTES) == M7_BAD_MEMORY);
     say("'a'='b';");
     CHECK(recover_sized(M7_TABLE_BYTES - 1, M7_FAULTS_BYTES) == M7_BAD_MEMORY);
     CHECK(recover_sized(M7_TABLE_BYTES + 1, M7_FAULTS_BYTES) == M7_BAD_MEMORY);
@@ -321,6 +347,8 @@ static void sizes(void)
                      M7_TRACE_BYTES, 9) == M7_BAD_MEMORY);
     CHECK(feed_sized(M7_TABLE_BYTES, M7_STATE_BYTES + 1, M7_OUTPUT_BYTES,
                      M7_TRACE_BYTES, 9) == M7_BAD_MEMORY);
+    CHECK(feed_sized(M7_TABLE_BYTES, M7_OLD_STATE_BYTES, M7_OUTPUT_BYTES,
+                     M7_TRACE_BYTES, 9) == M7_BAD_MEMORY);
     CHECK(feed_sized(M7_TABLE_BYTES, M7_STATE_BYTES, M7_OUTPUT_BYTES - 1,
                      M7_TRACE_BYTES, 9) == M7_BAD_MEMORY);
     CHECK(feed_sized(M7_TABLE_BYTES, M7_STATE_BYTES, M7_OUTPUT_BYTES + 1,
@@ -331,6 +359,24 @@ static void sizes(void)
                      M7_TRACE_BYTES + 1, 9) == M7_BAD_MEMORY);
     CHECK(reading() == 0 && writing() == 0 && fresh_sized(M7_STATE_BYTES) == 0);
     CHECK(feeding(9) == 0);
+}
+
+static void both_sizes(void)
+{
+    long less;
+    CHECK(fresh_sized(M7_STATE_BYTES) == 0 && narrowing() == 0 && widening() == 0);
+    for (less = -1; less < 2; less += 2) {
+        size_t other_old = (size_t)(M7_OLD_STATE_BYTES - less);
+        size_t other_state = (size_t)(M7_STATE_BYTES - less);
+        CHECK(widen_sized(other_old, M7_STATE_BYTES) == M7_BAD_MEMORY);
+        CHECK(widen_sized(M7_OLD_STATE_BYTES, other_state) == M7_BAD_MEMORY);
+        CHECK(narrow_sized(other_state, M7_OLD_STATE_BYTES) == M7_BAD_MEMORY);
+        CHECK(narrow_sized(M7_STATE_BYTES, other_old) == M7_BAD_MEMORY);
+    }
+    CHECK(widen_sized(M7_STATE_BYTES, M7_STATE_BYTES) == M7_BAD_MEMORY);
+    CHECK(widen_sized(M7_OLD_STATE_BYTES, M7_OLD_STATE_BYTES) == M7_BAD_MEMORY);
+    CHECK(narrow_sized(M7_STATE_BYTES, M7_STATE_BYTES) == M7_BAD_MEMORY);
+    CHECK(narrow_sized(M7_OLD_STATE_BYTES, M7_OLD_STATE_BYTES) == M7_BAD_MEMORY);
 }
 
 /* A memory of no bytes may be null. */
@@ -347,6 +393,10 @@ static void nulls(void)
     answer = m7_write(NULL, 0, NULL, 0);
     CHECK(answer.number == M7_BAD_MEMORY);
     answer = m7_fresh(NULL, 0);
+    CHECK(answer.number == M7_BAD_MEMORY);
+    answer = m7_widen(NULL, 0, NULL, 0);
+    CHECK(answer.number == M7_BAD_MEMORY);
+    answer = m7_narrow(NULL, 0, NULL, 0);
     CHECK(answer.number == M7_BAD_MEMORY);
     answer = m7_feed(table.now, M7_TABLE_BYTES, state.now, M7_STATE_BYTES, NULL, 0, 9,
                      output.now, M7_OUTPUT_BYTES, trace.now, M7_TRACE_BYTES);
@@ -413,6 +463,56 @@ static void state_layout(void)
     CHECK(memcmp(state.now + M7_STATE_BYTES - M7_MOST_ENTRY_BYTES, "xy", 3) == 0);
     entries += (size_t)M7_STACKS * M7_MOST_ENTRIES * M7_MOST_ENTRY_BYTES;
     CHECK(entries == M7_STATE_BYTES);
+}
+
+/* A state of the old size: the same fields, and entries of 50 bytes. */
+static void old_layout(void)
+{
+    size_t entry = M7_STATE_ENTRIES + (size_t)M7_MOST_ENTRY_BYTES * 380, i;
+    size_t old_entry = M7_STATE_ENTRIES + (size_t)M7_OLD_ENTRY_BYTES * 380;
+    size_t entries = (size_t)M7_STACKS * M7_MOST_ENTRIES;
+    CHECK(M7_STATE_ENTRIES + entries * M7_OLD_ENTRY_BYTES == M7_OLD_STATE_BYTES);
+    use("'{a*}'<''&(1,t);'p'<'&(b=3)#(y=258)#(z,999999999)';");
+    CHECK(feed("$TRACE 1") == 0 && feed("$NFLAG 1") == 0 && feed("p") == 0);
+    none();
+    add("a", M7_OLD_ENTRY_BYTES);
+    CHECK(feeding(9) == 0 && state.now[entry + M7_OLD_ENTRY_BYTES - 1] == 'a');
+    memcpy(file.now, state.now, M7_STATE_BYTES);
+    memset(old.now, 7, sizeof old.now);
+    CHECK(narrowing() == 0 && old.now[M7_OLD_STATE_BYTES] == 7);
+    CHECK(memcmp(old.now, state.now, M7_STATE_ENTRIES) == 0);
+    for (i = M7_STATE_ENTRIES; i < M7_OLD_STATE_BYTES; i++)
+        CHECK(old.now[i] == (i - old_entry < M7_OLD_ENTRY_BYTES ? 'a' : 0));
+    memset(state.now, 7, sizeof state.now);
+    CHECK(widening() == 0 && state.now[M7_STATE_BYTES] == 7);
+    CHECK(memcmp(state.now, file.now, M7_STATE_BYTES) == 0);
+}
+
+/* 3, then 2 over the whole state, then 42. */
+static void states_refused(void)
+{
+    use("'{a*}'<''&(1,t);");
+    CHECK(narrowing() == 0);
+    none();
+    add("a", M7_OLD_ENTRY_BYTES + 1);
+    CHECK(feeding(9) == 0 && narrowing() == M7_LONG_ENTRY);
+    CHECK(narrow_sized(M7_STATE_BYTES, M7_OLD_STATE_BYTES - 1) == M7_BAD_MEMORY);
+    state.now[M7_STATE_BYTES - 1] = 'x';
+    CHECK(narrowing() == M7_BAD_STATE);
+    CHECK(narrow_sized(M7_STATE_BYTES, M7_OLD_STATE_BYTES - 1) == M7_BAD_MEMORY);
+    state.now[M7_STATE_BYTES - 1] = 0;
+    none();
+    add("a", M7_MOST_ENTRY_BYTES);
+    CHECK(feeding(9) == 0 && narrowing() == M7_LONG_ENTRY);
+    CHECK(feed("a") == 0 && narrowing() == 0);
+    old.now[M7_OLD_STATE_BYTES - 1] = 'x';
+    CHECK(widening() == M7_BAD_STATE);
+    CHECK(widen_sized(M7_OLD_STATE_BYTES, M7_STATE_BYTES - 1) == M7_BAD_MEMORY);
+    old.now[M7_OLD_STATE_BYTES - 1] = 0;
+    old.now[M7_STATE_TRACE] = 2;
+    CHECK(widening() == M7_BAD_STATE);
+    old.now[M7_STATE_TRACE] = 1;
+    CHECK(widening() == 0 && state.now[M7_STATE_TRACE] == 1);
 }
 
 /* BOUNDS, each with its first byte too many */
@@ -701,6 +801,7 @@ static void meanings(void)
     CHECK(m7_table_bytes() == M7_TABLE_BYTES && m7_state_bytes() == M7_STATE_BYTES);
     CHECK(m7_output_bytes() == M7_OUTPUT_BYTES && m7_trace_bytes() == M7_TRACE_BYTES);
     CHECK(m7_file_bytes() == M7_FILE_BYTES && m7_faults_bytes() == M7_FAULTS_BYTES);
+    CHECK(m7_old_state_bytes() == M7_OLD_STATE_BYTES);
 }
 
 /* The numbers that the header names, and no others, have come up. */
@@ -712,7 +813,7 @@ static void all_seen(void)
         M7_BAD_BRACE, M7_BAD_CALL, M7_NO_ELEMENT, M7_MACRO_TOO_LONG, M7_TOO_MANY_MACROS,
         M7_LINE_TOO_LONG, M7_BAD_BYTE, M7_BAD_CONTROL, M7_BUDGET_USED_UP,
         M7_NEW_LINE_TOO_LONG, M7_TAG_TOO_LONG, M7_POINTER_TOO_HIGH, M7_COUNTER_TOO_HIGH,
-        M7_TRACE_TOO_LONG, M7_BAD_WORD_PATTERN, M7_TOO_MANY_FAULTS};
+        M7_TRACE_TOO_LONG, M7_BAD_WORD_PATTERN, M7_LONG_ENTRY, M7_TOO_MANY_FAULTS};
     size_t count = sizeof named / sizeof named[0], i;
     for (i = 0; i < count; i++) {
         CHECK(seen[named[i]]);
@@ -720,7 +821,7 @@ static void all_seen(void)
     }
     for (i = 0; i < sizeof seen / sizeof seen[0]; i++)
         CHECK(!seen[i]);
-    CHECK(count == 26);
+    CHECK(count == 27);
 }
 
 int main(void)
@@ -728,10 +829,12 @@ int main(void)
     answers();
     plans();
     sizes();
+    both_sizes();
     nulls();
     nulls_of_words();
     table_layout();
     state_layout();
+    old_layout();
     line_bounds();
     file_bounds();
     tag_bounds();
@@ -743,6 +846,7 @@ int main(void)
     lines_refused();
     traces();
     memories_refused();
+    states_refused();
     words_found();
     words_refused();
     meanings();

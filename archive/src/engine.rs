@@ -1,7 +1,9 @@
 //! The proved engine's exported functions, with memories of its sizes.
 
 pub const TABLE_BYTES: usize = 98304;
-pub const STATE_BYTES: usize = 26236;
+pub const STATE_BYTES: usize = 52236;
+/// A state of the old size: entries of 50 bytes.
+pub const OLD_STATE_BYTES: usize = 26236;
 pub const OUTPUT_BYTES: usize = 1054;
 pub const FILE_BYTES: usize = 32768;
 pub const TRACE_BYTES: usize = 65536;
@@ -45,6 +47,8 @@ extern "C" {
     fn m7_read(file: *const u8, file_size: usize, table: *mut u8, table_size: usize) -> Answer;
     fn m7_write(table: *const u8, table_size: usize, file: *mut u8, file_size: usize) -> Answer;
     fn m7_fresh(state: *mut u8, state_size: usize) -> Answer;
+    fn m7_widen(old: *const u8, old_size: usize, state: *mut u8, state_size: usize) -> Answer;
+    fn m7_narrow(state: *const u8, state_size: usize, old: *mut u8, old_size: usize) -> Answer;
     fn m7_words(
         line: *const u8,
         line_size: usize,
@@ -93,6 +97,16 @@ pub fn measure(file: &[u8]) -> Plan {
 
 pub fn fresh(state: &mut [u8]) -> Answer {
     unsafe { m7_fresh(state.as_mut_ptr(), state.len()) }
+}
+
+/// A state of one of the old size.
+pub fn widen(old: &[u8], state: &mut [u8]) -> Answer {
+    unsafe { m7_widen(old.as_ptr(), old.len(), state.as_mut_ptr(), state.len()) }
+}
+
+/// A state of the old size, if no entry is too long.
+pub fn narrow(state: &[u8], old: &mut [u8]) -> Answer {
+    unsafe { m7_narrow(state.as_ptr(), state.len(), old.as_mut_ptr(), old.len()) }
 }
 
 /// Length: the words covered; place: of the first.

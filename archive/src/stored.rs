@@ -1,12 +1,17 @@
 //! The stored answers of the Rust version, asked of the archive.
 
 use crate::engine::{
-    self, Answer, FAULTS_BYTES, FILE_BYTES, OUTPUT_BYTES, STATE_BYTES, TABLE_BYTES, TRACE_BYTES,
+    self, Answer, FAULTS_BYTES, FILE_BYTES, OLD_STATE_BYTES, OUTPUT_BYTES, STATE_BYTES,
+    TABLE_BYTES, TRACE_BYTES,
 };
-use crate::form::{faults_form, slot_form, state_of, table_of, SLOT_BYTES};
+use crate::form::{
+    faults_form, old_state_of, slot_form, state_form, state_of, table_form, table_of, SLOT_BYTES,
+};
 use crate::plan::plan_of;
 use m7_reference::answers::{unescape, Case, Check, RecoverCheck, WordCheck};
-use m7_reference::line::{self, Kind};
+use m7_reference::bounds::OLD_ENTRY_BYTES;
+use m7_reference::line::{self, Engine, Kind};
+use m7_reference::read::read_after;
 use m7_reference::refusal::Refusal;
 use m7_reference::spell::shortest_spelling;
 use m7_reference::state::State;
@@ -15,7 +20,7 @@ use m7_reference::words::Covered;
 /// Texts about calls that the archive does not have.
 pub const NOT_ASKED: &[&str] = &[];
 
-/// What the trace and the faults' memory hold before a call.
+/// What the trace, the faults' and the old state's memory hold before a call.
 const OLD: u8 = 0xFF;
 
 /// The memories of one case.
@@ -23,6 +28,7 @@ pub struct Host {
     file: Vec<u8>,
     table: Vec<u8>,
     state: Vec<u8>,
+    old: Vec<u8>,
     output: Vec<u8>,
     trace: Vec<u8>,
     read: Answer,
@@ -44,8 +50,8 @@ impl Host {
         engine::fresh(&mut state);
         let (output, trace) = (vec![0; OUTPUT_BYTES], vec![0; TRACE_BYTES]);
         let (pattern, looked) = (Vec::new(), None);
-        let file = file.to_vec();
-        Host { file, table, state, output, trace, read, fed: None, pattern, looked }
+        let (file, old) = (file.to_vec(), vec![OLD; OLD_STATE_BYTES]);
+        Host { file, table, state, old, output, trace, read, fed: None, pattern, looked }
     }
 
     pub fn feed(&mut self, line: &[u8], budget: u64) -> line::Answer {
@@ -125,6 +131,13 @@ impl Host {
         }
     }
 
+    /// Whether the state goes back, or is refused and leaves the old one.
+    fn narrows(&mut self, refused: Option<Refusal>) -> bool {
+        let before = self.old.clone();
+        let answer = engine::narrow(&self.state, &mut self.old);
+        refusal(answer) == refused && (refused.is_none() || self.old == before)
+    }
+
     /// Looks a line's words up, and holds what is stored against the answer.
     fn looks(&mut self, check: &WordCheck) -> bool {
         match check {
@@ -167,19 +180,57 @@ impl Host {
             Check::Words(check) => self.looks(check),
             Check::Recover(check) => self.recovers(check),
             Check::Takes(wanted) => engine::measure(&self.file) == plan_of(wanted),
+            Check::Narrow => self.narrows(None),
+            Check::NarrowRefused(wanted) => self.narrows(Some(*wanted)),
+            Check::Widen => engine::widen(&self.old, &mut self.state).number == 0,
         }
     }
 }
 
-/// The number of answers that held, or the first that did not.
+/// The old engine, for which the Rust version stands.
+fn old_engine(case: &Case) -> Option<Engine> {
+    let table = read_after(&case.file, 0, OLD_ENTRY_BYTES).unwrap_or_default();
+    case.old.then(|| Engine { table, state: State::fresh_old() })
+}
+
+impl Host {
+    /// Takes over from the old engine: its table, and its state widened.
+    fn take_over(&mut self, old: &Engine) {
+        table_form(&old.table, &mut self.table);
+        state_form(&old.state, &mut self.old);
+    }
+
+    /// The old engine, with the table and the state that went back.
+    fn hand_back(&self) -> Option<Engine> {
+        Some(Engine { table: table_of(&self.table)?, state: old_state_of(&self.old)? })
+    }
+}
+
+/// The number of answers that held, or the first that did not. Where the old
+/// engine answers the archive is not asked.
 pub fn run(case: &Case) -> Result<usize, String> {
     let mut host = Host::new(&case.file);
+    let mut old = old_engine(case);
     let mut held = 0;
     for (number, check) in &case.checks {
+        if let Some(engine) = &mut old {
+            match check {
+                Check::Line(budget, line) => drop(engine.feed(line, *budget)),
+                Check::Widen => host.take_over(engine),
+                _ => {}
+            }
+            if !matches!(check, Check::Widen) {
+                continue;
+            }
+            old = None;
+        }
         if !host.holds(check) {
             return Err(format!("{} (line {number}): wanted {check:?}", case.name));
         }
         held += check.is_answer() as usize;
+        if case.old && matches!(check, Check::Narrow) {
+            old = host.hand_back();
+        }
     }
     Ok(held)
 }

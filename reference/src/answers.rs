@@ -10,9 +10,10 @@ pub use words::WordCheck;
 use crate::line::{Answer, Engine, Fed, Kind};
 use crate::macros::Table;
 use crate::measure::Plan;
-use crate::read::read_file;
+use crate::read::{read_after, read_file};
 use crate::refusal::Refusal;
 use crate::spell::shortest_length;
+use crate::state::State;
 use crate::write::write_table;
 use words::Looking;
 
@@ -41,6 +42,9 @@ pub enum Check {
     Words(WordCheck),
     Takes(Result<Plan, Refusal>),
     Recover(RecoverCheck),
+    Narrow,
+    Widen,
+    NarrowRefused(Refusal),
 }
 
 #[derive(Clone, Debug, Default)]
@@ -48,6 +52,8 @@ pub struct Case {
     pub name: String,
     pub from: String,
     pub file: Vec<u8>,
+    /// Whether it is about the old engine (02, N6).
+    pub old: bool,
     /// Each check with the number of its line in the text.
     pub checks: Vec<(usize, Check)>,
 }
@@ -75,6 +81,7 @@ fn add_line(case: &mut Case, number: usize, word: &str, rest: &str) -> Option<()
     match word {
         "from" => case.from = rest.to_string(),
         "file" => case.file.extend(unescape(rest)?),
+        "old-engine" => case.old = true,
         _ => case.checks.push((number, check(word, rest)?)),
     }
     Some(())
@@ -102,6 +109,9 @@ fn check(word: &str, rest: &str) -> Option<Check> {
         "shortest" => Check::Shortest(words.number()?, words.number()?),
         "same-as" => Check::SameAs(words.text()?),
         "differs-from" => Check::DiffersFrom(words.text()?),
+        "narrow" => Check::Narrow,
+        "widen" => Check::Widen,
+        "narrow-refused" => Check::NarrowRefused(words.refusal()?),
         "takes" | "takes-unwritten" | "takes-refused" => {
             Check::Takes(measure::parse(word, &mut words)?)
         }
@@ -216,8 +226,9 @@ struct Running<'a> {
 
 /// Runs a case. The answer is the number of checks that held, or what differs.
 pub fn run(case: &Case) -> Result<usize, String> {
-    let read = read_file(&case.file);
-    let engine = Engine::new(read.clone().unwrap_or_default());
+    let state = if case.old { State::fresh_old() } else { State::fresh() };
+    let read = read_after(&case.file, 0, state.entry_bytes);
+    let engine = Engine { table: read.clone().unwrap_or_default(), state };
     let file = &case.file;
     let mut running = Running { file, read, engine, fed: None, looking: Looking::default() };
     for (number, check) in &case.checks {
@@ -231,7 +242,12 @@ pub fn run(case: &Case) -> Result<usize, String> {
 impl Check {
     /// Whether it says what an answer is, and does not ask for one.
     pub fn is_answer(&self) -> bool {
-        !matches!(self, Check::Line(..) | Check::Words(WordCheck::Pattern(_) | WordCheck::Look(_)))
+        !matches!(
+            self,
+            Check::Line(..)
+                | Check::Widen
+                | Check::Words(WordCheck::Pattern(_) | WordCheck::Look(_))
+        )
     }
 }
 
@@ -251,6 +267,12 @@ impl Running<'_> {
                 differs(&self.fed.as_ref().map(|fed| &fed.trace), &Some(wanted))
             }
             Check::Words(check) => self.looking.says_instead(check),
+            Check::Narrow => self.narrowed_instead(None),
+            Check::NarrowRefused(wanted) => self.narrowed_instead(Some(*wanted)),
+            Check::Widen => {
+                self.engine.state = self.engine.state.widen();
+                None
+            }
             Check::Recover(check) => {
                 let (said, recovered) = check.said_instead(self.file);
                 if let Some(recovered) = recovered {
@@ -262,6 +284,16 @@ impl Running<'_> {
             _ => table_instead(check, &self.engine.table),
         }
         .or_else(|| state_instead(check, &self.engine))
+    }
+
+    /// The state goes back if it can.
+    fn narrowed_instead(&mut self, refused: Option<Refusal>) -> Option<String> {
+        let narrowed = self.engine.state.narrow();
+        let said = differs(&narrowed.as_ref().err(), &refused.as_ref());
+        if let Ok(state) = narrowed {
+            self.engine.state = state;
+        }
+        said
     }
 
     fn read_instead(&self, check: &Check) -> Option<String> {

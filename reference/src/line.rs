@@ -224,7 +224,7 @@ impl<'a> Work<'a> {
     /// What the control line says; 23 if it says nothing that 01 names.
     fn command(&self) -> Result<Command, Refusal> {
         if let Some(file) = self.line.strip_prefix(b"$MACRO") {
-            let mut macros = read_after(file, self.table.len())?;
+            let mut macros = read_after(file, self.table.len(), self.state.entry_bytes)?;
             return match (macros.pop(), macros.is_empty()) {
                 (Some(newest), true) => Ok(Command::Add(newest)),
                 _ => Err(Refusal::plain(CONTROL)),

@@ -1,5 +1,6 @@
 //! 02, N8: what a macro file will take, without its table.
 
+use crate::bounds::ENTRY_BYTES;
 use crate::read::Reader;
 use crate::refusal::Refusal;
 use crate::write::{end_of_line, written_macro};
@@ -17,7 +18,7 @@ pub struct Plan {
 /// One macro at a time; a file that reading refuses gets its refusal.
 pub fn measure(file: &[u8]) -> Result<Plan, Refusal> {
     let mut plan = Plan { macros: 0, elements: 0, tags: 0, bytes: Ok(0) };
-    for read in Reader::new(file, 0)? {
+    for read in Reader::new(file, 0, ENTRY_BYTES)? {
         let read = read?;
         plan.macros += 1;
         plan.elements = plan.elements.max(read.elements());

@@ -68,16 +68,19 @@ pub fn spell_words(engine: &Engine) -> String {
     lengths.collect::<Vec<_>>().join(" ")
 }
 
-/// One end of the protocol: a table, a state and a trace memory.
+/// One end of the protocol: a table, a state, a trace memory and an old state.
 pub struct Server {
     pub engine: Engine,
     /// The trace memory up to its zeros.
     trace: Vec<u8>,
+    /// A state of the old size.
+    old: State,
 }
 
 impl Default for Server {
     fn default() -> Server {
-        Server { engine: Engine::new(Vec::new()), trace: Vec::new() }
+        let (trace, old) = (Vec::new(), State::fresh_old());
+        Server { engine: Engine::new(Vec::new()), trace, old }
     }
 }
 
@@ -95,6 +98,17 @@ impl Server {
             }
             ["write"] => self.write(),
             ["measure", file] => measured(file),
+            ["narrow"] => match self.engine.state.narrow() {
+                Ok(state) => {
+                    self.old = state;
+                    "ok".to_string()
+                }
+                Err(refusal) => refusal_words(refusal),
+            },
+            ["widen"] => {
+                self.engine.state = self.old.widen();
+                "ok".to_string()
+            }
             ["recover", file] => self.recover(file),
             ["words", line, pattern] => look_up(line, pattern),
             ["trace"] => trace_words(&self.trace),

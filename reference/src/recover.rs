@@ -1,6 +1,6 @@
 //! 02, N11: reading past a lost quote.
 
-use crate::bounds::FAULTS;
+use crate::bounds::{ENTRY_BYTES, FAULTS};
 use crate::macros::Table;
 use crate::read::Reader;
 use crate::refusal::{Refusal, INCOMPLETE, MACRO_TOO_LONG, TOO_MANY_FAULTS};
@@ -15,7 +15,7 @@ pub struct Recovered {
 /// Where reading shows 12 to 18, the macro begun is left out and reading goes
 /// on behind the first `;` at or after that byte.
 pub fn recover(file: &[u8]) -> Result<Recovered, Refusal> {
-    let mut reader = Reader::new(file, 0)?;
+    let mut reader = Reader::new(file, 0, ENTRY_BYTES)?;
     let mut recovered = Recovered::default();
     while let Some(read) = reader.next() {
         match read {

@@ -21,6 +21,7 @@ pub const POINTER_PAST_END: u8 = 34;
 pub const COUNTER_PAST_END: u8 = 35;
 pub const TRACE_FULL: u8 = 36;
 pub const WORD_PATTERN: u8 = 41;
+pub const LONG_ENTRY: u8 = 42;
 pub const TOO_MANY_FAULTS: u8 = 61;
 
 /// A number and its place. The place is 0 for all numbers but 10 to 19.

@@ -1,6 +1,6 @@
 //! 01, part 4: the replacement and the commands of one occurrence.
 
-use crate::bounds::{ENTRY_BYTES, LINE_BYTES};
+use crate::bounds::LINE_BYTES;
 use crate::macros::{Action, Macro, Move};
 use crate::matching::Division;
 use crate::refusal::{Refusal, NEW_LINE_TOO_LONG, STORED_TAG};
@@ -103,7 +103,7 @@ fn move_after(state: &mut State, letter: u8, step: Option<Move>) -> Result<(), R
 }
 
 fn store_tag(state: &mut State, letter: u8, text: &[u8]) -> Result<(), Refusal> {
-    if text.len() > ENTRY_BYTES {
+    if text.len() > state.entry_bytes {
         return Err(Refusal::plain(STORED_TAG));
     }
     state.stack_mut(letter).store(text);

@@ -1,8 +1,8 @@
 //! The state: 26 stacks, 26 counters and two flags.
 
-use crate::bounds::{COUNTER_END, ENTRIES, LETTERS};
+use crate::bounds::{COUNTER_END, ENTRIES, ENTRY_BYTES, LETTERS, OLD_ENTRY_BYTES};
 use crate::macros::Sign;
-use crate::refusal::{Refusal, COUNTER_PAST_END, POINTER_PAST_END};
+use crate::refusal::{Refusal, COUNTER_PAST_END, LONG_ENTRY, POINTER_PAST_END};
 use std::array::from_fn;
 use std::fmt;
 
@@ -21,6 +21,9 @@ pub struct Counter {
 
 #[derive(Clone, Debug, PartialEq, Eq)]
 pub struct State {
+    /// How many bytes an entry may have, and so a call's text in `$MACRO`: 100,
+    /// in a state of the old engine 50 (02, N6).
+    pub entry_bytes: usize,
     pub stacks: [Stack; LETTERS],
     pub counters: [Counter; LETTERS],
     pub trace: bool,
@@ -71,11 +74,37 @@ impl Counter {
 impl State {
     pub fn fresh() -> State {
         State {
+            entry_bytes: ENTRY_BYTES,
             stacks: from_fn(|_| Stack { pointer: 1, entries: from_fn(|_| Vec::new()) }),
             counters: from_fn(|_| Counter { value: 1, increment: 1 }),
             trace: false,
             nflag: false,
         }
+    }
+
+    /// A fresh state of the old engine.
+    pub fn fresh_old() -> State {
+        State { entry_bytes: OLD_ENTRY_BYTES, ..State::fresh() }
+    }
+
+    /// The new state that an old one becomes.
+    pub fn widen(&self) -> State {
+        State { entry_bytes: ENTRY_BYTES, ..self.clone() }
+    }
+
+    /// The old state that a new one becomes; 42 if an entry is over 50.
+    pub fn narrow(&self) -> Result<State, Refusal> {
+        let mut entries = self.stacks.iter().flat_map(|stack| &stack.entries);
+        if entries.any(|entry| entry.len() > OLD_ENTRY_BYTES) {
+            return Err(Refusal::plain(LONG_ENTRY));
+        }
+        Ok(State { entry_bytes: OLD_ENTRY_BYTES, ..self.clone() })
+    }
+
+    /// The bytes of its memory: the flags, the pointers, value and increment of
+    /// four bytes each, and the entries.
+    pub fn memory_bytes(&self) -> usize {
+        2 + LETTERS * (1 + 2 * 4 + ENTRIES * self.entry_bytes)
     }
 
     pub fn stack(&self, letter: u8) -> &Stack {

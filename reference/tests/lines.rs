@@ -48,7 +48,7 @@ fn refused_lines_change_nothing() {
 
 fn within_bounds(state: &State) -> bool {
     let stack = |stack: &Stack| {
-        let entry = |entry: &Vec<u8>| entry.len() <= 50 && !entry.contains(&0);
+        let entry = |entry: &Vec<u8>| entry.len() <= 100 && !entry.contains(&0);
         (1..=20).contains(&stack.pointer) && stack.entries.iter().all(entry)
     };
     let number = |number: u64| (1..=999_999_999).contains(&number);

@@ -60,6 +60,13 @@ fn server_answers() {
     says(&format!("recover {}", hex(b"'a'='b';'c';'d'='e';'f")), "ok 2 12 11 12 22");
     says("write", &format!("ok {}", hex(b"'a'='b';\n'd'='e';\n")));
     says(&format!("recover {}", hex(&b"'a;".repeat(257))), "no 61 0");
+    says(&format!("read {}", hex(b"'{a*}'<''&(1,s);")), "ok 1");
+    says(&format!("feed 9 {}", hex(&[b'a'; 50])), "0 0 1 1 -");
+    says("narrow", "ok");
+    says(&format!("feed 9 {}", hex(&[b'a'; 51])), "0 0 1 1 -");
+    says("narrow", "no 42 0");
+    says("widen", "ok");
+    says("state", &format!("es1={}", hex(&[b'a'; 50])));
     says("feed x -", "error bad feed");
     says("read xx", "error bad hex");
     says("other", "error unknown command");

@@ -12,7 +12,7 @@ const FILES: usize = 60_000;
 /// The macros that plain reading has before its fault: those of the longest
 /// beginning that it takes.
 fn before_fault(rest: &[u8], place: usize, kept: usize) -> Table {
-    let cut = (0..=place).rev().find_map(|end| read_after(&rest[..end], kept).ok());
+    let cut = (0..=place).rev().find_map(|end| read_after(&rest[..end], kept, 100).ok());
     cut.expect("reading takes the empty file")
 }
 
@@ -24,7 +24,7 @@ fn by_plain_reading(file: &[u8]) -> Result<Recovered, Refusal> {
     let (mut table, mut faults, mut from) = (Vec::new(), Vec::new(), 0);
     loop {
         let rest = &file[from..];
-        let fault = match read_after(rest, table.len()) {
+        let fault = match read_after(rest, table.len(), 100) {
             Ok(more) => {
                 table.extend(more);
                 return Ok(Recovered { table, faults });

@@ -179,7 +179,7 @@ fn some_macros_are_spelled_by_no_file() {
     let text = |length| Action::StoreText(b'a', vec![b'x'; length], None);
     let spelled = [
         of_actions(99, vec![Action::Tag(99)], Vec::new()),
-        of_actions(0, vec![text(50)], vec![text(0)]),
+        of_actions(0, vec![text(100)], vec![text(0)]),
         of_actions(0, vec![Action::Literal(b':'); 505], Vec::new()),
         of_pattern(vec![class(vec![Member::Range(b'a', b'a')])]),
     ];
@@ -188,7 +188,7 @@ fn some_macros_are_spelled_by_no_file() {
         of_actions(100, Vec::new(), Vec::new()),
         of_actions(1, vec![Action::Tag(2)], Vec::new()),
         of_actions(1, vec![Action::Tag(0)], Vec::new()),
-        of_actions(0, vec![text(51)], Vec::new()),
+        of_actions(0, vec![text(101)], Vec::new()),
         of_actions(0, vec![Action::Literal(b':'); 506], Vec::new()),
         of_actions(0, vec![Action::Literal(b'/'); 253], Vec::new()),
         of_actions(0, vec![Action::Literal(0)], Vec::new()),
@@ -217,7 +217,7 @@ fn some_macros_are_spelled_by_no_file() {
 fn some_calls_before_a_pattern_are_spelled_by_no_file() {
     let text = |length: usize| Action::StoreText(b'a', vec![b'x'; length], None);
     let spelled = [
-        of_calls(vec![text(50), Action::SetPointer(b'a', 20), Action::SetCounter(b'b', 1)]),
+        of_calls(vec![text(100), Action::SetPointer(b'a', 20), Action::SetCounter(b'b', 1)]),
         of_calls(vec![Action::SetIncrement(b'b', 100); 62]),
     ];
     assert!(spelled.iter().all(some_file_spells));
@@ -228,7 +228,7 @@ fn some_calls_before_a_pattern_are_spelled_by_no_file() {
         of_calls(vec![Action::Value(b'a', None)]),
         of_calls(vec![Action::Divided(b'a', 4)]),
         of_calls(vec![Action::StoreTag(1, b'a', None)]),
-        of_calls(vec![text(51)]),
+        of_calls(vec![text(101)]),
         of_calls(vec![Action::SetIncrement(b'b', 100); 63]),
     ];
     for made in not_spelled {

@@ -20,7 +20,7 @@ fn full_macro(unit: &str, last: &str) -> Vec<u8> {
 fn state() -> State {
     let mut state = State::fresh();
     state.stack_mut(b'a').store(b"a");
-    state.stack_mut(b'b').store(&[b'a'; 49]);
+    state.stack_mut(b'b').store(&[b'a'; 99]);
     state.counter_mut(b'c').value = 1;
     state
 }

@@ -7,6 +7,6 @@ mod table;
 mod taken;
 
 pub use faults::faults_form;
-pub use state::{state_form, state_of};
+pub use state::{old_state_of, state_form, state_of};
 pub use table::{slot_form, table_form, HEADER_BYTES, SLOT_BYTES};
 pub use taken::table_of;

@@ -37,16 +37,16 @@ fn other_byte(random: &mut Random, byte: u8) -> u8 {
     other
 }
 
-fn state_place(random: &mut Random) -> usize {
+pub fn state_place(random: &mut Random, size: usize) -> usize {
     match random.below(3) {
         0 => random.below(28),
         1 => 28 + random.below(208),
-        _ => 236 + random.below(STATE_BYTES - 236),
+        _ => 236 + random.below(size - 236),
     }
 }
 
 /// Another byte at a place of the state, often at the end of what may stand there.
-fn state_byte(random: &mut Random, place: usize, byte: u8) -> u8 {
+pub fn state_byte(random: &mut Random, place: usize, byte: u8) -> u8 {
     let near: &[u8] = match place {
         0 | 1 => &[0, 1, 2, 255],
         2..=27 => &[0, 1, 2, 19, 20, 21],
@@ -100,8 +100,8 @@ impl Trial {
         made != table[at]
     }
 
-    fn change_state(&mut self, random: &mut Random) {
-        let place = state_place(random);
+    pub fn change_state(&mut self, random: &mut Random) {
+        let place = state_place(random, STATE_BYTES);
         self.state_bytes[place] = state_byte(random, place, self.state_bytes[place]);
         self.state.hold(&self.state_bytes);
         self.plain_state = state_of(&self.state_bytes);

@@ -10,6 +10,8 @@ pub enum Group {
     Write,
     WriteChanged,
     Fresh,
+    Widen,
+    Narrow,
     Measure,
     Recover,
     Words,
@@ -21,6 +23,7 @@ pub enum Group {
     FeedMore,
     FeedLarge,
     FeedOver,
+    FeedWidened,
     FeedTable,
     FeedState,
     FeedBoth,
@@ -29,6 +32,8 @@ pub enum Group {
     SizeFresh,
     SizeFeed,
     SizeRecover,
+    SizeWiden,
+    SizeNarrow,
 }
 
 const NAMES: &[&str] = &[
@@ -37,6 +42,8 @@ const NAMES: &[&str] = &[
     "m7_write, a table as read or fed",
     "m7_write, the table changed",
     "m7_fresh",
+    "m7_widen",
+    "m7_narrow",
     "m7_measure, beside reading and writing out",
     "m7_recover, beside reading of what is left",
     "m7_words",
@@ -48,6 +55,7 @@ const NAMES: &[&str] = &[
     "m7_feed, budget more than the passes",
     "m7_feed, budget 1,000,000",
     "m7_feed, budget over 1,000,000",
+    "m7_feed, from a widened state, beside the old engine",
     "m7_feed, the table changed",
     "m7_feed, a byte of the state changed",
     "m7_feed, several of these at once",
@@ -56,6 +64,8 @@ const NAMES: &[&str] = &[
     "m7_fresh, a memory of another size",
     "m7_feed, a memory of another size",
     "m7_recover, a memory of another size",
+    "m7_widen, a memory of another size",
+    "m7_narrow, a memory of another size",
 ];
 
 /// Behind the numbers stand the kinds of a line that was taken.

@@ -7,13 +7,15 @@ mod counts;
 mod measure;
 mod recover;
 mod songs;
+mod widths;
 mod words;
 
 pub use counts::{grouped, Counts, Group};
 pub use songs::Songs;
 
 use crate::engine::{
-    self, Answer, FAULTS_BYTES, FILE_BYTES, OUTPUT_BYTES, STATE_BYTES, TABLE_BYTES, TRACE_BYTES,
+    self, Answer, FAULTS_BYTES, FILE_BYTES, OLD_STATE_BYTES, OUTPUT_BYTES, STATE_BYTES,
+    TABLE_BYTES, TRACE_BYTES,
 };
 use crate::form::{state_form, table_form};
 use crate::lent::Lent;
@@ -25,13 +27,14 @@ use m7_reference::refusal::Refusal;
 use m7_reference::state::State;
 use m7_reference::write::write_table;
 
-/// What an unused output, file, trace or faults' memory holds before a call.
+/// What an unused output, file, trace, faults' or old state's memory holds before a call.
 const OLD: u8 = 0xFF;
 
 /// The memories lent, and what they must hold.
 pub struct Trial {
     table: Lent,
     state: Lent,
+    old: Lent,
     output: Lent,
     trace: Lent,
     file: Lent,
@@ -98,6 +101,7 @@ impl Trial {
         let mut trial = Trial {
             table: Lent::new(TABLE_BYTES),
             state: Lent::new(STATE_BYTES),
+            old: Lent::new(OLD_STATE_BYTES),
             output: Lent::new(OUTPUT_BYTES),
             trace: Lent::new(TRACE_BYTES),
             file: Lent::new(FILE_BYTES),

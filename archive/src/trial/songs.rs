@@ -1,7 +1,9 @@
 //! Which calls are made: generated files, and files with lists of lines.
 
 use super::{Group, Trial};
-use m7_reference::generate::{any_case, any_file, any_line, bound_case, good_file, Case, Random};
+use m7_reference::generate::{
+    any_case, any_file, any_line, bound_case, entry_case, good_file, Case, Random,
+};
 use m7_reference::read::read_file;
 
 /// How many of each sort were made.
@@ -44,7 +46,11 @@ impl Songs {
             }
             40..=48 => {
                 self.bounds += 1;
-                bound_case(random)
+                if random.one_in(4) {
+                    entry_case(random)
+                } else {
+                    bound_case(random)
+                }
             }
             49 => {
                 self.long += 1;
@@ -90,6 +96,8 @@ impl Songs {
         }
         if case.lines.len() > 1 {
             write_and_back(trial);
+            trial.there_and_back(random);
+            trial.beside_old(&case.lines);
         }
         let line = case.lines.last().map_or(&b"a1-b"[..], |(_, line)| line);
         changes(trial, random, line);
@@ -122,5 +130,6 @@ fn changes(trial: &mut Trial, random: &mut Random, line: &[u8]) {
     }
     if random.one_in(16) {
         trial.other_sizes(random, line);
+        trial.other_widths(random);
     }
 }

@@ -1,8 +1,16 @@
 // Whether bytes are a state (refusal 2).
 use form_bytes::all_zero_by_four;
 use form_bytes::number_at;
+use form_state::layout::ENTRIES_AT;
+use form_state::layout::ENTRY_BYTES;
+use form_state::layout::POINTERS_AT;
+use form_state::layout::STACK_BYTES;
+use form_state::layout::STATE_BYTES;
+use form_state::layout::VALUES_AT;
 ghost use mathlib.Core.Path.{_≡_};
 ghost use lib.ListN.{length};
+ghost use Rattle.macros.specs.Bounds.{mostEntries, mostEntryBytes};
+ghost use Rattle.form_state.specs.Form.{entryCount, stackBytes, stacksBytes};
 ghost use Rattle.form_state.specs.Check.{pointersCheck, numberCheck, entryCheck, blocksCheck, stateChecks};
 
 // Each pointer is 1 to 20.
@@ -48,14 +56,14 @@ fn entry_fits(entry: &[u8]) -> bool
 
 // The 20 entries of a stack, one by one.
 fn each_fits(stack: &[u8]) -> bool
-    requires { ⌜ length (now stack) ≡ 1000 ⌝ }
-    ensures { λ r. ⌜ r ≡ blocksCheck entryCheck 50 20 (now (stack .entry)) ⌝ }
+    requires { ⌜ length (now stack) ≡ stackBytes ⌝ }
+    ensures { λ r. ⌜ r ≡ blocksCheck entryCheck mostEntryBytes mostEntries (now (stack .entry)) ⌝ }
 {
     let mut ok = true;
     let mut i = 0;
     while i < 20 {
-        let at = 50 * i;
-        ok = ok & entry_fits(&stack[at..at + 50]);
+        let at = ENTRY_BYTES * i;
+        ok = ok & entry_fits(&stack[at..at + ENTRY_BYTES]);
         i += 1;
     }
     ok
@@ -63,8 +71,8 @@ fn each_fits(stack: &[u8]) -> bool
 
 // Most stacks hold nothing but empty entries, which are zeros: these are seen many at once.
 fn stack_fits(stack: &[u8]) -> bool
-    requires { ⌜ length (now stack) ≡ 1000 ⌝ }
-    ensures { λ r. ⌜ r ≡ blocksCheck entryCheck 50 20 (now (stack .entry)) ⌝ }
+    requires { ⌜ length (now stack) ≡ stackBytes ⌝ }
+    ensures { λ r. ⌜ r ≡ blocksCheck entryCheck mostEntryBytes mostEntries (now (stack .entry)) ⌝ }
 {
     if all_zero_by_four(stack) {
         return true;
@@ -74,14 +82,14 @@ fn stack_fits(stack: &[u8]) -> bool
 
 // The 26 stacks.
 fn entries_fit(entries: &[u8]) -> bool
-    requires { ⌜ length (now entries) ≡ 26000 ⌝ }
-    ensures { λ r. ⌜ r ≡ blocksCheck entryCheck 50 520 (now (entries .entry)) ⌝ }
+    requires { ⌜ length (now entries) ≡ stacksBytes ⌝ }
+    ensures { λ r. ⌜ r ≡ blocksCheck entryCheck mostEntryBytes entryCount (now (entries .entry)) ⌝ }
 {
     let mut ok = true;
     let mut i = 0;
     while i < 26 {
-        let at = 1000 * i;
-        ok = ok & stack_fits(&entries[at..at + 1000]);
+        let at = STACK_BYTES * i;
+        ok = ok & stack_fits(&entries[at..at + STACK_BYTES]);
         i += 1;
     }
     ok
@@ -91,13 +99,13 @@ fn entries_fit(entries: &[u8]) -> bool
 pub fn is_state(state: &[u8]) -> bool
     ensures { λ r. ⌜ r ≡ stateChecks (now (state .entry)) ⌝ }
 {
-    if state.len() != 26236 {
+    if state.len() != STATE_BYTES {
         return false;
     }
     let trace = state[0] <= 1;
     let nflag = state[1] <= 1;
-    let pointers = pointers_fit(&state[2..28]);
-    let numbers = numbers_fit(&state[28..236]);
-    let entries = entries_fit(&state[236..]);
+    let pointers = pointers_fit(&state[POINTERS_AT..VALUES_AT]);
+    let numbers = numbers_fit(&state[VALUES_AT..ENTRIES_AT]);
+    let entries = entries_fit(&state[ENTRIES_AT..]);
     trace & nflag & pointers & numbers & entries
 }

@@ -226,9 +226,9 @@ fn text_step(n: u32, q: u8, c: u8, o: u8) -> ActionNext
 }
 
 fn length_step(n: u32, c: u8, o: u8) -> ActionNext
-    ensures { λ r. ⌜ nextOf r ≡ given (eqb c 43 && leb o 50) (actionAt n (textSpot o)) ⌝ }
+    ensures { λ r. ⌜ nextOf r ≡ given (eqb c 43 && leb o 100) (actionAt n (textSpot o)) ⌝ }
 {
-    if (c == 43) & (o <= 50) {
+    if (c == 43) & (o <= 100) {
         return at(n, text_spot(o));
     }
     ActionNext::Refused

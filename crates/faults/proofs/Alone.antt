@@ -13,6 +13,7 @@ use Rattle.macros.specs.Refusals.FileRefusal.{tooManyMacros}
 use Rattle.macros.specs.Macro.{Macro, Mark, Table, pick}
 use Rattle.macros.specs.Formed.{Between}
 use Rattle.macros.specs.Read.{Next, Pending, Prior, Read, Reader, Step, atEnd, count, firstCall, macroOf, noCalls, outside, outsideFresh, partByte, readFile, readFrom, readOnto, skips, step, taken}
+use Rattle.macros.specs.Read.{readFileBy, readFromBy, stepBy}
 use Rattle.macros.specs.ReadSoFar.Joinable.{nothing}
 use Rattle.macros.specs.ReadSoFar.Part.{pattern}
 use Rattle.macros.specs.ReadSoFar.Step.{done, on, opens, stop}
@@ -108,7 +109,7 @@ module _ (old : List Macro) where
   outside-alike (atMark m n) ms b = either (eqb b 40) _ _ _ _ (first-alike m n ms) (fresh-alike ms b)
 
   step-alike : (r : Reader) (b : ℕ) → Alike (step (shift r) b) (step r b)
-  unfolding step shift shiftNext
+  unfolding stepBy shift shiftNext
   step-alike (between skip a ms) b = either (eqb b 47) _ _ _ _ (alike refl) (either skip _ _ _ _ (alike refl) (outside-alike a ms b))
   step-alike (inside skip n st pr) b =
       either (skips st && eqb b 47) _ _ _ _ (count-alike n (inside (not skip) (suc n) st pr))
@@ -116,7 +117,7 @@ module _ (old : List Macro) where
 
   -- the same refusal, if it is not 19
   alone-from : (v : List ℕ) (q : ℕ) (r : Reader) (k : FileRefusal) (p : ℕ) → (tooManyMacros ≡ k → ⊥) → readFrom q (shift r) v ≡ refusedAt k p → readFrom q r v ≡ refusedAt k p
-  unfolding readFrom atEnd shift shiftNext
+  unfolding readFromBy atEnd shift shiftNext
   alone-from [] q (between true a ms) k p h e = unfold pick in e
   alone-from [] q (between false a ms) k p h e = unfold pick in no-table e
   alone-from [] q (inside skip n st pr) k p h e = e
@@ -131,7 +132,7 @@ module _ (old : List Macro) where
       by (refuseBefore j n) f (alike g) ih = read-refuse-before q j n r b v f ∙ (sym (read-refuse-before q j n (shift r) b v (g ∙ rw f)) ∙ e)
 
 pub read-alone : (older : Table) (t : List ℕ) (k : FileRefusal) (p : ℕ) → Plain t → (tooManyMacros ≡ k → ⊥) → readOnto older t ≡ refusedAt k p → readFile t ≡ refusedAt k p
-unfolding readFile shift
+unfolding readFileBy shift
 read-alone older t k p g h e = read-plain [] t g ∙ alone-from (reverse older) t 0 (between false clear []) k p h (sym (read-plain older t g) ∙ e)
 
 -- A TABLE
@@ -142,7 +143,7 @@ not-read e = no-table (sym e)
 -- bytes that are read onto a table are read alone, and their macros stand behind the table's
 module _ (old : List Macro) where
   table-from : (v : List ℕ) (q : ℕ) (r : Reader) (ks : Table) → readFrom q (shift old r) v ≡ table ks → (new : Table) × (readFrom q r v ≡ table new) × (ks ≡ reverse old ++ new)
-  unfolding readFrom atEnd shift shiftNext
+  unfolding readFromBy atEnd shift shiftNext
   table-from [] q (between true a ms) ks e = unfold pick in not-read e
   table-from [] q (between false a ms) ks e = unfold pick in let z : reverse (ms ++ old) ≡ ks = cc in (reverse ms, refl, sym z ∙ reverse-append ms old)
   table-from [] q (inside skip n st pr) ks e = not-read e
@@ -160,7 +161,7 @@ module _ (old : List Macro) where
       by (refuseBefore j n) f (alike g) ih = not-read (sym (read-refuse-before q j n (shift old r) b v (g ∙ rw f)) ∙ e)
 
 pub table-alone : (older : Table) (t : List ℕ) (ks : Table) → Plain t → readOnto older t ≡ table ks → (new : Table) × (readFile t ≡ table new) × (ks ≡ older ++ new)
-unfolding readFile shift
+unfolding readFileBy shift
 table-alone older t ks g e =
     let x = table-from (reverse older) t 0 (between false clear []) ks (sym (read-plain older t g) ∙ e) in
     (x .0, read-plain [] t g ∙ x .1, x .2 ∙ ap (λ y. y ++ x .0) (reverse-reverse older))
@@ -175,7 +176,7 @@ end-not-19 q (inside skip n st pr) p e = let z : _≡_ {A = ℕ} 0 1 = cc in abs
 
 -- more bytes behind do not change it
 more-19 : (u v : List ℕ) (q : ℕ) (r : Reader) (p : ℕ) → readFrom q r u ≡ refusedAt tooManyMacros p → readFrom q r (u ++ v) ≡ refusedAt tooManyMacros p
-unfolding readFrom
+unfolding readFromBy
 more-19 [] v q r p e = end-not-19 q r p e
 more-19 (b ∷ u) v q r p e = by (step r b) refl (λ x f. more-19 u v (suc q) x p f)
   where
@@ -241,7 +242,7 @@ made-alone s p q older made r f n new g l e = by (readOnto older u) refl
 
 -- a beginning of bytes that are read as a table is read as a beginning of it
 grows-on : (u v : List ℕ) (new all : Table) → Plain (u ++ v) → readFile u ≡ table new → readFile (u ++ v) ≡ table all → (x : Table) × (all ≡ new ++ x)
-unfolding readFile
+unfolding readFileBy
 grows-on u v new all g e f =
     let a = table-after u 0 (between false clear []) new (sym (read-plain [] u (plain-front u v g)) ∙ e) in
     let b = table-after (u ++ v) 0 (between false clear []) all (sym (read-plain [] (u ++ v) g) ∙ f) in

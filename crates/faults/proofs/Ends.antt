@@ -10,7 +10,7 @@ use lib.Dec.{eqb}
 use borrow.Author.Tests.{eqb-false}
 use Rattle.macros.specs.Refusals.{FileRefusal}
 use Rattle.macros.specs.Macro.{Macro, Table, pick}
-use Rattle.macros.specs.Read.{Next, Pending, Reader, atEnd, firstZero, readFrom, step}
+use Rattle.macros.specs.Read.{Next, Pending, Reader, atEnd, firstZero, readFrom, step, readFromBy}
 use Rattle.macros.specs.ReadFile.Reader.{between, inside}
 use Rattle.macros.specs.ReadFile.Next.{go, refuse, refuseBefore}
 use Rattle.macros.specs.ReadFile.Read.{refusedAt, table}
@@ -23,7 +23,7 @@ not-table e = let z : _≡_ {A = ℕ} 0 1 = cc in absurd (omega arith)
 
 -- the reader at the end of bytes that are read as a table
 pub table-after : (u : List ℕ) (q : ℕ) (r : Reader) (new : Table) → readFrom q r u ≡ table new → (a : Pending) × (after r u ≡ go (between false a (reverse new)))
-unfolding readFrom after atEnd
+unfolding readFromBy after atEnd
 table-after [] q (between true a ms) new e = unfold pick in not-table e
 table-after [] q (between false a ms) new e = unfold pick in let z : reverse ms ≡ new = cc in (a, rw (← z, reverse-reverse ms))
 table-after [] q (inside skip n st pr) new e = not-table e
@@ -54,5 +54,5 @@ plain-front u v g = let l = length-append u v in (omega (arith, g .0), plain-bef
 
 -- the end of bytes behind which no macro and no skip is open
 pub end-of : (u : List ℕ) (r : Reader) (a : Pending) (ms : List Macro) → after r u ≡ go (between false a ms) → readFrom 0 r u ≡ table (reverse ms)
-unfolding readFrom atEnd pick
+unfolding readFromBy atEnd pick
 end-of u r a ms e = ap (readFrom 0 r) (sym (append-nil u)) ∙ read-after u [] 0 r (between false a ms) e

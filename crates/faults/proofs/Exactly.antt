@@ -13,7 +13,7 @@ use Rattle.macros.specs.Refusals.{FileRefusal, fileNumber}
 use Rattle.macros.specs.Refusals.FileRefusal.{badBrace, badCall, badClass, fileTooLong, incomplete, macroTooLong, noElement, noUnit, tooManyMacros, zeroByte}
 use Rattle.macros.specs.Macro.{Table, pick, within}
 use Rattle.macros.specs.Formed.{Between, Bytes, Octets}
-use Rattle.macros.specs.Read.{firstZero, readFile, readOnto}
+use Rattle.macros.specs.Read.{firstZero, readFile, readOnto, readFileBy, readOntoBy}
 use Rattle.macros.specs.ReadFile.Pending.{clear}
 use Rattle.macros.specs.ReadFile.Reader.{between}
 use Rattle.macros.specs.ReadFile.Read.{refusedAt, table}
@@ -270,7 +270,7 @@ pub data Judged (s : List ℕ) : Type 0 where
   unreadable : (r : FileRefusal) (p : ℕ) → fileNumber r ≤ 11 → readFile s ≡ refusedAt r p → recover s ≡ notRead (asBefore r p) → Judged s
 
 pub judge : (s : List ℕ) → Judged s
-unfolding readFile readOnto recover fileNumber
+unfolding readFileBy readOntoBy recover fileNumber
 judge s = by (ltb mostFileBytes (length s)) (firstZero 0 s) refl refl
   where
     by : (x : Bool) (o : Option ℕ) → ltb mostFileBytes (length s) ≡ x → firstZero 0 s ≡ o → Judged s
@@ -280,7 +280,7 @@ judge s = by (ltb mostFileBytes (length s)) (firstZero 0 s) refl refl
 
 -- a plain file is refused by neither
 pub not-unread : {A : Type 0} (s : List ℕ) (r : FileRefusal) (p : ℕ) → Octets s → Plain s → fileNumber r ≤ 11 → readFile s ≡ refusedAt r p → A
-unfolding readFile
+unfolding readFileBy
 not-unread s r p bytes g l e = not-whole r (refusal-shows [] s r p (bytes-of s bytes (g .1)) (g .0) e) l
 
 module _ (s : List ℕ) (bytes : Octets s) where

@@ -8,6 +8,7 @@ use Rattle.macros.specs.Bounds.{mostMacroBytes}
 use Rattle.macros.specs.Refusals.FileRefusal.{macroTooLong}
 use Rattle.macros.specs.Macro.{Macro, Mark, Table, pick}
 use Rattle.macros.specs.Read.{Next, Part, Pending, Prior, Reader, Step, count, firstCall, further, macroOf, outside, outsideFresh, partByte, skips, step, taken}
+use Rattle.macros.specs.Read.{stepBy}
 use Rattle.macros.specs.ReadSoFar.Step.{done, on, opens, stop}
 use Rattle.macros.specs.ReadFile.Pending.{atMark, clear}
 use Rattle.macros.specs.ReadFile.Reader.{between, inside}
@@ -87,7 +88,7 @@ taken-in n pr (done f l cs) r′ e = count-in pr n _ r′ (ends (macroOf (pr .ca
 taken-in n pr (stop k) r′ e = not-go e
 
 pub in-macro : (skip : Bool) (n : ℕ) (st : Part) (pr : Prior) (r′ : Reader) (b : ℕ) → step (inside skip n st pr) b ≡ go r′ → InMacro pr r′
-unfolding step
+unfolding stepBy
 in-macro skip n st pr r′ b e = by (skips st && eqb b 47) skip e
   where
     by : (c d : Bool) → pick c (count n (inside (not d) (suc n) st pr)) (pick d (count n (inside true (suc n) st pr)) (taken n pr (partByte st b))) ≡ go r′
@@ -98,7 +99,7 @@ in-macro skip n st pr r′ b e = by (skips st && eqb b 47) skip e
 
 -- a byte between macros makes none
 pub between-same : (skip : Bool) (a : Pending) (ms : List Macro) (r′ : Reader) (b : ℕ) → step (between skip a ms) b ≡ go r′ → newest r′ ≡ ms
-unfolding step newest
+unfolding stepBy newest
 between-same skip a ms r′ b e = by (eqb b 47) skip e
   where
     by : (c d : Bool) → pick c (go (between (not d) (further a) ms)) (pick d (go (between true (further a) ms)) (outside a ms b)) ≡ go r′ → newest r′ ≡ ms

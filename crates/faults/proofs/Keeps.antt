@@ -9,7 +9,7 @@ use Rattle.macros.specs.Bounds.{mostMacros}
 use Rattle.macros.specs.Refusals.{FileRefusal, fileNumber}
 use Rattle.macros.specs.Macro.{Macro, Table, pick}
 use Rattle.macros.specs.Formed.{Octets}
-use Rattle.macros.specs.Read.{Pending, outside, outsideFresh, readFile, readOnto, step}
+use Rattle.macros.specs.Read.{Pending, outside, outsideFresh, readFile, readOnto, step, readFileBy, stepBy}
 use Rattle.macros.specs.ReadFile.Pending.{atMark, clear}
 use Rattle.macros.specs.ReadFile.Reader.{between}
 use Rattle.macros.specs.ReadFile.Next.{go}
@@ -62,12 +62,12 @@ pub no-faults : NoFaults
 no-faults s ms = (λ e. to (judge s) e, λ e. back (judge s) e)
   where
     to : Judged s → recover s ≡ kept ms [] → readFile s ≡ table ms
-    to (plain g f) e = unfold readFile in no-faults-seen s g ms _ (left-seen s g 0 []) (sym (recover-stretched s mostFaults 0 []) ∙ (sym f ∙ e))
+    to (plain g f) e = unfold readFileBy in no-faults-seen s g ms _ (left-seen s g 0 []) (sym (recover-stretched s mostFaults 0 []) ∙ (sym f ∙ e))
     to (unreadable r p l f h) e = not-kept (sym h ∙ e)
 
     back : Judged s → readFile s ≡ table ms → recover s ≡ kept ms []
     back (plain g f) e =
-        f ∙ (recover-stretched s mostFaults 0 [] ∙ (unfold afterStretch in ap (afterStretch (listed s mostFaults)) (at-end s g 0 [] ms (unfold readFile in e) _ (left-seen s g 0 []))))
+        f ∙ (recover-stretched s mostFaults 0 [] ∙ (unfold afterStretch in ap (afterStretch (listed s mostFaults)) (at-end s g 0 [] ms (unfold readFileBy in e) _ (left-seen s g 0 []))))
     back (unreadable r p l f h) e = no-table (sym e ∙ f)
 
 -- THE FIRST FAULT
@@ -82,7 +82,7 @@ first-as-plain s r p k e = by (judge s)
   where
     by : Judged s → FirstIs (faultAt r p) (recover s)
     by (plain g f) =
-        let z = at-refusal s g 0 p [] r (unfold readFile in e) _ (left-seen s g 0 []) in
+        let z = at-refusal s g 0 p [] r (unfold readFileBy in e) _ (left-seen s g 0 []) in
         let y : 0 + p ≡ p = omega arith in
         subst (FirstIs (faultAt r p))
         (sym (f ∙ (recover-stretched s mostFaults 0 [] ∙ (ap (afterStretch (listed s mostFaults)) (z .1 ∙ ap (λ (i : ℕ). toRefusal r i (z .0)) y) ∙ stretched-fault s g (listed s mostFaults) r p (z .0) k))))
@@ -241,7 +241,7 @@ faults-listed s ms fs bytes e =
 
 -- `;` between macros: no sign is pending behind it
 step-clear : (a : Pending) (ms : List Macro) → step (between false a ms) 59 ≡ go (between false clear ms)
-unfolding step outside outsideFresh pick
+unfolding stepBy outside outsideFresh pick
 step-clear clear ms = refl
 step-clear (atMark m n) ms = refl
 
@@ -277,7 +277,7 @@ making-on n older ms w m g e =
 
 -- and to their end
 could-make : (u : List ℕ) (a : Pending) (ms : Table) → Octets u → Plain u → after (between false clear []) u ≡ go (between false a (reverse ms)) → CouldMake ms
-unfolding readFile
+unfolding readFileBy
 could-make u a ms o g e = (u, o, read-plain [] u g ∙ (end-of u (between false clear []) a (reverse ms) e ∙ ap table (reverse-reverse ms)))
 
 take-short : (n : ℕ) (l : List ℕ) → length (take n l) ≤ n
@@ -330,7 +330,7 @@ kept-could-be-read s ms fs bytes e =
 
 -- at most 96 macros are kept
 pub kept-few : (s : List ℕ) (ms : Table) (fs : List Fault) → Octets s → recover s ≡ kept ms fs → length ms ≤ mostMacros
-unfolding readFile
+unfolding readFileBy
 kept-few s ms fs bytes e =
     let x = kept-could-be-read s ms fs bytes e in
     read-keeps [] (x .0) ms (record { count = omega arith; macros = tt }) (x .1) (x .2) .accepted .count

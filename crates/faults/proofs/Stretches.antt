@@ -11,7 +11,7 @@ use Rattle.macros.specs.Bounds.{mostMacroBytes}
 use Rattle.macros.specs.Refusals.{FileRefusal}
 use Rattle.macros.specs.Refusals.FileRefusal.{macroTooLong, tooManyMacros}
 use Rattle.macros.specs.Macro.{Table, markByte, pick}
-use Rattle.macros.specs.Read.{Next, Pending, Reader, atEnd, readFrom, readOnto, step}
+use Rattle.macros.specs.Read.{Next, Pending, Reader, atEnd, readFrom, readOnto, step, readFromBy}
 use Rattle.macros.specs.ReadFile.Pending.{atMark, clear}
 use Rattle.macros.specs.ReadFile.Reader.{between, inside}
 use Rattle.macros.specs.ReadFile.Next.{go, refuse, refuseBefore}
@@ -128,7 +128,7 @@ module _ (older : Table) (t : List ℕ) (plain : Plain t) (p : ℕ) where
 
   -- at the file's end
   seen-end : (u : List ℕ) (r : Reader) → t ≡ u ++ [] → after start u ≡ go r → Began start u r → Seen older t p (atFileEnd (wholeMacros r) (atEnd (p + length u) r))
-  unfolding atEnd atFileEnd pick readFrom
+  unfolding atEnd atFileEnd pick readFromBy
   seen-end u (between false a ms) z e g = ended (from-there u [] (between false a ms) z e)
   seen-end u (between true a ms) z e g = stopped (from-there u [] (between true a ms) z e) (part-length u [] z) (made u [] (between true a ms) (length u) z e g (front-length g) (omega arith))
   seen-end u (inside skip n st pr) z e g =

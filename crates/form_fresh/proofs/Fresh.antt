@@ -5,9 +5,12 @@ use mathlib.Core.List.{List, [], _∷_, _++_, append-assoc, append-nil}
 use native.Mathlib.Nat.{mul-suc, add-comm, zero-add, suc-add}
 use native.Mathlib.Omega.{arith}
 use lib.ListN.{length, replicate, length-append, length-replicate, replicate-append-replicate}
+use Rattle.form_state.specs.Form.{stackBytes, stacksBytes, stateBytes, entriesFrom}
+use Rattle.macros.specs.Bounds.{mostEntryBytes}
 use Rattle.form_bytes.specs.Fours.{four}
 use Rattle.lines.specs.State.{fresh, freshStack, freshCounter}
-use Rattle.form_state.specs.Form.{pointersForm, valuesForm, incrementsForm, entryForm, entriesForm, stacksForm, stateForm}
+use Rattle.form_state.specs.Form.{pointersForm, valuesForm, incrementsForm, entryFormBy, entriesForm, stacksForm, stateForm}
+use Rattle.form_state.specs.Form.{entriesFormBy, stacksFormBy, stateFormBy}
 use Rattle.form_state.specs.Access.{replaced}
 use Rattle.form_state.proofs.Replaced.{replaced-left, replaced-right, replaced-whole, replaced-behind}
 use Rattle.form_fresh.specs.Ones.{ones}
@@ -27,7 +30,7 @@ unfolding ones
 one-one = append-nil (four 1)
 
 -- the next number 1
-pub ones-more : (b s e : List ℕ) (i : ℕ) → i < 52 → 236 ≤ length b → s ≡ replaced b 28 (ones i) → e ≡ replaced s (28 + 4 * i) (four 1) → e ≡ replaced b 28 (ones (i + 1))
+pub ones-more : (b s e : List ℕ) (i : ℕ) → i < 52 → entriesFrom ≤ length b → s ≡ replaced b 28 (ones i) → e ≡ replaced s (28 + 4 * i) (four 1) → e ≡ replaced b 28 (ones (i + 1))
 ones-more b s e i h fit hs he =
     let lv : length (ones i) ≡ 4 * i = length-ones i in
     let on : 28 + 4 * i ≡ 28 + length (ones i) = omega arith in
@@ -56,19 +59,19 @@ increments-ones (suc n) = rw (increments-ones n)
 run : (w n : ℕ) → replicate w 0 ++ replicate (w * n) 0 ≡ replicate {A = ℕ} (w * suc n) 0
 run w n = replicate-append-replicate w (w * n) 0 ∙ ap (λ (k : ℕ). replicate k 0) (add-comm w (w * n) ∙ sym (mul-suc w n))
 
-entries-zero : (n : ℕ) → entriesForm (replicate n []) ≡ replicate (50 * n) 0
-unfolding entriesForm entryForm
+entries-zero : (n : ℕ) → entriesForm (replicate n []) ≡ replicate (mostEntryBytes * n) 0
+unfolding entriesFormBy entryFormBy
 entries-zero zero = refl
-entries-zero (suc n) = ap (λ (t : List ℕ). replicate 50 0 ++ t) (entries-zero n) ∙ run 50 n
+entries-zero (suc n) = ap (λ (t : List ℕ). replicate mostEntryBytes 0 ++ t) (entries-zero n) ∙ run mostEntryBytes n
 
-stack-zero : entriesForm (freshStack .entries) ≡ replicate 1000 0
+stack-zero : entriesForm (freshStack .entries) ≡ replicate stackBytes 0
 unfolding freshStack
 stack-zero = entries-zero 20
 
-stacks-zero : (n : ℕ) → stacksForm (replicate n freshStack) ≡ replicate (1000 * n) 0
-unfolding stacksForm
+stacks-zero : (n : ℕ) → stacksForm (replicate n freshStack) ≡ replicate (stackBytes * n) 0
+unfolding stacksFormBy
 stacks-zero zero = refl
-stacks-zero (suc n) = ap (λ (t : List ℕ). t ++ stacksForm (replicate n freshStack)) stack-zero ∙ ap (λ (t : List ℕ). replicate 1000 0 ++ t) (stacks-zero n) ∙ run 1000 n
+stacks-zero (suc n) = ap (λ (t : List ℕ). t ++ stacksForm (replicate n freshStack)) stack-zero ∙ ap (λ (t : List ℕ). replicate stackBytes 0 ++ t) (stacks-zero n) ∙ run stackBytes n
 
 -- zeros, then u and o behind the first two of them, w bytes together
 stored : (w m : ℕ) (b u o : List ℕ) → length b ≡ 2 + (w + m) → length u ≡ 26 → length (u ++ o) ≡ w
@@ -89,8 +92,8 @@ stored w m b u o h hu both =
     ∙ ap (λ (t : List ℕ). 0 ∷ 0 ∷ t)
     (replaced-left (replicate w 0) (replicate m 0) 0 (u ++ o) (omega arith) ∙ ap (λ (t : List ℕ). t ++ replicate m 0) (replaced-whole (replicate w 0) (u ++ o) (omega arith)))
 
-form : stateForm fresh ≡ 0 ∷ 0 ∷ ((replicate 26 1 ++ ones 52) ++ replicate 26000 0)
-unfolding stateForm fresh
+form : stateForm fresh ≡ 0 ∷ 0 ∷ ((replicate 26 1 ++ ones 52) ++ replicate stacksBytes 0)
+unfolding stateFormBy fresh
 form =
     ap (λ (t : List ℕ). 0 ∷ 0 ∷ t)
     (ap (λ (t : List ℕ). t ++ (valuesForm (replicate 26 freshCounter) ++ (incrementsForm (replicate 26 freshCounter) ++ stacksForm (replicate 26 freshStack)))) (pointers-ones 26)
@@ -100,9 +103,9 @@ form =
     ∙ sym (append-assoc (replicate 26 1) (ones 52) (stacksForm (replicate 26 freshStack)))
     ∙ ap (λ (t : List ℕ). (replicate 26 1 ++ ones 52) ++ t) (stacks-zero 26))
 
-pub fresh-stored : (b z p e : List ℕ) → length b ≡ 26236 → z ≡ replaced b 0 (replicate (length b) 0) → p ≡ replaced z 2 (replicate (28 - 2) 1) → e ≡ replaced p 28 (ones 52) → e ≡ stateForm fresh
+pub fresh-stored : (b z p e : List ℕ) → length b ≡ stateBytes → z ≡ replaced b 0 (replicate (length b) 0) → p ≡ replaced z 2 (replicate (28 - 2) 1) → e ≡ replaced p 28 (ones 52) → e ≡ stateForm fresh
 fresh-stored b z p e h hz hp he =
     he
     ∙ ap (λ (t : List ℕ). replaced t 28 (ones 52)) (hp ∙ ap (λ (t : List ℕ). replaced t 2 (replicate 26 1)) hz)
-    ∙ stored 234 26000 b (replicate 26 1) (ones 52) h (length-replicate {A = ℕ} 26 1) (length-append (replicate 26 1) (ones 52) ∙ ap (λ (k : ℕ). 26 + k) (length-ones 52))
+    ∙ stored 234 stacksBytes b (replicate 26 1) (ones 52) h (length-replicate {A = ℕ} 26 1) (length-append (replicate 26 1) (ones 52) ∙ ap (λ (k : ℕ). 26 + k) (length-ones 52))
     ∙ sym form

@@ -9,13 +9,15 @@ use lib.Dec.{leb, eqb}
 use borrow.Author.Tests.{leb-true, le-leb, eqb-true, eq-eqb, ne-eqb}
 use lib.ListN.{length, getD, take, drop, replicate, length-append, length-drop, length-map, take-append-drop}
 use lib.Seq.{take-at, drop-at, drop-drop, drop-cons, length-take-le}
+use Rattle.form_state.specs.Form.{stacksBytes, stateBytes, entriesFrom, entryCount}
 use Rattle.macros.specs.Formed.{Between, Bytes, Octets}
-use Rattle.macros.specs.Bounds.{mostEntries, mostCounter}
+use Rattle.macros.specs.Bounds.{mostEntries, mostEntryBytes, mostCounter}
 use Rattle.macros.specs.Macro.{within}
 use Rattle.form_bytes.specs.Fours.{four, numberAt}
 use Rattle.form_bytes.proofs.Laws.{four-there, four-back}
 use Rattle.lines.specs.State.{Stack, Counter, State, AllOf, EntryInRange, StackInRange, CounterInRange, InRange}
 use Rattle.form_state.specs.Form.{pointersForm, valuesForm, incrementsForm, entryForm, stacksForm, stateForm}
+use Rattle.form_state.specs.Form.{entryFormBy, stateFormBy}
 use Rattle.form_state.specs.FormLaws.{OneStateForm}
 use Rattle.form_state.specs.Check.{pointersCheck, numberCheck, entryCheck, blocksCheck, stateChecks, StateCheckExact}
 use Rattle.form_state.proofs.Each.{each, itself, chunks, zip, each-append, each-length, each-back, each-chunks, chunks-each, chunks-wide, length-chunks, map-back, all-any, all-map, all-both, all-take, all-drop, all-append, all-chunks, all-of-map, each-all, zip-length, zip-all, zip-left, zip-right, zip-back}
@@ -43,12 +45,12 @@ unfolding within
 within-of a z n h = and-both (leb a n) (leb n z) (le-leb a n (h .0)) (le-leb n z (h .1))
 
 module _ (f : List ℕ → Bool) (w : ℕ) where
-  blocks-true : (n : ℕ) (l : List ℕ) → blocksCheck f w n l ≡ true → AllOf (λ c. f c ≡ true) (chunks w n l)
+  pub blocks-true : (n : ℕ) (l : List ℕ) → blocksCheck f w n l ≡ true → AllOf (λ c. f c ≡ true) (chunks w n l)
   unfolding blocksCheck chunks
   blocks-true zero l e = tt
   blocks-true (suc n) l e = (and-left (f (take w l)) (blocksCheck f w n (drop w l)) e, blocks-true n (drop w l) (and-right (f (take w l)) (blocksCheck f w n (drop w l)) e))
 
-  blocks-of : (n : ℕ) (l : List ℕ) → AllOf (λ c. f c ≡ true) (chunks w n l) → blocksCheck f w n l ≡ true
+  pub blocks-of : (n : ℕ) (l : List ℕ) → AllOf (λ c. f c ≡ true) (chunks w n l) → blocksCheck f w n l ≡ true
   unfolding blocksCheck chunks
   blocks-of zero l h = refl
   blocks-of (suc n) l h = and-both (f (take w l)) (blocksCheck f w n (drop w l)) (h .0) (blocks-of n (drop w l) (h .1))
@@ -147,11 +149,11 @@ padded [] e = refl
 padded (zero ∷ c) e = rw (sub-zero (suc (length c))) (ap (λ (t : List ℕ). zero ∷ t) (sym (zeros c e)))
 padded (suc b ∷ c) e = rw (suc-sub-suc (length c) (length (text c))) (ap (λ (t : List ℕ). suc b ∷ t) (padded c (tail-checks (suc b) c e)))
 
-entry-right : (c : List ℕ) → length c ≡ 50 → entryCheck c ≡ true → entryForm (text c) ≡ c
-unfolding entryForm
+entry-right : (c : List ℕ) → length c ≡ mostEntryBytes → entryCheck c ≡ true → entryForm (text c) ≡ c
+unfolding entryFormBy
 entry-right c l e = rw (← l) (padded c e)
 
-entry-range : (c : List ℕ) → length c ≡ 50 → AllOf parts.Small c → EntryInRange (text c)
+entry-range : (c : List ℕ) → length c ≡ mostEntryBytes → AllOf parts.Small c → EntryInRange (text c)
 entry-range c l s = (text-bytes c s, omega (arith, text-short c))
 
 text-zeros : (n : ℕ) → text (replicate n 0) ≡ []
@@ -164,8 +166,8 @@ text-entry (zero ∷ e) n h = absurd (omega (arith, h .0))
 text-entry (suc b ∷ e) n h = ap (λ (t : List ℕ). suc b ∷ t) (text-entry e n (h .1))
 
 entry-left : (e : List ℕ) → EntryInRange e → text (entryForm e) ≡ e
-unfolding entryForm
-entry-left e h = text-entry e (50 - length e) (h .0)
+unfolding entryFormBy
+entry-left e h = text-entry e (mostEntryBytes - length e) (h .0)
 
 zeros-check : (n : ℕ) → entryCheck (replicate n 0) ≡ true
 unfolding entryCheck
@@ -183,24 +185,24 @@ entry-checks [] n h = zeros-check n
 entry-checks (b ∷ e) n h = cons-checks b (e ++ replicate n 0) (h .0 .0) (entry-checks e n (h .1))
 
 entry-of : (e : List ℕ) → EntryInRange e → entryCheck (entryForm e) ≡ true
-unfolding entryForm
-entry-of e h = entry-checks e (50 - length e) (h .0)
+unfolding entryFormBy
+entry-of e h = entry-checks e (mostEntryBytes - length e) (h .0)
 
-entries-right : (n : ℕ) (l : List ℕ) → length l ≡ 50 * n → AllOf parts.Small l → blocksCheck entryCheck 50 n l ≡ true
-    → (each entryForm (map text (chunks 50 n l)) ≡ l) × AllOf EntryInRange (map text (chunks 50 n l))
+entries-right : (n : ℕ) (l : List ℕ) → length l ≡ mostEntryBytes * n → AllOf parts.Small l → blocksCheck entryCheck mostEntryBytes n l ≡ true
+    → (each entryForm (map text (chunks mostEntryBytes n l)) ≡ l) × AllOf EntryInRange (map text (chunks mostEntryBytes n l))
 entries-right n l e s p = (
-  each-back entryForm text (chunks 50 n l) (all-map (λ c h. entry-right c (h .0) (h .1)) (chunks 50 n l) (all-both (λ c. length c ≡ 50) (λ c. entryCheck c ≡ true) (chunks 50 n l) (chunks-wide 50 n l e) (blocks-true entryCheck 50 n l p))) ∙ each-chunks 50 n l e,
-  all-of-map EntryInRange text (chunks 50 n l)
-      (all-map (λ c h. entry-range c (h .0) (h .1)) (chunks 50 n l) (all-both (λ c. length c ≡ 50) (AllOf parts.Small) (chunks 50 n l) (chunks-wide 50 n l e) (all-chunks parts.Small 50 n l s))),
+  each-back entryForm text (chunks mostEntryBytes n l) (all-map (λ c h. entry-right c (h .0) (h .1)) (chunks mostEntryBytes n l) (all-both (λ c. length c ≡ mostEntryBytes) (λ c. entryCheck c ≡ true) (chunks mostEntryBytes n l) (chunks-wide mostEntryBytes n l e) (blocks-true entryCheck mostEntryBytes n l p))) ∙ each-chunks mostEntryBytes n l e,
+  all-of-map EntryInRange text (chunks mostEntryBytes n l)
+      (all-map (λ c h. entry-range c (h .0) (h .1)) (chunks mostEntryBytes n l) (all-both (λ c. length c ≡ mostEntryBytes) (AllOf parts.Small) (chunks mostEntryBytes n l) (chunks-wide mostEntryBytes n l e) (all-chunks parts.Small mostEntryBytes n l s))),
 )
 
-entries-left : (es : List (List ℕ)) (n : ℕ) → length es ≡ n → AllOf EntryInRange es → map text (chunks 50 n (each entryForm es)) ≡ es
-entries-left es n e h = rw (← e) (ap (map text) (chunks-each entryForm 50 es (parts.entries-wide es h)) ∙ map-back entryForm text es (all-map entry-left es h))
+entries-left : (es : List (List ℕ)) (n : ℕ) → length es ≡ n → AllOf EntryInRange es → map text (chunks mostEntryBytes n (each entryForm es)) ≡ es
+entries-left es n e h = rw (← e) (ap (map text) (chunks-each entryForm mostEntryBytes es (parts.entries-wide es h)) ∙ map-back entryForm text es (all-map entry-left es h))
 
-entries-of : (es : List (List ℕ)) (n : ℕ) → length es ≡ n → AllOf EntryInRange es → blocksCheck entryCheck 50 n (each entryForm es) ≡ true
+entries-of : (es : List (List ℕ)) (n : ℕ) → length es ≡ n → AllOf EntryInRange es → blocksCheck entryCheck mostEntryBytes n (each entryForm es) ≡ true
 entries-of es n e h =
-    blocks-of entryCheck 50 n (each entryForm es)
-    (rw (← e) (rw (chunks-each entryForm 50 es (parts.entries-wide es h)) (all-of-map (λ c. entryCheck c ≡ true) entryForm es (all-map entry-of es h))))
+    blocks-of entryCheck mostEntryBytes n (each entryForm es)
+    (rw (← e) (rw (chunks-each entryForm mostEntryBytes es (parts.entries-wide es h)) (all-of-map (λ c. entryCheck c ≡ true) entryForm es (all-map entry-of es h))))
 
 -- STACKS AND COUNTERS
 
@@ -248,10 +250,10 @@ unfolding stacksFrom
 stacks-left ks n e h =
     rw (← e, parts.pointers-map ks, chunks-each parts.entriesOf 20 ks (all-map (λ k g. g .count) ks h)) (zip-back makeStack (λ k. k .pointer) (λ k. k .entries) (λ k. refl) ks)
 
-entries-count : (ks : List Stack) (n : ℕ) → length ks ≡ n → AllOf StackInRange ks → length (each parts.entriesOf ks) ≡ 20 * n
+pub entries-count : (ks : List Stack) (n : ℕ) → length ks ≡ n → AllOf StackInRange ks → length (each parts.entriesOf ks) ≡ 20 * n
 entries-count ks n e h = each-length parts.entriesOf 20 ks (all-map (λ k g. g .count) ks h) ∙ ap (λ (m : ℕ). 20 * m) e
 
-entries-all : (ks : List Stack) → AllOf StackInRange ks → AllOf EntryInRange (each parts.entriesOf ks)
+pub entries-all : (ks : List Stack) → AllOf StackInRange ks → AllOf EntryInRange (each parts.entriesOf ks)
 entries-all ks h = each-all EntryInRange parts.entriesOf ks (all-map (λ k g. g .entries) ks h)
 
 -- the counters of their numbers: the values, then the increments
@@ -310,31 +312,33 @@ counters-left ks n e =
 unfoldable stateOf : List ℕ → State
 stateOf b =
     record {
-      stacks = stacksFrom 26 (take 26 (drop 2 b)) (map text (chunks 50 520 (drop 236 b)));
+      stacks = stacksFrom 26 (take 26 (drop 2 b)) (map text (chunks mostEntryBytes entryCount (drop entriesFrom b)));
       counters = countersFrom 26 (map number (chunks 4 52 (take 208 (drop 28 b))));
       trace = getD b 0 0;
       nflag = getD b 1 0;
+      entryBytes = mostEntryBytes;
     }
 
 trace-first : (st : State) → getD (stateForm st) 0 0 ≡ st .trace
-unfolding stateForm
+unfolding stateFormBy
 trace-first st = refl
 
 nflag-second : (st : State) → getD (stateForm st) 1 0 ≡ st .nflag
-unfolding stateForm
+unfolding stateFormBy
 nflag-second st = refl
 
 -- a form decodes to its state
 decodes : (st : State) → InRange st → stateOf (stateForm st) ≡ st
 unfolding stateOf
 decodes st h =
-    let stacks : stacksFrom 26 (take 26 (drop 2 (stateForm st))) (map text (chunks 50 520 (drop 236 (stateForm st)))) ≡ st .stacks =
-    rw (parts.pointers-part st h, parts.stacks-part st h, parts.stacks-flat (st .stacks), entries-left (each parts.entriesOf (st .stacks)) 520 (entries-count (st .stacks) 26 (h .stackCount) (h .stacks)) (entries-all (st .stacks) (h .stacks)))
+    let stacks : stacksFrom 26 (take 26 (drop 2 (stateForm st))) (map text (chunks mostEntryBytes entryCount (drop entriesFrom (stateForm st)))) ≡ st .stacks =
+    rw (parts.pointers-part st h, parts.stacks-part st h, parts.stacks-flat (st .stacks), entries-left (each parts.entriesOf (st .stacks)) entryCount (entries-count (st .stacks) 26 (h .stackCount) (h .stacks)) (entries-all (st .stacks) (h .stacks)))
     (stacks-left (st .stacks) 26 (h .stackCount) (h .stacks)) in
     let counters : countersFrom 26 (map number (chunks 4 52 (take 208 (drop 28 (stateForm st))))) ≡ st .counters =
     rw (parts.numbers-part st h, numbers-form (st .counters), numbers-left (numbersOf (st .counters)) 52 (numbers-count (st .counters) 26 (h .counterCount)) (numbers-range (st .counters) (h .counters)))
     (counters-left (st .counters) 26 (h .counterCount)) in
     rw (stacks, counters, trace-first st, nflag-second st)
+    (ap (λ (n : ℕ). record { stacks = st .stacks; counters = st .counters; trace = st .trace; nflag = st .nflag; entryBytes = n }) (sym (h .entryBytes)))
 
 pub one-state-form : OneStateForm
 one-state-form st other h g e = sym (decodes st h) ∙ ap stateOf e ∙ decodes other g
@@ -344,23 +348,23 @@ form-passes : (st : State) → InRange st → stateChecks (stateForm st) ≡ tru
 unfolding stateChecks
 form-passes st h =
     let b : List ℕ = stateForm st in
-    let entries : blocksCheck entryCheck 50 520 (drop 236 b) ≡ true =
-    rw (parts.stacks-part st h, parts.stacks-flat (st .stacks)) (entries-of (each parts.entriesOf (st .stacks)) 520 (entries-count (st .stacks) 26 (h .stackCount) (h .stacks)) (entries-all (st .stacks) (h .stacks))) in
+    let entries : blocksCheck entryCheck mostEntryBytes entryCount (drop entriesFrom b) ≡ true =
+    rw (parts.stacks-part st h, parts.stacks-flat (st .stacks)) (entries-of (each parts.entriesOf (st .stacks)) entryCount (entries-count (st .stacks) 26 (h .stackCount) (h .stacks)) (entries-all (st .stacks) (h .stacks))) in
     let numbers : blocksCheck numberCheck 4 52 (take 208 (drop 28 b)) ≡ true =
     rw (parts.numbers-part st h, numbers-form (st .counters)) (numbers-of (numbersOf (st .counters)) 52 (numbers-count (st .counters) 26 (h .counterCount)) (numbers-range (st .counters) (h .counters))) in
     let pointers : pointersCheck (take 26 (drop 2 b)) ≡ true = rw (parts.pointers-part st h) (pointers-of (st .stacks) (h .stacks)) in
     let trace : leb (getD b 0 0) 1 ≡ true = rw (trace-first st) (le-leb (st .trace) 1 (h .trace)) in
     let nflag : leb (getD b 1 0) 1 ≡ true = rw (nflag-second st) (le-leb (st .nflag) 1 (h .nflag)) in
-    rw (eq-eqb (length b) 26236 (parts.size st h), trace, nflag, pointers, numbers, entries)
+    rw (eq-eqb (length b) stateBytes (parts.size st h), trace, nflag, pointers, numbers, entries)
 
 -- what the check says, part by part
 record Passed (b : List ℕ) : Type 0 where
-  size : length b ≡ 26236
+  size : length b ≡ stateBytes
   trace : getD b 0 0 ≤ 1
   nflag : getD b 1 0 ≤ 1
   pointers : AllOf (Between 1 mostEntries) (take 26 (drop 2 b))
   numbers : blocksCheck numberCheck 4 52 (take 208 (drop 28 b)) ≡ true
-  entries : blocksCheck entryCheck 50 520 (drop 236 b) ≡ true
+  entries : blocksCheck entryCheck mostEntryBytes entryCount (drop entriesFrom b) ≡ true
 
 passes-in : (a b c d e f : Bool) → a && (b && (c && (d && (e && f)))) ≡ true → (a ≡ true) × (b ≡ true) × (c ≡ true) × (d ≡ true) × (e ≡ true) × (f ≡ true)
 passes-in true true true true true true q = (refl, refl, refl, refl, refl, refl)
@@ -374,9 +378,9 @@ passes-in false b c d e f q = absurd (false≢true q)
 passes : (b : List ℕ) → stateChecks b ≡ true → Passed b
 unfolding stateChecks
 passes b e =
-    let h = passes-in (eqb (length b) 26236) (leb (getD b 0 0) 1) (leb (getD b 1 0) 1) (pointersCheck (take 26 (drop 2 b))) (blocksCheck numberCheck 4 52 (take 208 (drop 28 b))) (blocksCheck entryCheck 50 520 (drop 236 b)) e in
+    let h = passes-in (eqb (length b) stateBytes) (leb (getD b 0 0) 1) (leb (getD b 1 0) 1) (pointersCheck (take 26 (drop 2 b))) (blocksCheck numberCheck 4 52 (take 208 (drop 28 b))) (blocksCheck entryCheck mostEntryBytes entryCount (drop entriesFrom b)) e in
     record {
-      size = eqb-true (length b) 26236 (h .0);
+      size = eqb-true (length b) stateBytes (h .0);
       trace = leb-true (getD b 0 0) 1 (h .1);
       nflag = leb-true (getD b 1 0) 1 (h .2);
       pointers = pointers-true (take 26 (drop 2 b)) (h .3);
@@ -385,28 +389,28 @@ passes b e =
     }
 
 -- bytes are their two first, and what is behind
-cut : (b : List ℕ) → length b ≡ 26236 → getD b 0 0 ∷ getD b 1 0 ∷ (take 26 (drop 2 b) ++ (take 208 (drop 28 b) ++ drop 236 b)) ≡ b
+cut : (b : List ℕ) → length b ≡ stateBytes → getD b 0 0 ∷ getD b 1 0 ∷ (take 26 (drop 2 b) ++ (take 208 (drop 28 b) ++ drop entriesFrom b)) ≡ b
 cut b h =
-    let behind : take 208 (drop 28 b) ++ drop 236 b ≡ drop 28 b = ap (λ (t : List ℕ). take 208 (drop 28 b) ++ t) (sym (drop-drop 208 28 b)) ∙ take-append-drop 208 (drop 28 b) in
+    let behind : take 208 (drop 28 b) ++ drop entriesFrom b ≡ drop 28 b = ap (λ (t : List ℕ). take 208 (drop 28 b) ++ t) (sym (drop-drop 208 28 b)) ∙ take-append-drop 208 (drop 28 b) in
     let rest : take 26 (drop 2 b) ++ drop 28 b ≡ drop 2 b = ap (λ (t : List ℕ). take 26 (drop 2 b) ++ t) (sym (drop-drop 26 2 b)) ∙ take-append-drop 26 (drop 2 b) in
     rw (behind, rest) (ap (λ (t : List ℕ). getD b 0 0 ∷ t) (sym (drop-cons b 1 0 (omega arith))) ∙ sym (drop-cons b 0 0 (omega arith)))
 
 -- what passes is a form
 passed : (b : List ℕ) → Octets b → Passed b → InRange (stateOf b) × (stateForm (stateOf b) ≡ b)
-unfolding stateOf stateForm
+unfolding stateOf stateFormBy
 passed b o p =
     let small : AllOf parts.Small b = parts.octets-all b o in
     let ps : List ℕ = take 26 (drop 2 b) in
     let first : length ps ≡ 26 = length-take-le 26 (drop 2 b) (omega (arith, p .size, length-drop 2 b)) in
     let wide : length (take 208 (drop 28 b)) ≡ 208 = length-take-le 208 (drop 28 b) (omega (arith, p .size, length-drop 28 b)) in
-    let long : length (drop 236 b) ≡ 26000 = length-drop 236 b ∙ omega (arith, p .size) in
+    let long : length (drop entriesFrom b) ≡ stacksBytes = length-drop entriesFrom b ∙ omega (arith, p .size) in
     let ns = numbers-right 52 (take 208 (drop 28 b)) wide (all-take parts.Small 208 (drop 28 b) (all-drop parts.Small 28 b small)) (p .numbers) in
-    let es = entries-right 520 (drop 236 b) long (all-drop parts.Small 236 b small) (p .entries) in
+    let es = entries-right entryCount (drop entriesFrom b) long (all-drop parts.Small entriesFrom b small) (p .entries) in
     let cs = counters-right 26 (map number (chunks 4 52 (take 208 (drop 28 b)))) (length-map (chunks 4 52 (take 208 (drop 28 b))) number ∙ length-chunks 4 52 (take 208 (drop 28 b))) (ns .1) in
-    let ks = stacks-right 26 ps (map text (chunks 50 520 (drop 236 b))) first (length-map (chunks 50 520 (drop 236 b)) text ∙ length-chunks 50 520 (drop 236 b)) (p .pointers) (es .1) in
+    let ks = stacks-right 26 ps (map text (chunks mostEntryBytes entryCount (drop entriesFrom b))) first (length-map (chunks mostEntryBytes entryCount (drop entriesFrom b)) text ∙ length-chunks mostEntryBytes entryCount (drop entriesFrom b)) (p .pointers) (es .1) in
     let vs = countersFrom 26 (map number (chunks 4 52 (take 208 (drop 28 b)))) in (
-      record { stackCount = ks .count; stacks = ks .range; counterCount = cs .count; counters = cs .range; trace = p .trace; nflag = p .nflag },
-      rw (ks .pointers, ks .entries, es .0, ← append-assoc (valuesForm vs) (incrementsForm vs) (drop 236 b), cs .numbers, ns .0) (cut b (p .size)),
+      record { stackCount = ks .count; stacks = ks .range; counterCount = cs .count; counters = cs .range; trace = p .trace; nflag = p .nflag; entryBytes = refl },
+      rw (ks .pointers, ks .entries, es .0, ← append-assoc (valuesForm vs) (incrementsForm vs) (drop entriesFrom b), cs .numbers, ns .0) (cut b (p .size)),
     )
 
 pub state-check-exact : StateCheckExact

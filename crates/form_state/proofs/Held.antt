@@ -7,13 +7,15 @@ use native.Mathlib.Nat.{le-of-suc-le-suc, not-suc-le-zero}
 use native.Mathlib.Omega.{arith}
 use lib.ListN.{length, getD, set, take, drop, replicate, length-take, length-drop, length-set, List·getD-append}
 use lib.Seq.{take-at, take-take, drop-drop, drop-append-add, drop-append-le, take-append-le, getD-append-add}
-use Rattle.macros.specs.Bounds.{mostEntries}
+use Rattle.form_state.specs.Form.{stackBytes, stateBytes, entriesFrom}
+use Rattle.macros.specs.Bounds.{mostEntries, mostEntryBytes}
 use Rattle.macros.specs.Formed.{Between, Bytes, Octets, Letter}
 use Rattle.form_bytes.specs.Fours.{four, numberAt}
 use Rattle.lines.specs.State.{Stack, Counter, State, AllOf, freshStack, freshCounter, stackOf, counterOf, currentEntry, EntryInRange, StackInRange, CounterInRange, InRange}
 use Rattle.lines.specs.Replacing.{Work, withStack, withCounter, withPointer, withValue, withIncrement, withEntry}
 use Rattle.lines.specs.Feeding.{withTrace, withNflag}
 use Rattle.form_state.specs.Form.{pointersForm, valuesForm, incrementsForm, entryForm, entriesForm, stacksForm, stateForm}
+use Rattle.form_state.specs.Form.{entryFormBy, stateFormBy}
 use Rattle.form_state.specs.Check.{stateChecks}
 use Rattle.form_state.specs.Access.{Holds, IsState, replaced, textLength}
 use Rattle.form_bytes.proofs.Reading.{number-block}
@@ -22,7 +24,7 @@ use Rattle.form_state.proofs.Each.{each, each-part, each-set, each-kept
 use Rattle.form_state.proofs.Parts as parts
 use Rattle.form_state.proofs.Decode.{Number, number-four, state-check-exact}
 
-pub is-long : (b : List ℕ) → IsState b → length b ≡ 26236
+pub is-long : (b : List ℕ) → IsState b → length b ≡ stateBytes
 is-long b s = ap length (sym (s .1 .form)) ∙ parts.size (s .0) (s .1 .inRange)
 
 -- the bytes of a slice
@@ -63,7 +65,7 @@ stay a b p w h = ap (take w) (drop-append-le p a b (omega arith)) ∙ take-appen
 
 module _ (st : State) (g : InRange st) where
   behind-pointers : (k w : ℕ) → take w (drop (2 + (26 + k)) (stateForm st)) ≡ take w (drop k (valuesOf st ++ (incrementsOf st ++ stacksOf st)))
-  unfolding stateForm
+  unfolding stateFormBy
   behind-pointers k w =
       skip (flagsOf st) (pointersOf st ++ (valuesOf st ++ (incrementsOf st ++ stacksOf st))) 2 (26 + k) w refl
       ∙ skip (pointersOf st) (valuesOf st ++ (incrementsOf st ++ stacksOf st)) 26 k w (parts.pointers-26 st g)
@@ -81,19 +83,19 @@ module _ (st : State) (g : InRange st) where
       let e : 132 + k ≡ 2 + (26 + (104 + k)) = omega arith in
       rw e (behind-values k w ∙ stay (incrementsOf st) (stacksOf st) k w (omega (arith, parts.increments-104 st g)))
 
-  in-stacks : (k w : ℕ) → take w (drop (236 + k) (stateForm st)) ≡ take w (drop k (stacksOf st))
+  in-stacks : (k w : ℕ) → take w (drop (entriesFrom + k) (stateForm st)) ≡ take w (drop k (stacksOf st))
   in-stacks k w =
-      let e : 236 + k ≡ 2 + (26 + (104 + (104 + k))) = omega arith in
+      let e : entriesFrom + k ≡ 2 + (26 + (104 + (104 + k))) = omega arith in
       rw e (behind-values (104 + k) w ∙ skip (incrementsOf st) (stacksOf st) 104 k w (parts.increments-104 st g))
 
   put-pointers : (k : ℕ) (u : List ℕ) → k + length u ≤ 26 → replaced (stateForm st) (2 + k) u ≡ made st (replaced (pointersOf st) k u) (valuesOf st) (incrementsOf st) (stacksOf st)
-  unfolding stateForm
+  unfolding stateFormBy
   put-pointers k u fit =
       replaced-right (flagsOf st) (pointersOf st ++ (valuesOf st ++ (incrementsOf st ++ stacksOf st))) 2 k u refl
       ∙ ap (λ (x : List ℕ). flagsOf st ++ x) (replaced-left (pointersOf st) (valuesOf st ++ (incrementsOf st ++ stacksOf st)) k u (omega (arith, parts.pointers-26 st g)))
 
   put-behind : (k : ℕ) (u : List ℕ) → replaced (stateForm st) (2 + (26 + k)) u ≡ flagsOf st ++ (pointersOf st ++ replaced (valuesOf st ++ (incrementsOf st ++ stacksOf st)) k u)
-  unfolding stateForm
+  unfolding stateFormBy
   put-behind k u =
       replaced-right (flagsOf st) (pointersOf st ++ (valuesOf st ++ (incrementsOf st ++ stacksOf st))) 2 (26 + k) u refl
       ∙ ap (λ (x : List ℕ). flagsOf st ++ x) (replaced-right (pointersOf st) (valuesOf st ++ (incrementsOf st ++ stacksOf st)) 26 k u (parts.pointers-26 st g))
@@ -113,9 +115,9 @@ module _ (st : State) (g : InRange st) where
       ∙ ap (λ (x : List ℕ). flagsOf st ++ (pointersOf st ++ x)) (replaced-right (valuesOf st) (incrementsOf st ++ stacksOf st) 104 k u (parts.values-104 st g))
       ∙ ap (λ (x : List ℕ). flagsOf st ++ (pointersOf st ++ (valuesOf st ++ x))) (replaced-left (incrementsOf st) (stacksOf st) k u (omega (arith, parts.increments-104 st g)))
 
-  put-stacks : (k : ℕ) (u : List ℕ) → replaced (stateForm st) (236 + k) u ≡ made st (pointersOf st) (valuesOf st) (incrementsOf st) (replaced (stacksOf st) k u)
+  put-stacks : (k : ℕ) (u : List ℕ) → replaced (stateForm st) (entriesFrom + k) u ≡ made st (pointersOf st) (valuesOf st) (incrementsOf st) (replaced (stacksOf st) k u)
   put-stacks k u =
-      let e : 236 + k ≡ 2 + (26 + (104 + (104 + k))) = omega arith in
+      let e : entriesFrom + k ≡ 2 + (26 + (104 + (104 + k))) = omega arith in
       ap (λ (x : ℕ). replaced (stateForm st) x u) e
       ∙ put-behind (104 + (104 + k)) u
       ∙ ap (λ (x : List ℕ). flagsOf st ++ (pointersOf st ++ x)) (replaced-right (valuesOf st) (incrementsOf st ++ stacksOf st) 104 (104 + k) u (parts.values-104 st g))
@@ -150,24 +152,24 @@ text-short [] = omega arith
 text-short (zero ∷ l) = omega arith
 text-short (suc b ∷ l) = let h : textLength l ≤ length l = text-short l in omega arith
 
-pub text-fits : (n a : ℕ) (l : List ℕ) → n ≡ textLength (take (a + 50 - a) l) → n ≤ 50
+pub text-fits : (n a : ℕ) (l : List ℕ) → n ≡ textLength (take (a + mostEntryBytes - a) l) → n ≤ mostEntryBytes
 text-fits n a l e =
-    let h : textLength (take (a + 50 - a) l) ≤ length (take (a + 50 - a) l) = text-short (take (a + 50 - a) l) in
-    let k : length (take (a + 50 - a) l) ≤ a + 50 - a = omega (arith, length-take (a + 50 - a) l) in
+    let h : textLength (take (a + mostEntryBytes - a) l) ≤ length (take (a + mostEntryBytes - a) l) = text-short (take (a + mostEntryBytes - a) l) in
+    let k : length (take (a + mostEntryBytes - a) l) ≤ a + mostEntryBytes - a = omega (arith, length-take (a + mostEntryBytes - a) l) in
     omega arith
 
 module _ (b : List ℕ) (st : State) (h : Holds b st) where
   pub read-trace : getD b 0 0 ≡ st .trace
-  unfolding stateForm
+  unfolding stateFormBy
   read-trace = ap (λ (x : List ℕ). getD x 0 0) (sym (h .form))
 
   pub read-nflag : getD b 1 0 ≡ st .nflag
-  unfolding stateForm
+  unfolding stateFormBy
   read-nflag = ap (λ (x : List ℕ). getD x 1 0) (sym (h .form))
 
   module _ (i j : ℕ) (l : Letter i) (e : j ≡ i - 97) where
     pub read-pointer : getD b (2 + j) 0 ≡ stackOf st i .pointer
-    unfolding stateForm stackOf
+    unfolding stateFormBy stackOf
     read-pointer =
         let less : j < length (st .stacks) = omega (arith, h .inRange .stackCount) in
         let rest : List ℕ = valuesForm (st .counters) ++ (incrementsForm (st .counters) ++ stacksForm (st .stacks)) in
@@ -207,64 +209,64 @@ module _ (b : List ℕ) (st : State) (h : Holds b st) where
     entry-in =
         all-at EntryInRange (stackOf st i .entries) (stackOf st i .pointer - 1) [] (stack-in .entries) (omega (arith, stack-in .count, stack-in .pointer .0, stack-in .pointer .1))
 
-    stack-part : take 1000 (drop (1000 * (i - 97)) (stacksForm (st .stacks))) ≡ entriesForm (stackOf st i .entries)
+    stack-part : take stackBytes (drop (stackBytes * (i - 97)) (stacksForm (st .stacks))) ≡ entriesForm (stackOf st i .entries)
     unfolding stackOf
     stack-part =
-        ap (λ (x : List ℕ). take 1000 (drop (1000 * (i - 97)) x)) (parts.stacks-each (st .stacks))
-        ∙ each-part parts.stackForm 1000 (st .stacks) (i - 97) freshStack (all-map parts.stack-wide (st .stacks) (h .inRange .stacks)) (omega (arith, h .inRange .stackCount))
+        ap (λ (x : List ℕ). take stackBytes (drop (stackBytes * (i - 97)) x)) (parts.stacks-each (st .stacks))
+        ∙ each-part parts.stackForm stackBytes (st .stacks) (i - 97) freshStack (all-map parts.stack-wide (st .stacks) (h .inRange .stacks)) (omega (arith, h .inRange .stackCount))
 
-    pub read-entry : (a : ℕ) → a ≡ 236 + (1000 * (i - 97) + 50 * (stackOf st i .pointer - 1)) → take 50 (drop a b) ≡ entryForm (currentEntry st i)
+    pub read-entry : (a : ℕ) → a ≡ entriesFrom + (stackBytes * (i - 97) + mostEntryBytes * (stackOf st i .pointer - 1)) → take mostEntryBytes (drop a b) ≡ entryForm (currentEntry st i)
     unfolding currentEntry
     read-entry a e =
         let q : ℕ = stackOf st i .pointer - 1 in
         let less : q < length (stackOf st i .entries) = omega (arith, stack-in .count, stack-in .pointer .0, stack-in .pointer .1) in
-        let few : 50 * q + 50 ≤ 1000 = omega (arith, stack-in .count) in
-        ap (λ (k : ℕ). take 50 (drop k b)) e
-        ∙ ap (λ (x : List ℕ). take 50 (drop (236 + (1000 * (i - 97) + 50 * q)) x)) (sym (h .form))
-        ∙ in-stacks st (h .inRange) (1000 * (i - 97) + 50 * q) 50
-        ∙ ap (take 50) (sym (drop-drop (50 * q) (1000 * (i - 97)) (stacksForm (st .stacks))))
-        ∙ sym (part-in 50 (50 * q) 1000 (drop (1000 * (i - 97)) (stacksForm (st .stacks))) few)
-        ∙ ap (λ (x : List ℕ). take 50 (drop (50 * q) x)) (stack-part ∙ parts.entries-each (stackOf st i .entries))
-        ∙ each-part entryForm 50 (stackOf st i .entries) q [] (parts.entries-wide (stackOf st i .entries) (stack-in .entries)) less
+        let few : mostEntryBytes * q + mostEntryBytes ≤ stackBytes = omega (arith, stack-in .count) in
+        ap (λ (k : ℕ). take mostEntryBytes (drop k b)) e
+        ∙ ap (λ (x : List ℕ). take mostEntryBytes (drop (entriesFrom + (stackBytes * (i - 97) + mostEntryBytes * q)) x)) (sym (h .form))
+        ∙ in-stacks st (h .inRange) (stackBytes * (i - 97) + mostEntryBytes * q) mostEntryBytes
+        ∙ ap (take mostEntryBytes) (sym (drop-drop (mostEntryBytes * q) (stackBytes * (i - 97)) (stacksForm (st .stacks))))
+        ∙ sym (part-in mostEntryBytes (mostEntryBytes * q) stackBytes (drop (stackBytes * (i - 97)) (stacksForm (st .stacks))) few)
+        ∙ ap (λ (x : List ℕ). take mostEntryBytes (drop (mostEntryBytes * q) x)) (stack-part ∙ parts.entries-each (stackOf st i .entries))
+        ∙ each-part entryForm mostEntryBytes (stackOf st i .entries) q [] (parts.entries-wide (stackOf st i .entries) (stack-in .entries)) less
 
     -- the part that is handed out
-    pub entry-is : (a n : ℕ) → a ≡ 236 + (1000 * (i - 97) + 50 * (stackOf st i .pointer - 1)) → n ≡ textLength (take (a + 50 - a) (drop a b)) → take (a + n - a) (drop a b) ≡ currentEntry st i
-    unfolding entryForm
+    pub entry-is : (a n : ℕ) → a ≡ entriesFrom + (stackBytes * (i - 97) + mostEntryBytes * (stackOf st i .pointer - 1)) → n ≡ textLength (take (a + mostEntryBytes - a) (drop a b)) → take (a + n - a) (drop a b) ≡ currentEntry st i
+    unfolding entryFormBy
     entry-is a n e c =
         let t : List ℕ = currentEntry st i in
-        let z : List ℕ = replicate (50 - length t) 0 in
-        let whole : a + 50 - a ≡ 50 = omega arith in
+        let z : List ℕ = replicate (mostEntryBytes - length t) 0 in
+        let whole : a + mostEntryBytes - a ≡ mostEntryBytes = omega arith in
         let some : a + n - a ≡ n = omega arith in
-        let part : take 50 (drop a b) ≡ t ++ z = read-entry a e in
-        let long : length t ≡ n = sym (c ∙ ap (λ (k : ℕ). textLength (take k (drop a b))) whole ∙ ap textLength part ∙ text-entry t (50 - length t) (entry-in .0)) in
+        let part : take mostEntryBytes (drop a b) ≡ t ++ z = read-entry a e in
+        let long : length t ≡ n = sym (c ∙ ap (λ (k : ℕ). textLength (take k (drop a b))) whole ∙ ap textLength part ∙ text-entry t (mostEntryBytes - length t) (entry-in .0)) in
         ap (λ (k : ℕ). take k (drop a b)) some
-        ∙ sym (take-take n 50 (drop a b) (omega (arith, entry-in .1)))
+        ∙ sym (take-take n mostEntryBytes (drop a b) (omega (arith, entry-in .1)))
         ∙ ap (take n) part
         ∙ take-at t z n long
 
 -- STORING
 
 pub trace-set : (b : List ℕ) (st : State) (n : ℕ) → Holds b st → n ≤ 1 → Holds (set b 0 n) (withTrace n st)
-unfolding stateForm withTrace
+unfolding stateFormBy withTrace
 trace-set b st n h l =
     record {
-      inRange = record { stackCount = h .inRange .stackCount; stacks = h .inRange .stacks; counterCount = h .inRange .counterCount; counters = h .inRange .counters; trace = l; nflag = h .inRange .nflag };
+      inRange = record { stackCount = h .inRange .stackCount; stacks = h .inRange .stacks; counterCount = h .inRange .counterCount; counters = h .inRange .counters; trace = l; nflag = h .inRange .nflag; entryBytes = h .inRange .entryBytes };
       form = ap (λ (x : List ℕ). set x 0 n) (h .form);
     }
 
 pub nflag-set : (b : List ℕ) (st : State) (n : ℕ) → Holds b st → n ≤ 1 → Holds (set b 1 n) (withNflag n st)
-unfolding stateForm withNflag
+unfolding stateFormBy withNflag
 nflag-set b st n h l =
     record {
-      inRange = record { stackCount = h .inRange .stackCount; stacks = h .inRange .stacks; counterCount = h .inRange .counterCount; counters = h .inRange .counters; trace = h .inRange .trace; nflag = l };
+      inRange = record { stackCount = h .inRange .stackCount; stacks = h .inRange .stacks; counterCount = h .inRange .counterCount; counters = h .inRange .counters; trace = h .inRange .trace; nflag = l; entryBytes = h .inRange .entryBytes };
       form = ap (λ (x : List ℕ). set x 1 n) (h .form);
     }
 
 abbrev withStacks : State → List Stack → State
-withStacks st ks = record { stacks = ks; counters = st .counters; trace = st .trace; nflag = st .nflag }
+withStacks st ks = record { stacks = ks; counters = st .counters; trace = st .trace; nflag = st .nflag; entryBytes = st .entryBytes }
 
 abbrev withCounters : State → List Counter → State
-withCounters st cs = record { stacks = st .stacks; counters = cs; trace = st .trace; nflag = st .nflag }
+withCounters st cs = record { stacks = st .stacks; counters = cs; trace = st .trace; nflag = st .nflag; entryBytes = st .entryBytes }
 
 stacks-range : (st : State) (j : ℕ) (y : Stack) → InRange st → StackInRange y → InRange (withStacks st (set (st .stacks) j y))
 stacks-range st j y h g =
@@ -275,6 +277,7 @@ stacks-range st j y h g =
       counters = h .counters;
       trace = h .trace;
       nflag = h .nflag;
+      entryBytes = h .entryBytes;
     }
 
 counters-range : (st : State) (j : ℕ) (y : Counter) → InRange st → CounterInRange y → InRange (withCounters st (set (st .counters) j y))
@@ -286,6 +289,7 @@ counters-range st j y h g =
       counters = all-set CounterInRange (st .counters) j y (h .counters) g;
       trace = h .trace;
       nflag = h .nflag;
+      entryBytes = h .entryBytes;
     }
 
 -- one number of the counters' parts is another
@@ -304,7 +308,7 @@ module _ (b e : List ℕ) (i : ℕ) (w : Work) (h : Holds b (w .state)) (l : Let
   g = h .inRange
 
   pub pointer-set : (n j : ℕ) → Between 1 mostEntries n → j ≡ i - 97 → e ≡ set b (2 + j) n → Holds e (withPointer i n w .state)
-  unfolding withPointer withStack stackOf stateForm
+  unfolding withPointer withStack stackOf stateFormBy
   pointer-set n j r at d =
       let m : ℕ = i - 97 in
       let ks : List Stack = st .stacks in
@@ -331,7 +335,7 @@ module _ (b e : List ℕ) (i : ℕ) (w : Work) (h : Holds b (w .state)) (l : Let
       }
 
   pub value-set : (n j : ℕ) → Number n → j ≡ i - 97 → e ≡ replaced b (28 + 4 * j) (four n) → Holds e (withValue i n w .state)
-  unfolding withValue withCounter counterOf stateForm
+  unfolding withValue withCounter counterOf stateFormBy
   value-set n j r at d =
       let m : ℕ = i - 97 in
       let cs : List Counter = st .counters in
@@ -354,7 +358,7 @@ module _ (b e : List ℕ) (i : ℕ) (w : Work) (h : Holds b (w .state)) (l : Let
       }
 
   pub increment-set : (n j : ℕ) → Number n → j ≡ i - 97 → e ≡ replaced b (132 + 4 * j) (four n) → Holds e (withIncrement i n w .state)
-  unfolding withIncrement withCounter counterOf stateForm
+  unfolding withIncrement withCounter counterOf stateFormBy
   increment-set n j r at d =
       let m : ℕ = i - 97 in
       let cs : List Counter = st .counters in
@@ -376,8 +380,8 @@ module _ (b e : List ℕ) (i : ℕ) (w : Work) (h : Holds b (w .state)) (l : Let
             ∙ sym d;
       }
 
-  pub entry-set : (t : List ℕ) (a : ℕ) → EntryInRange t → a ≡ 236 + (1000 * (i - 97) + 50 * (stackOf st i .pointer - 1)) → e ≡ replaced b a (entryForm t) → Holds e (withEntry i t w .state)
-  unfolding withEntry withStack stackOf stateForm
+  pub entry-set : (t : List ℕ) (a : ℕ) → EntryInRange t → a ≡ entriesFrom + (stackBytes * (i - 97) + mostEntryBytes * (stackOf st i .pointer - 1)) → e ≡ replaced b a (entryForm t) → Holds e (withEntry i t w .state)
+  unfolding withEntry withStack stackOf stateFormBy
   entry-set t a r at d =
       let m : ℕ = i - 97 in
       let ks : List Stack = st .stacks in
@@ -388,25 +392,25 @@ module _ (b e : List ℕ) (i : ℕ) (w : Work) (h : Holds b (w .state)) (l : Let
       let es : List (List ℕ) = old .entries in
       let inside : q < length es = omega (arith, k .count, k .pointer .0, k .pointer .1) in
       let y : Stack = record { pointer = old .pointer; entries = set es q t } in
-      let was : length (entryForm (getD es q [])) ≡ 50 = parts.entry-wide (getD es q []) (all-at EntryInRange es q [] (k .entries) inside) in
-      let wide : length (entryForm t) ≡ 50 = parts.entry-wide t r in
-      let stack : parts.stackForm y ≡ replaced (parts.stackForm old) (50 * q + 0) (entryForm t) =
+      let was : length (entryForm (getD es q [])) ≡ mostEntryBytes = parts.entry-wide (getD es q []) (all-at EntryInRange es q [] (k .entries) inside) in
+      let wide : length (entryForm t) ≡ mostEntryBytes = parts.entry-wide t r in
+      let stack : parts.stackForm y ≡ replaced (parts.stackForm old) (mostEntryBytes * q + 0) (entryForm t) =
       parts.entries-each (set es q t)
-      ∙ each-set entryForm 50 es q t [] 0 (entryForm t) (parts.entries-wide es (k .entries)) inside (omega arith) (sym (replaced-whole (entryForm (getD es q [])) (entryForm t) (was ∙ sym wide)))
-      ∙ ap (λ (x : List ℕ). replaced x (50 * q + 0) (entryForm t)) (sym (parts.entries-each es)) in
-      let stores : stacksForm (set ks m y) ≡ replaced (stacksForm ks) (1000 * m + (50 * q + 0)) (entryForm t) =
+      ∙ each-set entryForm mostEntryBytes es q t [] 0 (entryForm t) (parts.entries-wide es (k .entries)) inside (omega arith) (sym (replaced-whole (entryForm (getD es q [])) (entryForm t) (was ∙ sym wide)))
+      ∙ ap (λ (x : List ℕ). replaced x (mostEntryBytes * q + 0) (entryForm t)) (sym (parts.entries-each es)) in
+      let stores : stacksForm (set ks m y) ≡ replaced (stacksForm ks) (stackBytes * m + (mostEntryBytes * q + 0)) (entryForm t) =
       parts.stacks-each (set ks m y)
-      ∙ each-set parts.stackForm 1000 ks m y freshStack (50 * q + 0) (entryForm t) (all-map parts.stack-wide ks (g .stacks)) less (omega (arith, k .count)) stack
-      ∙ ap (λ (x : List ℕ). replaced x (1000 * m + (50 * q + 0)) (entryForm t)) (sym (parts.stacks-each ks)) in
+      ∙ each-set parts.stackForm stackBytes ks m y freshStack (mostEntryBytes * q + 0) (entryForm t) (all-map parts.stack-wide ks (g .stacks)) less (omega (arith, k .count)) stack
+      ∙ ap (λ (x : List ℕ). replaced x (stackBytes * m + (mostEntryBytes * q + 0)) (entryForm t)) (sym (parts.stacks-each ks)) in
       let points : pointersForm (set ks m y) ≡ pointersForm ks = parts.pointers-each (set ks m y) ∙ each-kept parts.pointerForm ks m y freshStack refl ∙ sym (parts.pointers-each ks) in
-      let here : 236 + (1000 * m + (50 * q + 0)) ≡ a = omega arith in
+      let here : entriesFrom + (stackBytes * m + (mostEntryBytes * q + 0)) ≡ a = omega arith in
       record {
         inRange = stacks-range st m y g (record { pointer = k .pointer; count = length-set es q t ∙ k .count; entries = all-set EntryInRange es q t (k .entries) r });
         form =
             ap (λ (x : List ℕ). made st x (valuesOf st) (incrementsOf st) (stacksForm (set ks m y))) points
             ∙ ap (made st (pointersOf st) (valuesOf st) (incrementsOf st)) stores
-            ∙ sym (put-stacks st g (1000 * m + (50 * q + 0)) (entryForm t))
-            ∙ ap (λ (x : List ℕ). replaced x (236 + (1000 * m + (50 * q + 0))) (entryForm t)) (h .form)
+            ∙ sym (put-stacks st g (stackBytes * m + (mostEntryBytes * q + 0)) (entryForm t))
+            ∙ ap (λ (x : List ℕ). replaced x (entriesFrom + (stackBytes * m + (mostEntryBytes * q + 0))) (entryForm t)) (h .form)
             ∙ ap (λ (x : ℕ). replaced b x (entryForm t)) here
             ∙ sym d;
       }

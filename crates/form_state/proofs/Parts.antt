@@ -5,11 +5,13 @@ use mathlib.Core.List.{List, [], _∷_, _++_, map, append-assoc}
 use native.Mathlib.Omega.{arith}
 use lib.ListN.{length, take, drop, replicate, length-append, length-replicate}
 use lib.Seq.{take-at, drop-at, drop-drop}
+use Rattle.form_state.specs.Form.{stackBytes, stacksBytes, entriesFrom}
 use Rattle.macros.specs.Formed.{Between, Bytes, Octets}
-use Rattle.macros.specs.Bounds.{mostCounter}
+use Rattle.macros.specs.Bounds.{mostCounter, mostEntryBytes}
 use Rattle.form_bytes.specs.Fours.{four}
 use Rattle.lines.specs.State.{Stack, Counter, State, AllOf, EntryInRange, StackInRange, InRange}
 use Rattle.form_state.specs.Form.{stateBytes, pointersForm, valuesForm, incrementsForm, entryForm, entriesForm, stacksForm, stateForm}
+use Rattle.form_state.specs.Form.{entryFormBy, entriesFormBy, stacksFormBy, stateFormBy}
 use Rattle.form_state.specs.FormLaws.{StateSize}
 use Rattle.form_state.proofs.Each.{each, each-append, each-length, each-all, all-any, all-map, all-append}
 
@@ -48,20 +50,27 @@ unfolding incrementsForm
 increments-each [] = refl
 increments-each (k ∷ ks) = ap (λ (t : List ℕ). four (k .increment) ++ t) (increments-each ks)
 
+-- for entries of n bytes
+pub entries-by : (n : ℕ) (es : List (List ℕ)) → entriesFormBy n es ≡ each (entryFormBy n) es
+unfolding entriesFormBy
+entries-by n [] = refl
+entries-by n (e ∷ es) = ap (λ (t : List ℕ). entryFormBy n e ++ t) (entries-by n es)
+
 pub entries-each : (es : List (List ℕ)) → entriesForm es ≡ each entryForm es
-unfolding entriesForm
-entries-each [] = refl
-entries-each (e ∷ es) = ap (λ (t : List ℕ). entryForm e ++ t) (entries-each es)
+entries-each = entries-by mostEntryBytes
 
 pub stacks-each : (ks : List Stack) → stacksForm ks ≡ each stackForm ks
-unfolding stacksForm
+unfolding stacksFormBy
 stacks-each [] = refl
 stacks-each (k ∷ ks) = ap (λ (t : List ℕ). entriesForm (k .entries) ++ t) (stacks-each ks)
 
+pub stacks-by : (n : ℕ) (ks : List Stack) → stacksFormBy n ks ≡ each (entryFormBy n) (each entriesOf ks)
+unfolding stacksFormBy
+stacks-by n [] = refl
+stacks-by n (k ∷ ks) = rw (entries-by n (k .entries), stacks-by n ks) (sym (each-append (entryFormBy n) (k .entries) (each entriesOf ks)))
+
 pub stacks-flat : (ks : List Stack) → stacksForm ks ≡ each entryForm (each entriesOf ks)
-unfolding stacksForm
-stacks-flat [] = refl
-stacks-flat (k ∷ ks) = rw (entries-each (k .entries), stacks-flat ks) (sym (each-append entryForm (k .entries) (each entriesOf ks)))
+stacks-flat = stacks-by mostEntryBytes
 
 -- WIDTHS
 
@@ -69,15 +78,18 @@ pub four-wide : (n : ℕ) → length (four n) ≡ 4
 unfolding four
 four-wide n = refl
 
-pub entry-wide : (e : List ℕ) → EntryInRange e → length (entryForm e) ≡ 50
-unfolding entryForm
-entry-wide e h = rw (length-append e (replicate (50 - length e) 0), length-replicate {A = ℕ} (50 - length e) 0) (omega (arith, h .1))
+pub entry-by : (n : ℕ) (e : List ℕ) → length e ≤ n → length (entryFormBy n e) ≡ n
+unfolding entryFormBy
+entry-by n e h = rw (length-append e (replicate (n - length e) 0), length-replicate {A = ℕ} (n - length e) 0) (omega arith)
 
-pub entries-wide : (es : List (List ℕ)) → AllOf EntryInRange es → AllOf (λ e. length (entryForm e) ≡ 50) es
+pub entry-wide : (e : List ℕ) → EntryInRange e → length (entryForm e) ≡ mostEntryBytes
+entry-wide e h = entry-by mostEntryBytes e (h .1)
+
+pub entries-wide : (es : List (List ℕ)) → AllOf EntryInRange es → AllOf (λ e. length (entryForm e) ≡ mostEntryBytes) es
 entries-wide es h = all-map entry-wide es h
 
-pub stack-wide : (k : Stack) → StackInRange k → length (stackForm k) ≡ 1000
-stack-wide k h = ap length (entries-each (k .entries)) ∙ each-length entryForm 50 (k .entries) (entries-wide (k .entries) (h .entries)) ∙ ap (λ (n : ℕ). 50 * n) (h .count)
+pub stack-wide : (k : Stack) → StackInRange k → length (stackForm k) ≡ stackBytes
+stack-wide k h = ap length (entries-each (k .entries)) ∙ each-length entryForm mostEntryBytes (k .entries) (entries-wide (k .entries) (h .entries)) ∙ ap (λ (n : ℕ). mostEntryBytes * n) (h .count)
 
 pub length-pointers : (ks : List Stack) → length (pointersForm ks) ≡ length ks
 unfolding pointersForm
@@ -90,8 +102,8 @@ length-values ks = ap length (values-each ks) ∙ each-length valueForm 4 ks (al
 pub length-increments : (ks : List Counter) → length (incrementsForm ks) ≡ 4 * length ks
 length-increments ks = ap length (increments-each ks) ∙ each-length incrementForm 4 ks (all-any (λ k. length (incrementForm k) ≡ 4) (λ k. four-wide (k .increment)) ks)
 
-pub length-stacks : (ks : List Stack) → AllOf StackInRange ks → length (stacksForm ks) ≡ 1000 * length ks
-length-stacks ks h = ap length (stacks-each ks) ∙ each-length stackForm 1000 ks (all-map stack-wide ks h)
+pub length-stacks : (ks : List Stack) → AllOf StackInRange ks → length (stacksForm ks) ≡ stackBytes * length ks
+length-stacks ks h = ap length (stacks-each ks) ∙ each-length stackForm stackBytes ks (all-map stack-wide ks h)
 
 -- WHERE THE PARTS STAND
 
@@ -108,15 +120,15 @@ module _ (st : State) (h : InRange st) where
   pub numbers-208 : length (valuesForm (st .counters) ++ incrementsForm (st .counters)) ≡ 208
   numbers-208 = rw (length-append (valuesForm (st .counters)) (incrementsForm (st .counters)), values-104, increments-104)
 
-  pub stacks-26000 : length (stacksForm (st .stacks)) ≡ 26000
-  stacks-26000 = length-stacks (st .stacks) (h .stacks) ∙ ap (λ (n : ℕ). 1000 * n) (h .stackCount)
+  pub stacks-long : length (stacksForm (st .stacks)) ≡ stacksBytes
+  stacks-long = length-stacks (st .stacks) (h .stacks) ∙ ap (λ (n : ℕ). stackBytes * n) (h .stackCount)
 
   pub pointers-part : take 26 (drop 2 (stateForm st)) ≡ pointersForm (st .stacks)
-  unfolding stateForm
+  unfolding stateFormBy
   pointers-part = take-at (pointersForm (st .stacks)) (valuesForm (st .counters) ++ (incrementsForm (st .counters) ++ stacksForm (st .stacks))) 26 pointers-26
 
   behind : drop 28 (stateForm st) ≡ (valuesForm (st .counters) ++ incrementsForm (st .counters)) ++ stacksForm (st .stacks)
-  unfolding stateForm
+  unfolding stateFormBy
   behind =
       drop-at (pointersForm (st .stacks)) (valuesForm (st .counters) ++ (incrementsForm (st .counters) ++ stacksForm (st .stacks))) 26 pointers-26
       ∙ sym (append-assoc (valuesForm (st .counters)) (incrementsForm (st .counters)) (stacksForm (st .stacks)))
@@ -124,11 +136,11 @@ module _ (st : State) (h : InRange st) where
   pub numbers-part : take 208 (drop 28 (stateForm st)) ≡ valuesForm (st .counters) ++ incrementsForm (st .counters)
   numbers-part = ap (take 208) behind ∙ take-at (valuesForm (st .counters) ++ incrementsForm (st .counters)) (stacksForm (st .stacks)) 208 numbers-208
 
-  pub stacks-part : drop 236 (stateForm st) ≡ stacksForm (st .stacks)
+  pub stacks-part : drop entriesFrom (stateForm st) ≡ stacksForm (st .stacks)
   stacks-part = sym (drop-drop 208 28 (stateForm st)) ∙ ap (drop 208) behind ∙ drop-at (valuesForm (st .counters) ++ incrementsForm (st .counters)) (stacksForm (st .stacks)) 208 numbers-208
 
   pub size : length (stateForm st) ≡ stateBytes
-  unfolding stateForm
+  unfolding stateFormBy
   size =
       rw (
         length-append (pointersForm (st .stacks)) (valuesForm (st .counters) ++ (incrementsForm (st .counters) ++ stacksForm (st .stacks))),
@@ -137,7 +149,7 @@ module _ (st : State) (h : InRange st) where
         pointers-26,
         values-104,
         increments-104,
-        stacks-26000,
+        stacks-long,
       )
 
 -- BYTES
@@ -149,7 +161,7 @@ pub octets-all : (b : List ℕ) → Octets b → AllOf Small b
 octets-all [] h = tt
 octets-all (x ∷ b) h = (h .0, octets-all b (h .1))
 
-all-octets : (b : List ℕ) → AllOf Small b → Octets b
+pub all-octets : (b : List ℕ) → AllOf Small b → Octets b
 all-octets [] h = tt
 all-octets (x ∷ b) h = (h .0, all-octets b (h .1))
 
@@ -161,19 +173,19 @@ bytes-small : (e : List ℕ) → Bytes e → AllOf Small e
 bytes-small [] h = tt
 bytes-small (b ∷ e) h = (h .0 .1, bytes-small e (h .1))
 
-zeros-small : (n : ℕ) → AllOf Small (replicate n 0)
+pub zeros-small : (n : ℕ) → AllOf Small (replicate n 0)
 zeros-small zero = tt
 zeros-small (suc n) = (omega arith, zeros-small n)
 
 entry-small : (e : List ℕ) → EntryInRange e → AllOf Small (entryForm e)
-unfolding entryForm
-entry-small e h = all-append Small e (replicate (50 - length e) 0) (bytes-small e (h .0)) (zeros-small (50 - length e))
+unfolding entryFormBy
+entry-small e h = all-append Small e (replicate (mostEntryBytes - length e) 0) (bytes-small e (h .0)) (zeros-small (mostEntryBytes - length e))
 
 stack-small : (k : Stack) → StackInRange k → AllOf Small (stackForm k)
 stack-small k h = rw (entries-each (k .entries)) (each-all Small entryForm (k .entries) (all-map entry-small (k .entries) (h .entries)))
 
 pub state-size : StateSize
-unfolding stateForm
+unfolding stateFormBy
 state-size st h = (
   size st h,
   all-octets (stateForm st) (

@@ -9,6 +9,8 @@ use native.Mathlib.Omega.{arith}
 use lib.Dec.{leb, eqb}
 use lib.ListN.{length, getD, take, drop, length-drop, drop-of-length-le}
 use lib.Seq.{drop-cons, drop-drop, drop-length, take-all}
+use Rattle.form_state.specs.Form.{stateBytes, entriesFrom, entryCount}
+use Rattle.macros.specs.Bounds.{mostEntryBytes}
 use Rattle.macros.specs.Macro.{within}
 use borrow.Author.Tests.{eq-eqb, ne-eqb}
 use Rattle.form_bytes.specs.Fours.{numberAt}
@@ -96,20 +98,20 @@ entry-end l i ok one h e =
 five : (a b p n e : Bool) → (((a && b) && p) && n) && e ≡ a && (b && (p && (n && e)))
 five a b p n e = simp and-assoc
 
-pub other-length : (l : List ℕ) → (length l ≡ 26236 → ⊥) → false ≡ stateChecks l
+pub other-length : (l : List ℕ) → (length l ≡ stateBytes → ⊥) → false ≡ stateChecks l
 unfolding stateChecks
-other-length l h = rw (ne-eqb (length l) 26236 h)
+other-length l h = rw (ne-eqb (length l) stateBytes h)
 
-pub passes : (l : List ℕ) (p n e : Bool) → length l ≡ 26236 → p ≡ pointersCheck (take 26 (drop 2 l)) → n ≡ blocksCheck numberCheck 4 52 (take 208 (drop 28 l))
-    → e ≡ blocksCheck entryCheck 50 520 (take (length l - 236) (drop 236 l)) → (((leb (getD l 0 0) 1 && leb (getD l 1 0) 1) && p) && n) && e ≡ stateChecks l
+pub passes : (l : List ℕ) (p n e : Bool) → length l ≡ stateBytes → p ≡ pointersCheck (take 26 (drop 2 l)) → n ≡ blocksCheck numberCheck 4 52 (take 208 (drop 28 l))
+    → e ≡ blocksCheck entryCheck mostEntryBytes entryCount (take (length l - entriesFrom) (drop entriesFrom l)) → (((leb (getD l 0 0) 1 && leb (getD l 1 0) 1) && p) && n) && e ≡ stateChecks l
 unfolding stateChecks
 passes l p n e h hp hn he =
-    let all : take (length l - 236) (drop 236 l) ≡ drop 236 l = take-all (length l - 236) (drop 236 l) (omega (arith, length-drop 236 l)) in
-    rw (eq-eqb (length l) 26236 h) (five (leb (getD l 0 0) 1) (leb (getD l 1 0) 1) p n e
+    let all : take (length l - entriesFrom) (drop entriesFrom l) ≡ drop entriesFrom l = take-all (length l - entriesFrom) (drop entriesFrom l) (omega (arith, length-drop entriesFrom l)) in
+    rw (eq-eqb (length l) stateBytes h) (five (leb (getD l 0 0) 1) (leb (getD l 1 0) 1) p n e
     ∙ ap (λ (t : Bool). leb (getD l 0 0) 1 && (leb (getD l 1 0) 1 && (t && (n && e)))) hp
     ∙ ap (λ (t : Bool). leb (getD l 0 0) 1 && (leb (getD l 1 0) 1 && (pointersCheck (take 26 (drop 2 l)) && (t && e)))) hn
     ∙ ap (λ (t : Bool). leb (getD l 0 0) 1 && (leb (getD l 1 0) 1 && (pointersCheck (take 26 (drop 2 l)) && (blocksCheck numberCheck 4 52 (take 208 (drop 28 l)) && t))))
-    (he ∙ ap (blocksCheck entryCheck 50 520) all))
+    (he ∙ ap (blocksCheck entryCheck mostEntryBytes entryCount) all))
 
 nothing : (l : List ℕ) → textLength (0 ∷ l) ≡ 0
 unfolding textLength

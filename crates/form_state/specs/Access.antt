@@ -3,9 +3,10 @@ use mathlib.Core.Path.{_≡_}
 use mathlib.Core.List.{List, [], _∷_, _++_}
 use Prim.Native.Nat.{ℕ, zero, suc, _+_, _-_, _*_}
 use lib.ListN.{length, take, drop}
+use Rattle.macros.specs.Bounds.{mostEntryBytes}
 use Rattle.lines.specs.State.{State, InRange, stackOf}
 use Rattle.lines.specs.Replacing.{Work}
-use Rattle.form_state.specs.Form.{stateForm}
+use Rattle.form_state.specs.Form.{stateForm, entriesFrom, stackBytes}
 
 -- the bytes b are the form of the state st
 pub record Holds (b : List ℕ) (st : State) : Type 0 where
@@ -34,6 +35,6 @@ textLength [] = 0
 textLength (zero ∷ b) = 0
 textLength (suc x ∷ b) = suc (textLength b)
 
--- where the current entry of the letter i stands: behind the flags, pointers, values and increments come the stacks, 1,000 bytes each
+-- where the current entry of the letter i stands: behind the flags, pointers, values and increments come the stacks, 2,000 bytes each
 abbrev pub entryPlace : State → ℕ → ℕ
-entryPlace st i = 236 + (1000 * (i - 97) + 50 * (stackOf st i .pointer - 1))
+entryPlace st i = entriesFrom + (stackBytes * (i - 97) + mostEntryBytes * (stackOf st i .pointer - 1))

@@ -1,5 +1,5 @@
 -- What is read of a state's bytes is what the form has there.
--- EntryStands rules out the edits entry_place_49 (entries stand 49 bytes apart) and entry_place_turned (the stacks stand in another order).
+-- EntryStands rules out the edits entry_place_99 (entries stand 99 bytes apart) and entry_place_turned (the stacks stand in another order).
 use mathlib.Core.Path.{_≡_}
 use mathlib.Core.List.{List}
 use Prim.Native.Nat.{ℕ}

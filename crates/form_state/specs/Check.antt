@@ -11,7 +11,7 @@ use Rattle.macros.specs.Bounds.{mostEntries, mostEntryBytes, mostCounter}
 use Rattle.macros.specs.Macro.{within}
 use Rattle.macros.specs.Formed.{Octets}
 use Rattle.lines.specs.State.{State, InRange}
-use Rattle.form_state.specs.Form.{stateBytes, stateForm}
+use Rattle.form_state.specs.Form.{stateBytes, entriesFrom, entryCount, stateForm}
 
 -- each pointer is 1 to 20
 unfoldable pub pointersCheck : List ℕ → Bool
@@ -40,7 +40,7 @@ stateChecks b =
     && (leb (getD b 0 0) 1
     && (leb (getD b 1 0) 1
     && (pointersCheck (take 26 (drop 2 b))
-    && (blocksCheck numberCheck 4 52 (take 208 (drop 28 b)) && blocksCheck entryCheck mostEntryBytes 520 (drop 236 b)))))
+    && (blocksCheck numberCheck 4 52 (take 208 (drop 28 b)) && blocksCheck entryCheck mostEntryBytes entryCount (drop entriesFrom b)))))
 
 -- Bytes pass the check exactly where they are the form of a state in range.
 abbrev pub StateCheckExact : Type 0

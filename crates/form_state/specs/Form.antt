@@ -1,6 +1,6 @@
--- The form of a state as bytes, 26,236 of them: the flags TRACE and NFLAG; the 26 pointers;
+-- The form of a state as bytes, 52,236 of them: the flags TRACE and NFLAG; the 26 pointers;
 -- the 26 values and the 26 increments of the counters, four bytes each, low byte first;
--- then the 20 entries of each stack, 50 bytes each, zeros behind an entry's text. Entries hold no byte 0, so they need no length.
+-- then the 20 entries of each stack, 100 bytes each, zeros behind an entry's text. Entries hold no byte 0, so they need no length.
 use Prim.Native.Nat.{ℕ, _-_}
 use mathlib.Core.List.{List, [], _∷_, _++_}
 use lib.ListN.{length, replicate}
@@ -10,7 +10,23 @@ use Rattle.lines.specs.State.{Stack, Counter, State}
 
 -- the size of a state's memory
 abbrev pub stateBytes : ℕ
-stateBytes = 26236
+stateBytes = 52236
+
+-- where the entries begin: behind 2 flags, 26 pointers, and 52 numbers of four bytes
+abbrev pub entriesFrom : ℕ
+entriesFrom = 236
+
+-- how many entries all stacks have
+abbrev pub entryCount : ℕ
+entryCount = 520
+
+-- the bytes of a stack's entries
+abbrev pub stackBytes : ℕ
+stackBytes = 2000
+
+-- the bytes of all entries
+abbrev pub stacksBytes : ℕ
+stacksBytes = 52000
 
 -- the pointers, a byte each
 unfoldable pub pointersForm : List Stack → List ℕ
@@ -27,22 +43,42 @@ unfoldable pub incrementsForm : List Counter → List ℕ
 incrementsForm [] = []
 incrementsForm (k ∷ ks) = four (k .increment) ++ incrementsForm ks
 
+-- FOR ENTRIES OF n BYTES (02, N6)
+
 -- an entry and the zeros behind it
-unfoldable pub entryForm : List ℕ → List ℕ
-entryForm e = e ++ replicate (mostEntryBytes - length e) 0
+unfoldable pub entryFormBy : (n : ℕ) → List ℕ → List ℕ
+entryFormBy n e = e ++ replicate (n - length e) 0
 
 -- the entries of a stack
-unfoldable pub entriesForm : List (List ℕ) → List ℕ
-entriesForm [] = []
-entriesForm (e ∷ es) = entryForm e ++ entriesForm es
+unfoldable pub entriesFormBy : (n : ℕ) → List (List ℕ) → List ℕ
+entriesFormBy n [] = []
+entriesFormBy n (e ∷ es) = entryFormBy n e ++ entriesFormBy n es
 
 -- the entries of all stacks
-unfoldable pub stacksForm : List Stack → List ℕ
-stacksForm [] = []
-stacksForm (k ∷ ks) = entriesForm (k .entries) ++ stacksForm ks
+unfoldable pub stacksFormBy : (n : ℕ) → List Stack → List ℕ
+stacksFormBy n [] = []
+stacksFormBy n (k ∷ ks) = entriesFormBy n (k .entries) ++ stacksFormBy n ks
 
 -- a whole state
-unfoldable pub stateForm : State → List ℕ
-stateForm st =
+unfoldable pub stateFormBy : (n : ℕ) → State → List ℕ
+stateFormBy n st =
     st .trace ∷ st .nflag
-    ∷ (pointersForm (st .stacks) ++ (valuesForm (st .counters) ++ (incrementsForm (st .counters) ++ stacksForm (st .stacks))))
+    ∷ (pointersForm (st .stacks) ++ (valuesForm (st .counters) ++ (incrementsForm (st .counters) ++ stacksFormBy n (st .stacks))))
+
+-- WITH 100 BYTES
+
+-- an entry and the zeros behind it
+abbrev pub entryForm : List ℕ → List ℕ
+entryForm = entryFormBy mostEntryBytes
+
+-- the entries of a stack
+abbrev pub entriesForm : List (List ℕ) → List ℕ
+entriesForm = entriesFormBy mostEntryBytes
+
+-- the entries of all stacks
+abbrev pub stacksForm : List Stack → List ℕ
+stacksForm = stacksFormBy mostEntryBytes
+
+-- a whole state
+abbrev pub stateForm : State → List ℕ
+stateForm = stateFormBy mostEntryBytes

@@ -5,7 +5,7 @@ use Rattle.macros.specs.Formed.{Octets}
 use Rattle.lines.specs.State.{State, InRange}
 use Rattle.form_state.specs.Form.{stateBytes, stateForm}
 
--- The form of a state in range has 26,236 bytes, each at most 255.
+-- The form of a state in range has 52,236 bytes, each at most 255.
 abbrev pub StateSize : Type 0
 StateSize = (st : State) → InRange st → (length (stateForm st) ≡ stateBytes) × Octets (stateForm st)
 

@@ -1,7 +1,16 @@
 // The state as bytes: what is read of the stacks and counters in one lent memory.
+pub mod layout;
+
+use crate::layout::ENTRIES_AT;
+use crate::layout::ENTRY_BYTES;
+use crate::layout::INCREMENTS_AT;
+use crate::layout::POINTERS_AT;
+use crate::layout::STACK_BYTES;
+use crate::layout::VALUES_AT;
 use form_bytes::number_at;
 ghost use Prim.Native.Nat.{_+_, _-_, _≤_};
 ghost use mathlib.Core.Path.{_≡_};
+ghost use Rattle.macros.specs.Bounds.{mostEntryBytes};
 ghost use Rattle.macros.specs.Formed.{Letter};
 ghost use Rattle.lines.specs.State.{stackOf, counterOf, currentEntry};
 ghost use Rattle.form_state.specs.Form.{stateBytes};
@@ -20,7 +29,7 @@ pub fn pointer(state: &[u8], i: u8) -> u8
     requires { ⌜ IsState (now state) × Letter i ⌝ }
     ensures { λ r. ⌜ OfState (now (state .entry)) (λ st. r ≡ stackOf st i .pointer) ⌝ }
 {
-    state[2 + letter_number(i)]
+    state[POINTERS_AT + letter_number(i)]
 }
 
 // The value of the counter i.
@@ -28,7 +37,7 @@ pub fn value(state: &[u8], i: u8) -> u32
     requires { ⌜ IsState (now state) × Letter i ⌝ }
     ensures { λ r. ⌜ OfState (now (state .entry)) (λ st. r ≡ counterOf st i .value) ⌝ }
 {
-    number_at(state, 28 + 4 * letter_number(i))
+    number_at(state, VALUES_AT + 4 * letter_number(i))
 }
 
 // The increment of the counter i.
@@ -36,16 +45,16 @@ pub fn increment(state: &[u8], i: u8) -> u32
     requires { ⌜ IsState (now state) × Letter i ⌝ }
     ensures { λ r. ⌜ OfState (now (state .entry)) (λ st. r ≡ counterOf st i .increment) ⌝ }
 {
-    number_at(state, 132 + 4 * letter_number(i))
+    number_at(state, INCREMENTS_AT + 4 * letter_number(i))
 }
 
 // Where the current entry of the letter i starts.
 pub fn entry_at(state: &[u8], i: u8) -> usize
     requires { ⌜ IsState (now state) × Letter i ⌝ }
-    ensures { λ r. ⌜ (r + 50 ≤ stateBytes) × OfState (now (state .entry)) (λ st. r ≡ entryPlace st i) ⌝ }
+    ensures { λ r. ⌜ (r + mostEntryBytes ≤ stateBytes) × OfState (now (state .entry)) (λ st. r ≡ entryPlace st i) ⌝ }
 {
     let p = pointer(state, i);
-    236 + (1000 * letter_number(i) + 50 * ((p - 1) as usize))
+    ENTRIES_AT + (STACK_BYTES * letter_number(i) + ENTRY_BYTES * ((p - 1) as usize))
 }
 
 // How many bytes stand before the first 0: an entry's text holds none.
@@ -68,6 +77,6 @@ pub fn entry(state: &[u8], i: u8) -> &[u8]
     ensures { λ r. ⌜ OfState (now (state .entry)) (λ st. now r ≡ currentEntry st i) ⌝ }
 {
     let at = entry_at(state, i);
-    let n = text_length(&state[at..at + 50]);
+    let n = text_length(&state[at..at + ENTRY_BYTES]);
     &state[at..at + n]
 }

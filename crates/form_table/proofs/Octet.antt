@@ -4,7 +4,7 @@ use mathlib.Core.List.{List, [], _∷_, reverseAux}
 use Prim.Native.Nat.{ℕ, _≤_, _<_}
 use native.Mathlib.Omega.{arith}
 use lib.ListN.{length}
-use Rattle.macros.specs.Bounds.{mostTags}
+use Rattle.macros.specs.Bounds.{mostTags, mostEntryBytes}
 use Rattle.macros.specs.Macro.{Closure, Member, Mark, PatternUnit, Piece, Move, Call, Action}
 use Rattle.macros.specs.Macro.Closure.{once, oneOrMore, zeroOrMore}
 use Rattle.macros.specs.Macro.Member.{single, range}
@@ -103,7 +103,7 @@ call-octets k (insert stack i v) l f = omega (arith, move-code v, f .names)
 call-octets k (insert counter i v) l f = omega (arith, move-code v, f .names)
 call-octets k (storeTag n i v) l f = omega (arith, move-code v, f .names, within-high 1 k n (f .numbers))
 call-octets k (storeText i v t) l f =
-    let h : length t ≤ 50 = f .names .2 in
+    let h : length t ≤ mostEntryBytes = f .names .2 in
     (omega (arith, move-code v), (omega (arith, f .names .0), (omega arith, (omega arith, evened-octets t (bytes-octets t (f .names .1))))))
 call-octets k (setTo stack i n) l f = (omega arith, (omega (arith, f .names), four-octets n (omega (arith, limit-fits stack, within-high 1 (limit stack) n (f .numbers)))))
 call-octets k (setTo counter i n) l f = (omega arith, (omega (arith, f .names), four-octets n (omega (arith, limit-fits counter, within-high 1 (limit counter) n (f .numbers)))))

@@ -10,7 +10,7 @@ use borrow.Author.Tests.{eq-eqb, ne-eqb, eqb-true}
 use lib.Dec.{eqb}
 use lib.ListN.{length, getD, take, drop, replicate, length-drop, length-replicate, drop-of-length-le}
 use lib.Seq.{drop-cons, take-at, take-all}
-use Rattle.macros.specs.Bounds.{mostMacros}
+use Rattle.macros.specs.Bounds.{mostMacros, mostEntryBytes}
 use Rattle.macros.specs.Refusals.Refusal.{ofLine}
 use Rattle.macros.specs.Refusals.LineRefusal.{badControl}
 use Rattle.macros.specs.Macro.{Table, pick}
@@ -181,9 +181,9 @@ module _ (ms : Table) (st : State) (t : List ℕ) where
   unfolding orderOf
   no-macro m = rw (m, orderOf) refl
 
-  is-macro : begins (bytes "$MACRO") t ≡ true → orderOf ms st t ≡ macroOrder ms st (readOnto ms (drop 6 t))
+  is-macro : st .entryBytes ≡ mostEntryBytes → begins (bytes "$MACRO") t ≡ true → orderOf ms st t ≡ macroOrder ms st (readOnto ms (drop 6 t))
   unfolding orderOf
-  is-macro e = rw (e, orderOf) refl
+  is-macro h e = rw (e, orderOf, h) refl
 
   abbrev setTrace : ℕ → Order
   setTrace v = orders ms (withTrace v st)
@@ -323,7 +323,7 @@ module _ {tb b t : List ℕ} {count : ℕ} where
   pub orders-macro : {tb′ : List ℕ} {r : Obeyed} → begins (bytes "$MACRO") t ≡ true → AddsOne tb tb′ count (take (length t - 6) (drop 6 t)) r → Orders tb tb′ b b count t r
   orders-macro {tb′} {r} e x =
       let x₂ : AddsOne tb tb′ count (drop 6 t) r = subst (λ (s : List ℕ). AddsOne tb tb′ count s r) (behind t) x in
-      record { obeys = λ ms h l st hs. subst (λ (o : Order). Obeys o tb tb′ b b r) (sym (is-macro ms st t e)) (x₂ .obeys ms h l st b hs) }
+      record { obeys = λ ms h l st hs. subst (λ (o : Order). Obeys o tb tb′ b b r) (sym (is-macro ms st t (hs .inRange .entryBytes) e)) (x₂ .obeys ms h l st b hs) }
 
   pub orders-flag : begins (bytes "$MACRO") t ≡ false → {b′ : List ℕ} (r : Obeyed) → Sets b b′ t r → Orders tb tb b b′ count t r
   orders-flag m Taken x = record { obeys = λ ms h l st hs. let y = x .sets ms st hs in (ms, y .0, no-macro ms st t m ∙ y .1, h, y .2) }

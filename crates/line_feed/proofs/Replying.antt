@@ -184,15 +184,15 @@ not-taken (Refused w p) o t e = false≢true t
 counted : {m : Untraced} {count : ℕ} → LentUntraced m → Counts (m .table) count → Counted (m .table) count
 counted y cs = record { macros = y .table .0; isTable = y .table .1; counted = cs .each (y .table .0) (y .table .1) }
 
-pub state-long : (m : Untraced) → LentUntraced m → 26236 ≤ length (m .state)
+pub state-long : (m : Untraced) → LentUntraced m → 52236 ≤ length (m .state)
 state-long m y = omega (arith, state-length (y .state))
 
-module _ {m : Untraced} (y : LentUntraced m) {bf : List ℕ} (e : bf ≡ padded (take 26236 (m .state)) (length (replicate {A = ℕ} 26236 0))) where
+module _ {m : Untraced} (y : LentUntraced m) {bf : List ℕ} (e : bf ≡ padded (take 52236 (m .state)) (length (replicate {A = ℕ} 52236 0))) where
   -- what is put back is the state that came
   backed : bf ≡ m .state
   backed =
-      padded-whole (take 26236 (m .state)) (length (replicate {A = ℕ} 26236 0)) (length-take-le 26236 (m .state) (state-long m y) ∙ sym (length-replicate {A = ℕ} 26236 0)) e
-      ∙ take-all 26236 (m .state) (omega (arith, state-length (y .state)))
+      padded-whole (take 52236 (m .state)) (length (replicate {A = ℕ} 52236 0)) (length-take-le 52236 (m .state) (state-long m y) ∙ sym (length-replicate {A = ℕ} 52236 0)) e
+      ∙ take-all 52236 (m .state) (omega (arith, state-length (y .state)))
 
   module _ (sent : Sent) {count : ℕ} {traced : Bool} {lines : List ℕ} (f : Fits (sent .line)) (room : TraceRoom (m .state) traced lines) (cs : Counts (m .table) count) where
     abbrev run : Run

@@ -28,8 +28,8 @@ fn take_with(
     requires { ⌜ Lent (record { table = now table; state = now state; output = now output; trace = now trace }) × Fits (now line) × TraceRoom (now state) traced (now lines) ⌝ }
     ensures { λ r. ⌜ Takes (record { sent = record { line = now (line .entry); budget = budget }; lent = record { table = now (table .entry); state = now (state .entry); output = now (output .entry); trace = now (trace .entry) }; left = record { table = now (table .exit); state = now (state .exit); output = now (output .exit); trace = now (trace .exit) } }) r ⌝ }
 {
-    let mut before = [0u8; 26236];
-    lay_out(&mut before, &state[..26236]); // of a known size, so that the compiler does not clear `before` first
+    let mut before = [0u8; 52236];
+    lay_out(&mut before, &state[..52236]); // of a known size, so that the compiler does not clear `before` first
     let mut text = [0u8; 1054];
     let count = count_macros(table);
     let ended = run_line(

@@ -13,7 +13,7 @@ use Rattle.macros.specs.Refusals.Refusal.{ofHost, ofLine, ofFile, ofWork}
 use Rattle.macros.specs.Refusals.HostRefusal.{badMemory, badTable, badState, budgetTooLarge}
 use Rattle.macros.specs.Refusals.LineRefusal.{lineTooLong, badByte, badControl}
 use Rattle.macros.specs.Macro.{Macro, Table, pick}
-use Rattle.macros.specs.Read.{readOnto}
+use Rattle.macros.specs.Read.{readOntoBy}
 use Rattle.macros.specs.ReadFile.Read.{refusedAt, table}
 use Rattle.lines.specs.State.{State}
 use Rattle.lines.specs.Matching.{begins}
@@ -61,17 +61,17 @@ module _ (ms : Table) (st : State) (sent : Sent) where
 
 -- A CONTROL LINE
 
-not-one : (ms : Table) (rest : List ℕ) (ks : Table) → readOnto ms rest ≡ table ks → ((m : Macro) → ks ≡ ms ++ (m ∷ []) → ⊥) → length ks ≡ suc (length ms) → ⊥
-not-one ms rest ks e h n =
-    let o : Onto ms (table ks) = subst (Onto ms) e (reads-onto ms rest) in
+not-one : (longest : ℕ) (ms : Table) (rest : List ℕ) (ks : Table) → readOntoBy longest ms rest ≡ table ks → ((m : Macro) → ks ≡ ms ++ (m ∷ []) → ⊥) → length ks ≡ suc (length ms) → ⊥
+not-one longest ms rest ks e h n =
+    let o : Onto ms (table ks) = subst (Onto ms) e (reads-onto longest ms rest) in
     let a = one-more ms ks (o .0) (o .1) n in
     h (a .0) (a .1)
 
-state-same : (x y : State) → x .stacks ≡ y .stacks → x .counters ≡ y .counters → x .trace ≡ y .trace → x .nflag ≡ y .nflag → x ≡ y
-state-same x y s c t n = λ i. record { stacks = s i; counters = c i; trace = t i; nflag = n i }
+state-same : (x y : State) → x .stacks ≡ y .stacks → x .counters ≡ y .counters → x .trace ≡ y .trace → x .nflag ≡ y .nflag → x .entryBytes ≡ y .entryBytes → x ≡ y
+state-same x y s c t n e = λ i. record { stacks = s i; counters = c i; trace = t i; nflag = n i; entryBytes = e i }
 
 module _ (ms : Table) (x : State) where
-  order-macro : (rest : List ℕ) → orderOf ms x (bytes "$MACRO" ++ rest) ≡ macroOrder ms x (readOnto ms rest)
+  order-macro : (rest : List ℕ) → orderOf ms x (bytes "$MACRO" ++ rest) ≡ macroOrder ms x (readOntoBy (x .entryBytes) ms rest)
   unfolding orderOf begins
   order-macro rest = refl
 
@@ -97,18 +97,18 @@ module _ (ms : Table) (x : State) where
   says-order s (orders ks y) (inl h) =
       ap (orderOf ms x) (h .word) ∙ order-macro (h .rest) ∙ ap (macroOrder ms x) (h .reads) ∙ rw (eq-eqb (length ks) (suc (length ms)) (one-length ms ks (h .newest) (h .added))) (ap (orders ks) (sym (h .state)))
   says-order s (orders ks y) (inr (inl h)) =
-      ap (orderOf ms x) (h .exactly) ∙ order-trace-0 ∙ ap (λ (k : Table). orders k (withTrace 0 x)) (sym (h .table)) ∙ ap (orders ks) (sym (state-same y (withTrace 0 x) (h .stacks) (h .counters) (h .traceIs) (h .nflagIs)))
+      ap (orderOf ms x) (h .exactly) ∙ order-trace-0 ∙ ap (λ (k : Table). orders k (withTrace 0 x)) (sym (h .table)) ∙ ap (orders ks) (sym (state-same y (withTrace 0 x) (h .stacks) (h .counters) (h .traceIs) (h .nflagIs) (h .entryBytes)))
   says-order s (orders ks y) (inr (inr (inl h))) =
-      ap (orderOf ms x) (h .exactly) ∙ order-trace-1 ∙ ap (λ (k : Table). orders k (withTrace 1 x)) (sym (h .table)) ∙ ap (orders ks) (sym (state-same y (withTrace 1 x) (h .stacks) (h .counters) (h .traceIs) (h .nflagIs)))
+      ap (orderOf ms x) (h .exactly) ∙ order-trace-1 ∙ ap (λ (k : Table). orders k (withTrace 1 x)) (sym (h .table)) ∙ ap (orders ks) (sym (state-same y (withTrace 1 x) (h .stacks) (h .counters) (h .traceIs) (h .nflagIs) (h .entryBytes)))
   says-order s (orders ks y) (inr (inr (inr (inl h)))) =
-      ap (orderOf ms x) (h .exactly) ∙ order-nflag-0 ∙ ap (λ (k : Table). orders k (withNflag 0 x)) (sym (h .table)) ∙ ap (orders ks) (sym (state-same y (withNflag 0 x) (h .stacks) (h .counters) (h .traceIs) (h .nflagIs)))
+      ap (orderOf ms x) (h .exactly) ∙ order-nflag-0 ∙ ap (λ (k : Table). orders k (withNflag 0 x)) (sym (h .table)) ∙ ap (orders ks) (sym (state-same y (withNflag 0 x) (h .stacks) (h .counters) (h .traceIs) (h .nflagIs) (h .entryBytes)))
   says-order s (orders ks y) (inr (inr (inr (inr h)))) =
-      ap (orderOf ms x) (h .exactly) ∙ order-nflag-1 ∙ ap (λ (k : Table). orders k (withNflag 1 x)) (sym (h .table)) ∙ ap (orders ks) (sym (state-same y (withNflag 1 x) (h .stacks) (h .counters) (h .traceIs) (h .nflagIs)))
+      ap (orderOf ms x) (h .exactly) ∙ order-nflag-1 ∙ ap (λ (k : Table). orders k (withNflag 1 x)) (sym (h .table)) ∙ ap (orders ks) (sym (state-same y (withNflag 1 x) (h .stacks) (h .counters) (h .traceIs) (h .nflagIs) (h .entryBytes)))
   says-order s (wrong (ofHost r)) h = absurd h
   says-order s (wrong (ofLine lineTooLong)) h = absurd h
   says-order s (wrong (ofLine badByte)) h = absurd h
   says-order s (wrong (ofLine badControl)) (inl h) =
-      ap (orderOf ms x) (h .word) ∙ order-macro (h .rest) ∙ ap (macroOrder ms x) (h .reads) ∙ rw (ne-eqb (length (h .read)) (suc (length ms)) (not-one ms (h .rest) (h .read) (h .reads) (h .notOne)))
+      ap (orderOf ms x) (h .word) ∙ order-macro (h .rest) ∙ ap (macroOrder ms x) (h .reads) ∙ rw (ne-eqb (length (h .read)) (suc (length ms)) (not-one (x .entryBytes) ms (h .rest) (h .read) (h .reads) (h .notOne)))
   says-order s (wrong (ofLine badControl)) (inr h) =
       rw (
         by-false (begins (bytes "$MACRO") s) (λ e. h .noMacro (drop 6 s) (begins-with (bytes "$MACRO") s e)),

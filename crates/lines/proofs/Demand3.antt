@@ -111,7 +111,7 @@ pub fed-line : (ms : Table) (st : State) (sent : Sent) → LineHolds ms st sent 
 fed-line ms st sent = (historyOf ms st sent, fed-holds ms st sent)
 
 -- of every state and every table
-lines : (ms : Table) (st : State) (xs : List Sent) → Lines ms st xs (feeds ms st xs)
+pub lines : (ms : Table) (st : State) (xs : List Sent) → Lines ms st xs (feeds ms st xs)
 unfolding feeds
 lines ms st [] = tt
 lines ms st (x ∷ xs) = (fed-line ms st x, lines _ _ xs)

@@ -1,6 +1,6 @@
 -- A control line on an accepted table and a state in range gives such again, or a refusal of its own.
 use Prim.Native.Nat.{ℕ, suc, _-_, _≤_}
-use mathlib.Core.Path.{_≡_, refl}
+use mathlib.Core.Path.{_≡_, ap, sym}
 use mathlib.Core.List.{List}
 use native.Mathlib.Omega.{arith}
 use lib.Dec.{eqb}
@@ -9,7 +9,7 @@ use Rattle.macros.specs.Bounds.{mostFileBytes, mostLineBytes}
 use Rattle.macros.specs.Refusals.LineRefusal.{badControl}
 use Rattle.macros.specs.Macro.{Table}
 use Rattle.macros.specs.Formed.{Bytes}
-use Rattle.macros.specs.Read.{Read, readOnto}
+use Rattle.macros.specs.Read.{Read, readOnto, readOntoBy}
 use Rattle.macros.specs.ReadFile.Read.{refusedAt, table}
 use Rattle.macros.specs.Accepted.{Accepted}
 use Rattle.macros.proofs.Paid.{refusal-shows}
@@ -31,11 +31,11 @@ GoodOrder (orders ks s) = Accepted ks × InRange s
 
 trace-in-range : (n : ℕ) (st : State) → n ≤ 1 → InRange st → InRange (withTrace n st)
 unfolding withTrace
-trace-in-range n st e h = record { stackCount = h .stackCount; stacks = h .stacks; counterCount = h .counterCount; counters = h .counters; trace = e; nflag = h .nflag }
+trace-in-range n st e h = record { stackCount = h .stackCount; stacks = h .stacks; counterCount = h .counterCount; counters = h .counters; trace = e; nflag = h .nflag; entryBytes = h .entryBytes }
 
 nflag-in-range : (n : ℕ) (st : State) → n ≤ 1 → InRange st → InRange (withNflag n st)
 unfolding withNflag
-nflag-in-range n st e h = record { stackCount = h .stackCount; stacks = h .stacks; counterCount = h .counterCount; counters = h .counters; trace = h .trace; nflag = e }
+nflag-in-range n st e h = record { stackCount = h .stackCount; stacks = h .stacks; counterCount = h .counterCount; counters = h .counters; trace = h .trace; nflag = e; entryBytes = h .entryBytes }
 
 flag-good : (ms : Table) (st : State) (t : List ℕ) → Accepted ms → InRange st → GoodOrder (flagOrder ms st t)
 unfolding flagOrder
@@ -58,5 +58,5 @@ order-good ms st t a h =
     (λ e.
     let l : length (drop 6 t) ≡ length t - 6 = length-drop 6 t in
     let k : length t ≤ mostLineBytes = h .fits in
-    macro-good ms st (drop 6 t) (readOnto ms (drop 6 t)) a (h .state) (bytes-drop 6 t (h .bytes)) (omega arith) refl)
+    macro-good ms st (drop 6 t) (readOntoBy (st .entryBytes) ms (drop 6 t)) a (h .state) (bytes-drop 6 t (h .bytes)) (omega arith) (ap (λ (k : ℕ). readOntoBy k ms (drop 6 t)) (sym (h .state .entryBytes))))
     (λ e. flag-good ms st t a (h .state))

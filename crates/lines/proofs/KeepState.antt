@@ -37,6 +37,7 @@ fresh-in-range =
       counters = all-replicate CounterInRange letters freshCounter fresh-counter;
       trace = omega arith;
       nflag = omega arith;
+      entryBytes = refl;
     }
 
 -- WHAT IS READ
@@ -58,7 +59,7 @@ bytes-contents st counter i h = bytes-digits (counterOf st i .value)
 -- WHAT IS PUT BACK
 
 pub set-stack : (st : State) (i : ℕ) (k : Stack) → InRange st → StackInRange k
-    → InRange (record { stacks = set (st .stacks) (i - 97) k; counters = st .counters; trace = st .trace; nflag = st .nflag })
+    → InRange (record { stacks = set (st .stacks) (i - 97) k; counters = st .counters; trace = st .trace; nflag = st .nflag; entryBytes = st .entryBytes })
 set-stack st i k h g =
     record {
       stackCount = length-set (st .stacks) (i - 97) k ∙ h .stackCount;
@@ -67,10 +68,11 @@ set-stack st i k h g =
       counters = h .counters;
       trace = h .trace;
       nflag = h .nflag;
+      entryBytes = h .entryBytes;
     }
 
 pub set-counter : (st : State) (i : ℕ) (k : Counter) → InRange st → CounterInRange k
-    → InRange (record { stacks = st .stacks; counters = set (st .counters) (i - 97) k; trace = st .trace; nflag = st .nflag })
+    → InRange (record { stacks = st .stacks; counters = set (st .counters) (i - 97) k; trace = st .trace; nflag = st .nflag; entryBytes = st .entryBytes })
 set-counter st i k h g =
     record {
       stackCount = h .stackCount;
@@ -79,6 +81,7 @@ set-counter st i k h g =
       counters = all-set CounterInRange (st .counters) (i - 97) k (h .counters) g;
       trace = h .trace;
       nflag = h .nflag;
+      entryBytes = h .entryBytes;
     }
 
 -- what falls stays in range

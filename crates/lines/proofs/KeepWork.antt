@@ -6,7 +6,7 @@ use mathlib.Core.List.{List, [], _∷_}
 use native.Mathlib.Omega.{arith}
 use borrow.Author.Tests.{leb-true, ltb-true}
 use lib.ListN.{length, length-set}
-use Rattle.macros.specs.Bounds.{mostLineBytes, mostEntries, mostEntryBytes, mostCounter}
+use Rattle.macros.specs.Bounds.{mostLineBytes, mostEntries, mostCounter}
 use Rattle.macros.specs.Refusals.{WorkRefusal}
 use Rattle.macros.specs.Refusals.WorkRefusal.{newLineTooLong, tagTooLong, pointerTooHigh, counterTooHigh}
 use Rattle.macros.specs.Macro.{Mark, Piece, Sign, Move, Call, Action, Macro}
@@ -122,7 +122,7 @@ late-sound m (after s) i w h = moves-sound m s i w h
 
 stores-sound : (i : ℕ) (t : List ℕ) (w : Work) → Bytes t → Sound w → SoundDone (stores i t w)
 unfolding stores
-stores-sound i t w b h = unless-sound _ tagTooLong _ _ (λ e. with-entry i t w (b, leb-true (length t) mostEntryBytes e) h)
+stores-sound i t w b h = unless-sound _ tagTooLong _ _ (λ e. with-entry i t w (b, omega (arith, leb-true (length t) (w .state .entryBytes) e, h .state .entryBytes)) h)
 
 -- a call's access, between its two moves
 access-sound : (m : Mark) (v : Move) (i : ℕ) (f : Work → Done) (w : Work) → ((x : Work) → Sound x → SoundDone (f x)) → Sound w → SoundDone (early m v i w >>= f >>= late m v i)

@@ -5,6 +5,7 @@ pub mod ChoiceLaws
 pub mod FewerLaws
 pub mod TagLaws
 pub mod MatchLaws
+pub mod ContentLaws
 pub mod DividingLaws
 pub mod CopiedLaws
 pub mod OccurLaws

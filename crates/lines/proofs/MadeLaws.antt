@@ -2,7 +2,7 @@
 use mathlib.Core.List.{List, [], _∷_}
 use native.Mathlib.Omega.{arith}
 use Rattle.macros.specs.Macro.{Table}
-use Rattle.macros.specs.Read.{readFile}
+use Rattle.macros.specs.Read.{readFileBy}
 use Rattle.macros.specs.Accepted.{Accepted}
 use Rattle.macros.proofs.Laws.{round-trip, read-keeps}
 use Rattle.lines.specs.State.{State}
@@ -22,7 +22,7 @@ after-accepted ms st (x ∷ xs) [] a k = absurd k
 after-accepted ms st (x ∷ xs) (y ∷ ys) a k = after-accepted (y .table) (y .state) xs ys (k .0 .table) (k .1)
 
 pub made-accepted : MadeAccepted
-unfolding readFile
+unfolding readFileBy
 made-accepted ms (byReading s o e) = read-keeps [] s ms (record { count = omega arith; macros = tt }) o e .accepted
 made-accepted ms (byLines first st xs a i o e) = rw (← e) (after-accepted first st xs (feeds first st xs) a (feeds-from first st xs a i o))
 

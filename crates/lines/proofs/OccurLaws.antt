@@ -8,7 +8,7 @@ use native.Mathlib.Omega.{arith}
 use borrow.Author.Tests.{leb-true, leb-false, ltb-true, ltb-false}
 use lib.Dec.{leb, ltb}
 use lib.ListN.{length}
-use Rattle.macros.specs.Bounds.{mostLineBytes, mostEntries, mostEntryBytes, mostCounter}
+use Rattle.macros.specs.Bounds.{mostLineBytes, mostEntries, mostCounter}
 use Rattle.macros.specs.Refusals.{WorkRefusal}
 use Rattle.macros.specs.Refusals.WorkRefusal.{budgetUsedUp, newLineTooLong, tagTooLong, pointerTooHigh, counterTooHigh, traceTooLong}
 use Rattle.macros.specs.Macro.{Mark, Piece, Sign, Move, Call, Action, Macro}
@@ -93,8 +93,8 @@ put-step b w = go (put b w) refl
 pub store-step : (i : ℕ) (s : List ℕ) (w : Work) → ComesTo (storesText i s ∷ []) w (stores i s w)
 unfolding stores
 store-step i s w =
-    by-unless (storesText i s) (leb (length s) mostEntryBytes) tagTooLong w _ (λ e. (leb-true (length s) mostEntryBytes e, refl))
-    (λ e. (refl, leb-false (length s) mostEntryBytes e))
+    by-unless (storesText i s) (leb (length s) (w .state .entryBytes)) tagTooLong w _ (λ e. (leb-true (length s) (w .state .entryBytes) e, refl))
+    (λ e. (refl, leb-false (length s) (w .state .entryBytes) e))
 
 falls : (n by : ℕ) → FallsTo n by (fallen n by)
 unfolding fallen

@@ -12,10 +12,10 @@ use Rattle.macros.specs.Refusals.FileRefusal.{fileTooLong, zeroByte, incomplete
 use Rattle.macros.specs.Quoted.{_is_}
 use Rattle.macros.specs.Macro.{Mark, Macro, Table, pick}
 use Rattle.macros.specs.ReadSoFar.{Step, on, opens, done, stop, pattern, nothing}
-use Rattle.macros.specs.ReadParts.{skips, partByte}
+use Rattle.macros.specs.ReadParts.{skips, partByteBy}
 use Rattle.macros.specs.ReadFile.{Pending, clear, atMark, Prior, Reader, between, inside, Next, go, refuse, refuseBefore, count, macroOf, taken}
-use Rattle.macros.specs.ReadFile.{outsideFresh, firstCall, outside, step}
-use Rattle.macros.specs.ReadFile.{Read, refusedAt, table, atEnd, readFrom, firstZero, readOnto}
+use Rattle.macros.specs.ReadFile.{outsideFresh, firstCall, outside, stepBy}
+use Rattle.macros.specs.ReadFile.{Read, refusedAt, table, atEnd, readFromBy, firstZero, readOntoBy}
 
 -- the macros ms, newest first, have those of old behind them
 abbrev Behind : List Macro → List Macro → Type 0
@@ -63,41 +63,41 @@ unfolding outside
 outside-keeps old clear ms b h = fresh-keeps old ms b h
 outside-keeps old (atMark m n) ms b h = which old (b is "(") _ _ (first-keeps old m n ms h) (fresh-keeps old ms b h)
 
-step-keeps : (old : List Macro) (r : Reader) (b : ℕ) → Behind old (soFar r) → Keeps old (step r b)
-unfolding step
-step-keeps old (between skip a ms) b h = which old (b is "/") _ _ h (which old skip _ _ h (outside-keeps old a ms b h))
-step-keeps old (inside skip n st pr) b h =
+step-keeps : (longest : ℕ) (old : List Macro) (r : Reader) (b : ℕ) → Behind old (soFar r) → Keeps old (stepBy longest r b)
+unfolding stepBy
+step-keeps longest old (between skip a ms) b h = which old (b is "/") _ _ h (which old skip _ _ h (outside-keeps old a ms b h))
+step-keeps longest old (inside skip n st pr) b h =
     which old (skips st && b is "/") _ _ (count-keeps old n (inside (not skip) (suc n) st pr) h)
-    (which old skip _ _ (count-keeps old n (inside true (suc n) st pr) h) (taken-keeps old n pr (partByte st b) h))
+    (which old skip _ _ (count-keeps old n (inside true (suc n) st pr) h) (taken-keeps old n pr (partByteBy longest st b) h))
 
 -- what was read, both tables oldest first
 abbrev pub Onto : Table → Read → Type 0
 Onto older (refusedAt r p) = Unit {0}
 Onto older (table ms) = (new : Table) × (ms ≡ older ++ new)
 
-read-onto : (old : List Macro) (s : List ℕ) (p : ℕ) (r : Reader) → Behind old (soFar r) → Onto (reverse old) (readFrom p r s)
-unfolding readFrom atEnd pick
-read-onto old [] p (between true a ms) h = tt
-read-onto old [] p (between false a ms) h = (reverse (h .0), ap reverse (h .1) ∙ reverse-append (h .0) old)
-read-onto old [] p (inside skip n st pr) h = tt
-read-onto old (b ∷ s) p r h = by (step r b) (step-keeps old r b h) (λ q g. read-onto old s (suc p) q g)
+read-onto : (longest : ℕ) (old : List Macro) (s : List ℕ) (p : ℕ) (r : Reader) → Behind old (soFar r) → Onto (reverse old) (readFromBy longest p r s)
+unfolding readFromBy atEnd pick
+read-onto longest old [] p (between true a ms) h = tt
+read-onto longest old [] p (between false a ms) h = (reverse (h .0), ap reverse (h .1) ∙ reverse-append (h .0) old)
+read-onto longest old [] p (inside skip n st pr) h = tt
+read-onto longest old (b ∷ s) p r h = by (stepBy longest r b) (step-keeps longest old r b h) (λ q g. read-onto longest old s (suc p) q g)
   where
-    by : (v : Next) → Keeps old v → ((q : Reader) → Behind old (soFar q) → Onto (reverse old) (readFrom (suc p) q s))
-        → Onto (reverse old) (elim v [ go r′ ↦ readFrom (suc p) r′ s | refuse k ↦ refusedAt k p | refuseBefore k n ↦ refusedAt k (p - n) ])
+    by : (v : Next) → Keeps old v → ((q : Reader) → Behind old (soFar q) → Onto (reverse old) (readFromBy longest (suc p) q s))
+        → Onto (reverse old) (elim v [ go r′ ↦ readFromBy longest (suc p) r′ s | refuse k ↦ refusedAt k p | refuseBefore k n ↦ refusedAt k (p - n) ])
     by (go q) k ih = ih q k
     by (refuse n) k ih = tt
     by (refuseBefore n j) k ih = tt
 
 -- THE LAW
-pub reads-onto : (older : Table) (s : List ℕ) → Onto older (readOnto older s)
-unfolding readOnto pick
-reads-onto older s = by (ltb mostFileBytes (length s)) (firstZero 0 s)
+pub reads-onto : (longest : ℕ) (older : Table) (s : List ℕ) → Onto older (readOntoBy longest older s)
+unfolding readOntoBy pick
+reads-onto longest older s = by (ltb mostFileBytes (length s)) (firstZero 0 s)
   where
     by : (x : Bool) (o : Option ℕ)
-        → Onto older (pick x (refusedAt fileTooLong mostFileBytes) (elim o [ none ↦ readFrom 0 (between false clear (reverse older)) s | some p ↦ refusedAt zeroByte p ]))
+        → Onto older (pick x (refusedAt fileTooLong mostFileBytes) (elim o [ none ↦ readFromBy longest 0 (between false clear (reverse older)) s | some p ↦ refusedAt zeroByte p ]))
     by true o = tt
     by false (some p) = tt
-    by false none = rw (reverse-reverse older) at (read-onto (reverse older) s 0 (between false clear (reverse older)) ([], refl))
+    by false none = rw (reverse-reverse older) at (read-onto longest (reverse older) s 0 (between false clear (reverse older)) ([], refl))
 
 -- one macro more
 pub one-more : (ms ks new : Table) → ks ≡ ms ++ new → length ks ≡ suc (length ms) → (m : Macro) × (ks ≡ ms ++ (m ∷ []))

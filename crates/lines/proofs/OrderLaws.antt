@@ -10,7 +10,7 @@ use lib.ListN.{length, drop}
 use Rattle.macros.specs.Refusals.Refusal.{ofLine}
 use Rattle.macros.specs.Refusals.LineRefusal.{badControl}
 use Rattle.macros.specs.Macro.{Table, pick}
-use Rattle.macros.specs.Read.{Read, readOnto}
+use Rattle.macros.specs.Read.{Read, readOntoBy}
 use Rattle.macros.specs.ReadFile.Read.{refusedAt, table}
 use Rattle.lines.specs.State.{State}
 use Rattle.lines.specs.Matching.{begins}
@@ -66,11 +66,11 @@ module _ (ms : Table) (x : State) (s : List ℕ) where
   by-pick true o p h g = h refl
   by-pick false o p h g = g refl
 
-  macro-says : (rest : List ℕ) → s ≡ bytes "$MACRO" ++ rest → (a : Read) → readOnto ms rest ≡ a → Says ms x s (macroOrder ms x a)
+  macro-says : (rest : List ℕ) → s ≡ bytes "$MACRO" ++ rest → (a : Read) → readOntoBy (x .entryBytes) ms rest ≡ a → Says ms x s (macroOrder ms x a)
   unfolding macroOrder
   macro-says rest w (refusedAt r p) e = record { rest = rest; word = w; reads = e }
   macro-says rest w (table ks) e =
-      let o : Onto ms (table ks) = subst (Onto ms) e (reads-onto ms rest) in
+      let o : Onto ms (table ks) = subst (Onto ms) e (reads-onto (x .entryBytes) ms rest) in
       by-pick (eqb (length ks) (suc (length ms))) (orders ks x) (wrong (ofLine badControl))
       (λ f.
       let a = one-more ms ks (o .0) (o .1) (eqb-true (length ks) (suc (length ms)) f) in
@@ -81,13 +81,13 @@ module _ (ms : Table) (x : State) (s : List ℕ) where
   unfolding flagOrder withTrace withNflag
   flag-says n =
       by-pick (same s (bytes "$TRACE 0")) _ _
-      (λ e. inr (inl (record { exactly = same-true s _ e; table = refl; traceIs = refl; nflagIs = refl; stacks = refl; counters = refl })))
+      (λ e. inr (inl (record { exactly = same-true s _ e; table = refl; traceIs = refl; nflagIs = refl; stacks = refl; counters = refl; entryBytes = refl })))
       (λ a. by-pick (same s (bytes "$TRACE 1")) _ _
-      (λ e. inr (inr (inl (record { exactly = same-true s _ e; table = refl; traceIs = refl; nflagIs = refl; stacks = refl; counters = refl }))))
+      (λ e. inr (inr (inl (record { exactly = same-true s _ e; table = refl; traceIs = refl; nflagIs = refl; stacks = refl; counters = refl; entryBytes = refl }))))
       (λ b. by-pick (same s (bytes "$NFLAG 0")) _ _
-      (λ e. inr (inr (inr (inl (record { exactly = same-true s _ e; table = refl; traceIs = refl; nflagIs = refl; stacks = refl; counters = refl })))))
+      (λ e. inr (inr (inr (inl (record { exactly = same-true s _ e; table = refl; traceIs = refl; nflagIs = refl; stacks = refl; counters = refl; entryBytes = refl })))))
       (λ c. by-pick (same s (bytes "$NFLAG 1")) _ _
-      (λ e. inr (inr (inr (inr (record { exactly = same-true s _ e; table = refl; traceIs = refl; nflagIs = refl; stacks = refl; counters = refl })))))
+      (λ e. inr (inr (inr (inr (record { exactly = same-true s _ e; table = refl; traceIs = refl; nflagIs = refl; stacks = refl; counters = refl; entryBytes = refl })))))
       (λ d. inr (record { noMacro = n; noTrace0 = not-same s _ a; noTrace1 = not-same s _ b; noNflag0 = not-same s _ c; noNflag1 = not-same s _ d })))))
 
 -- THE LAW
@@ -95,6 +95,6 @@ pub order-says : OrderSays
 unfolding orderOf
 order-says ms x s = go (begins (bytes "$MACRO") s) refl
   where
-    go : (b : Bool) → begins (bytes "$MACRO") s ≡ b → Says ms x s (elim b [ true ↦ macroOrder ms x (readOnto ms (drop 6 s)) | false ↦ flagOrder ms x s ])
-    go true e = macro-says ms x s (drop 6 s) (begins-with (bytes "$MACRO") s e) (readOnto ms (drop 6 s)) refl
+    go : (b : Bool) → begins (bytes "$MACRO") s ≡ b → Says ms x s (elim b [ true ↦ macroOrder ms x (readOntoBy (x .entryBytes) ms (drop 6 s)) | false ↦ flagOrder ms x s ])
+    go true e = macro-says ms x s (drop 6 s) (begins-with (bytes "$MACRO") s e) (readOntoBy (x .entryBytes) ms (drop 6 s)) refl
     go false e = flag-says ms x s (not-begins (bytes "$MACRO") s e)

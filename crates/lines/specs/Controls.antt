@@ -8,7 +8,7 @@ use Rattle.macros.specs.Refusals.{FileRefusal, Refusal}
 use Rattle.macros.specs.Refusals.Refusal.{ofHost, ofLine, ofFile, ofWork}
 use Rattle.macros.specs.Refusals.LineRefusal.{lineTooLong, badByte, badControl}
 use Rattle.macros.specs.Macro.{Macro, Table}
-use Rattle.macros.specs.Read.{readOnto}
+use Rattle.macros.specs.Read.{readOntoBy}
 use Rattle.macros.specs.ReadFile.Read.{refusedAt, table}
 use Rattle.lines.specs.State.{State}
 use Rattle.lines.specs.Feeding.{bytes, Order, orderOf}
@@ -21,7 +21,7 @@ pub record Adds (ms : Table) (x : State) (s : List ℕ) (ks : Table) (y : State)
   pub rest : List ℕ
   pub newest : Macro
   pub word : s ≡ bytes "$MACRO" ++ rest
-  pub reads : readOnto ms rest ≡ table ks
+  pub reads : readOntoBy (x .entryBytes) ms rest ≡ table ks
   pub added : ks ≡ ms ++ (newest ∷ [])
   pub state : y ≡ x
 
@@ -33,6 +33,7 @@ pub record Sets (line : List ℕ) (trace nflag : ℕ) (ms : Table) (x : State) (
   pub nflagIs : y .nflag ≡ nflag
   pub stacks : y .stacks ≡ x .stacks
   pub counters : y .counters ≡ x .counters
+  pub entryBytes : y .entryBytes ≡ x .entryBytes
 
 -- "`$TRACE 0`, `$TRACE 1`, `$NFLAG 0`, `$NFLAG 1`, exactly so, set a flag"
 abbrev pub Ordered : Table → State → List ℕ → Table → State → Type 0
@@ -43,20 +44,20 @@ Ordered ms x s ks y =
     ⊎ Sets (bytes "$NFLAG 0") (x .trace) 0 ms x s ks y
     ⊎ Sets (bytes "$NFLAG 1") (x .trace) 1 ms x s ks y
 
--- the control line s is refused
+-- the control line s, given in the state x to the table ms, is refused
 
 -- "A fault found in that reading gives its own number", with its place behind `$MACRO`
-pub record Misread (ms : Table) (s : List ℕ) (r : FileRefusal) (p : ℕ) : Type 0 where
+pub record Misread (ms : Table) (x : State) (s : List ℕ) (r : FileRefusal) (p : ℕ) : Type 0 where
   pub rest : List ℕ
   pub word : s ≡ bytes "$MACRO" ++ rest
-  pub reads : readOnto ms rest ≡ refusedAt r p
+  pub reads : readOntoBy (x .entryBytes) ms rest ≡ refusedAt r p
 
 -- "else a count other than one gives 23"
-pub record NotOne (ms : Table) (s : List ℕ) : Type 0 where
+pub record NotOne (ms : Table) (x : State) (s : List ℕ) : Type 0 where
   pub rest : List ℕ
   pub read : Table
   pub word : s ≡ bytes "$MACRO" ++ rest
-  pub reads : readOnto ms rest ≡ table read
+  pub reads : readOntoBy (x .entryBytes) ms rest ≡ table read
   pub notOne : (m : Macro) → read ≡ ms ++ (m ∷ []) → ⊥
 
 -- "23 another word or value"
@@ -67,19 +68,19 @@ pub record Other (s : List ℕ) : Type 0 where
   pub noNflag0 : s ≡ bytes "$NFLAG 0" → ⊥
   pub noNflag1 : s ≡ bytes "$NFLAG 1" → ⊥
 
--- why the control line s, given to the table ms, is refused with r
-abbrev pub Misordered : Table → List ℕ → Refusal → Type 0
-Misordered ms s (ofFile r p) = Misread ms s r p
-Misordered ms s (ofLine badControl) = NotOne ms s ⊎ Other s
+-- why the control line s, given in the state x to the table ms, is refused with r
+abbrev pub Misordered : Table → State → List ℕ → Refusal → Type 0
+Misordered ms x s (ofFile r p) = Misread ms x s r p
+Misordered ms x s (ofLine badControl) = NotOne ms x s ⊎ Other s
 -- a control line meets no other refusal
-Misordered ms s (ofLine lineTooLong) = ⊥
-Misordered ms s (ofLine badByte) = ⊥
-Misordered ms s (ofHost r) = ⊥
-Misordered ms s (ofWork r) = ⊥
+Misordered ms x s (ofLine lineTooLong) = ⊥
+Misordered ms x s (ofLine badByte) = ⊥
+Misordered ms x s (ofHost r) = ⊥
+Misordered ms x s (ofWork r) = ⊥
 
 -- what an order says of the line that gave it
 abbrev pub Says : Table → State → List ℕ → Order → Type 0
-Says ms x s (wrong r) = Misordered ms s r
+Says ms x s (wrong r) = Misordered ms x s r
 Says ms x s (orders ks y) = Ordered ms x s ks y
 
 -- THE LAW: of every table, state and text

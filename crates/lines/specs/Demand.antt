@@ -371,7 +371,7 @@ pub record Controlled (ms : Table) (l : Line) (a : Answer) (s : List ℕ) (x : S
 -- a control line that is refused with r: its final text gives that refusal (Controls)
 pub record Miscontrolled (ms : Table) (l : Line) (r : Refusal) (s : List ℕ) (x : State) : Type 0 where
   pub final : endOfLine l ≡ control s x
-  pub misordered : Misordered ms s r
+  pub misordered : Misordered ms x s r
 
 -- WHY A LINE IS REFUSED (01, refusals), by the refusal
 abbrev pub Reason : Table → State → Sent → Line → Answer → Refusal → Type 0

@@ -12,7 +12,7 @@ use Rattle.macros.specs.Refusals.HostRefusal.{budgetTooLarge}
 use Rattle.macros.specs.Refusals.LineRefusal.{lineTooLong, badByte, badControl}
 use Rattle.macros.specs.Macro.{Table, pick}
 pub use Rattle.macros.specs.Quoted.{bytes}
-use Rattle.macros.specs.Read.{Read, readOnto}
+use Rattle.macros.specs.Read.{Read, readOntoBy}
 use Rattle.macros.specs.ReadFile.Read.{refusedAt, table}
 use Rattle.lines.specs.State.{State}
 use Rattle.lines.specs.Matching.{begins}
@@ -36,11 +36,13 @@ same (a ∷ l) (b ∷ bs) = elim (eqb a b) [ true ↦ same l bs | false ↦ fals
 
 -- the state with this flag TRACE
 unfoldable pub withTrace : ℕ → State → State
-withTrace n st = record { stacks = st .stacks; counters = st .counters; trace = n; nflag = st .nflag }
+withTrace n st =
+    record { stacks = st .stacks; counters = st .counters; trace = n; nflag = st .nflag; entryBytes = st .entryBytes }
 
 -- the state with this flag NFLAG
 unfoldable pub withNflag : ℕ → State → State
-withNflag n st = record { stacks = st .stacks; counters = st .counters; trace = st .trace; nflag = n }
+withNflag n st =
+    record { stacks = st .stacks; counters = st .counters; trace = st .trace; nflag = n; entryBytes = st .entryBytes }
 
 -- "`$TRACE 0`, `$TRACE 1`, `$NFLAG 0`, `$NFLAG 1`, exactly so, set a flag"; 23: "another word or value"
 unfoldable pub flagOrder : Table → State → List ℕ → Order
@@ -55,11 +57,11 @@ unfoldable pub macroOrder : Table → State → Read → Order
 macroOrder ms st (refusedAt r p) = wrong (ofFile r p)
 macroOrder ms st (table ks) = pick (eqb (length ks) (suc (length ms))) (orders ks st) (wrong (ofLine badControl))
 
--- "`$MACRO` and the bytes after it, read as a macro file of one macro, adds the newest"
+-- "`$MACRO` and the bytes after it, read as a macro file of one macro, adds the newest"; its texts may be as long as an entry of the state
 unfoldable pub orderOf : Table → State → List ℕ → Order
 orderOf ms st t =
     elim (begins (bytes "$MACRO") t) [
-      | true ↦ macroOrder ms st (readOnto ms (drop 6 t))
+      | true ↦ macroOrder ms st (readOntoBy (st .entryBytes) ms (drop 6 t))
       | false ↦ flagOrder ms st t
     ]
 

@@ -199,8 +199,8 @@ pub pointerBound :
     )) ×
     (Tried "'p'<'&(a=20)';'{x*}'<''&(1,+a);'{y*}'<''&(1,a+);'z'<'&(a+)q';" (
     fed "p" (says "" 7) (pointer "a" 20 ∷ [])
-    ∷ fed "xxxxxxxxxxxxxxxxxxxxxxxxxxxxxxxxxxxxxxxxxxxxxxxxxxx" (refused 34 0 3) (pointer "a" 20 ∷ [])
-    ∷ fed "yyyyyyyyyyyyyyyyyyyyyyyyyyyyyyyyyyyyyyyyyyyyyyyyyyy" (refused 33 0 2) (pointer "a" 20 ∷ [])
+    ∷ fedBytes 10000 (replicate 101 120) (refused 34 0 3) (pointer "a" 20 ∷ [])
+    ∷ fedBytes 10000 (replicate 101 121) (refused 33 0 2) (pointer "a" 20 ∷ [])
     ∷ fed "z" (refused 34 0 1) (pointer "a" 20 ∷ [])
     ∷ []
     ))
@@ -224,11 +224,11 @@ pub counterBound :
 unfolding everything
 counterBound = (refl, refl)
 
--- 33, "a stored tag over 50 bytes": 01's song
+-- 33, a stored tag over 100 bytes: 01's song, whose 50 and 51 become 100 and 101 (02, N6)
 pub tagBound :
     Tried "'{a*}'<'b'&(1,t);" (
-    fedBytes 10000 (replicate 50 97) (says "b" 1) (entry "t" 1 (replicate 50 97) ∷ [])
-    ∷ fedBytes 10000 (replicate 51 97) (refused 33 0 1) (entry "t" 1 (replicate 50 97) ∷ [])
+    fedBytes 10000 (replicate 100 97) (says "b" 1) (entry "t" 1 (replicate 100 97) ∷ [])
+    ∷ fedBytes 10000 (replicate 101 97) (refused 33 0 1) (entry "t" 1 (replicate 100 97) ∷ [])
     ∷ []
     )
 unfolding everything

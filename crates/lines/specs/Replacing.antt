@@ -4,7 +4,7 @@ use mathlib.Core.Bool.{Bool, true, false}
 use mathlib.Core.List.{List, [], _∷_}
 use lib.Dec.{leb, ltb}
 use lib.ListN.{length, set}
-use Rattle.macros.specs.Bounds.{mostLineBytes, mostEntries, mostEntryBytes, mostCounter}
+use Rattle.macros.specs.Bounds.{mostLineBytes, mostEntries, mostCounter}
 use Rattle.macros.specs.Refusals.{WorkRefusal}
 use Rattle.macros.specs.Refusals.WorkRefusal.{newLineTooLong, tagTooLong, pointerTooHigh, counterTooHigh}
 use Rattle.macros.specs.Macro.{Mark, Piece, Sign, Move, Call, Action, Macro}
@@ -66,14 +66,17 @@ put b w = unless (ltb (w .size) mostLineBytes) newLineTooLong w (record { out = 
 unfoldable pub withStack : ℕ → Stack → Work → Work
 withStack i k w =
     let st : State = w .state in
-    let new : State = record { stacks = set (st .stacks) (i - 97) k; counters = st .counters; trace = st .trace; nflag = st .nflag } in
+    let ks : List Stack = set (st .stacks) (i - 97) k in
+    let new : State =
+    record { stacks = ks; counters = st .counters; trace = st .trace; nflag = st .nflag; entryBytes = st .entryBytes } in
     record { out = w .out; size = w .size; state = new }
 
 -- the counter of the letter i is k, and all else stays
 unfoldable pub withCounter : ℕ → Counter → Work → Work
 withCounter i k w =
     let st : State = w .state in
-    let new : State = record { stacks = st .stacks; counters = set (st .counters) (i - 97) k; trace = st .trace; nflag = st .nflag } in
+    let ks : List Counter = set (st .counters) (i - 97) k in
+    let new : State = record { stacks = st .stacks; counters = ks; trace = st .trace; nflag = st .nflag; entryBytes = st .entryBytes } in
     record { out = w .out; size = w .size; state = new }
 
 -- its pointer is n, and its entries stay
@@ -119,9 +122,10 @@ late m still i w = good w
 late m (before s) i w = good w
 late m (after s) i w = moves m s i w
 
--- 33: "a stored tag over 50 bytes"; a text stored by `&(i:text:)` is never longer, since reading keeps it to 50
+-- 33: a stored tag that is longer than an entry of the state may be: over 100 bytes (02, N6), in a state of the old engine over 50 (01).
+-- A text of `&(i:text:)` is no longer where its table was read by the same bound
 unfoldable pub stores : ℕ → List ℕ → Work → Done
-stores i t w = unless (leb (length t) mostEntryBytes) tagTooLong w (withEntry i t w)
+stores i t w = unless (leb (length t) (w .state .entryBytes)) tagTooLong w (withEntry i t w)
 
 -- WHAT ACTS, for the division of the line t whose spans end at qs
 

@@ -19,12 +19,13 @@ pub record Counter : Type 0 where
   pub value : ℕ
   pub increment : ℕ
 
--- a stack and a counter for each letter, and the flags
+-- a stack and a counter for each letter, the flags, and how many bytes an entry may have: 100, in a state of the old engine 50 (02, N6)
 pub record State : Type 0 where
   pub stacks : List Stack
   pub counters : List Counter
   pub trace : ℕ
   pub nflag : ℕ
+  pub entryBytes : ℕ
 
 -- "Fresh: pointers 1, entries empty, counters and increments 1, flags 0."
 unfoldable pub freshStack : Stack
@@ -36,7 +37,14 @@ freshCounter = record { value = 1; increment = 1 }
 
 -- the fresh state
 unfoldable pub fresh : State
-fresh = record { stacks = replicate letters freshStack; counters = replicate letters freshCounter; trace = 0; nflag = 0 }
+fresh =
+    record {
+      stacks = replicate letters freshStack;
+      counters = replicate letters freshCounter;
+      trace = 0;
+      nflag = 0;
+      entryBytes = mostEntryBytes;
+    }
 
 -- the stack, and the counter, of the letter i
 unfoldable pub stackOf : State → ℕ → Stack
@@ -62,7 +70,7 @@ abbrev pub AllOf : {A : Type 0} → (A → Type 0) → List A → Type 0
 AllOf P [] = Unit {0}
 AllOf P (x ∷ xs) = P x × AllOf P xs
 
--- "entries of 50 bytes", none of them 0
+-- "entries of 100 bytes" (02, N6), none of them 0
 abbrev pub EntryInRange : List ℕ → Type 0
 EntryInRange e = Bytes e × (length e ≤ mostEntryBytes)
 
@@ -77,7 +85,7 @@ pub record CounterInRange (k : Counter) : Type 0 where
   pub value : Between 1 mostCounter (k .value)
   pub increment : Between 1 mostCounter (k .increment)
 
--- a state in range, with flags that are 0 or 1
+-- a state in range, with flags that are 0 or 1 and entries of 100 bytes
 pub record InRange (st : State) : Type 0 where
   pub stackCount : length (st .stacks) ≡ letters
   pub stacks : AllOf StackInRange (st .stacks)
@@ -85,3 +93,4 @@ pub record InRange (st : State) : Type 0 where
   pub counters : AllOf CounterInRange (st .counters)
   pub trace : st .trace ≤ 1
   pub nflag : st .nflag ≤ 1
+  pub entryBytes : st .entryBytes ≡ mostEntryBytes

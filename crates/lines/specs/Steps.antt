@@ -5,7 +5,7 @@ use mathlib.Core.Path.{_≡_}
 use mathlib.Core.Logic.{_⊎_}
 use mathlib.Core.List.{List, [], _∷_, _++_, reverse}
 use lib.ListN.{length}
-use Rattle.macros.specs.Bounds.{mostLineBytes, mostEntries, mostEntryBytes, mostCounter}
+use Rattle.macros.specs.Bounds.{mostLineBytes, mostEntries, mostCounter}
 use Rattle.macros.specs.Refusals.{WorkRefusal}
 use Rattle.macros.specs.Refusals.WorkRefusal.{newLineTooLong, tagTooLong, pointerTooHigh, counterTooHigh}
 use Rattle.macros.specs.Macro.{Mark, Piece, Sign, Move, Call, Action, Macro}
@@ -109,7 +109,7 @@ Does (inserts s) w v = (w .size + length s ≤ mostLineBytes) × Copied s w v
 Does (insertsCurrent m i) w v = let s : List ℕ = contents (w .state) m i in (w .size + length s ≤ mostLineBytes) × Copied s w v
 Does (insertsDivided i n) w v =
     (s : List ℕ) × Divided (counterOf (w .state) i .value) n s × (w .size + length s ≤ mostLineBytes) × Copied s w v
-Does (stores i s) w v = (length s ≤ mostEntryBytes) × (v ≡ withEntry i s w)
+Does (stores i s) w v = (length s ≤ w .state .entryBytes) × (v ≡ withEntry i s w)
 -- the pointer moves by 1, the counter by its increment
 Does (moves stack plus i) w v = let n : ℕ = stackOf (w .state) i .pointer + 1 in (n ≤ mostEntries) × (v ≡ withPointer i n w)
 Does (moves stack minus i) w v = (k : ℕ) × FallsTo (stackOf (w .state) i .pointer) 1 k × (v ≡ withPointer i k w)
@@ -129,8 +129,8 @@ Why (inserts s) w r = (r ≡ newLineTooLong) × (mostLineBytes < w .size + lengt
 Why (insertsCurrent m i) w r = (r ≡ newLineTooLong) × (mostLineBytes < w .size + length (contents (w .state) m i))
 Why (insertsDivided i n) w r =
     (s : List ℕ) × Divided (counterOf (w .state) i .value) n s × (r ≡ newLineTooLong) × (mostLineBytes < w .size + length s)
--- "33 a stored tag over 50 bytes" [tag_of_50]; reading keeps a text of the macro's own to 50
-Why (stores i s) w r = (r ≡ tagTooLong) × (mostEntryBytes < length s)
+-- 33, a stored tag over the state's own bound, 100 bytes (02, N6) [tag_of_100]; reading keeps a text of the macro's own to the same bound
+Why (stores i s) w r = (r ≡ tagTooLong) × (w .state .entryBytes < length s)
 -- "34 pointer past 20" [pointer_past_19]
 Why (moves stack plus i) w r = (r ≡ pointerTooHigh) × (mostEntries < stackOf (w .state) i .pointer + 1)
 -- "35 counter past its end" [counter_as_34]

@@ -13,7 +13,7 @@ use Rattle.macros.specs.Refusals.Refusal.{ofHost}
 use Rattle.macros.specs.Refusals.HostRefusal.{budgetTooLarge}
 use Rattle.macros.specs.Macro.{Table}
 use Rattle.macros.specs.Formed.{Octets}
-use Rattle.macros.specs.Read.{Read, readOnto}
+use Rattle.macros.specs.Read.{Read, readOntoBy}
 use Rattle.macros.specs.ReadFile.Read.{refusedAt, table}
 use Rattle.macros.specs.Accepted.{Accepted}
 use Rattle.lines.specs.State.{State, InRange}
@@ -43,14 +43,14 @@ flag-near ms st t =
     (λ e. by-pick Near _ _ _ (λ e. omega arith)
     (λ e. by-pick Near _ _ _ (λ e. omega arith) (λ e. by-pick Near _ _ _ (λ e. omega arith) (λ e. omega arith))))
 
-macro-near : (ms : Table) (st : State) (s : List ℕ) (r : Read) → readOnto ms s ≡ r → Near (macroOrder ms st r)
+macro-near : (ms : Table) (st : State) (s : List ℕ) (r : Read) → readOntoBy (st .entryBytes) ms s ≡ r → Near (macroOrder ms st r)
 unfolding macroOrder orderPlace place
-macro-near ms st s (refusedAt f q) e = onto-place ms s e
+macro-near ms st s (refusedAt f q) e = onto-place (st .entryBytes) ms s e
 macro-near ms st s (table ks) e = by-pick Near (eqb (length ks) (suc (length ms))) _ _ (λ c. omega arith) (λ c. omega arith)
 
 order-near : (ms : Table) (st : State) (t : List ℕ) → Near (orderOf ms st t)
 unfolding orderOf
-order-near ms st t = by-elim Near (begins (bytes "$MACRO") t) _ _ (λ e. macro-near ms st (drop 6 t) (readOnto ms (drop 6 t)) refl) (λ e. flag-near ms st t)
+order-near ms st t = by-elim Near (begins (bytes "$MACRO") t) _ _ (λ e. macro-near ms st (drop 6 t) (readOntoBy (st .entryBytes) ms (drop 6 t)) refl) (λ e. flag-near ms st t)
 
 abbrev InFile : Answer → Type 0
 InFile a = placeOf (a .kind) ≤ mostFileBytes

@@ -1,5 +1,6 @@
 pub mod Places
 pub mod Results
+pub mod WidthResults
 pub mod Measuring
 pub mod FeedBounds
 pub mod FeedResults

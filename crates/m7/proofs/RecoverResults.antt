@@ -6,11 +6,11 @@ use mathlib.Core.List.{List}
 use native.Mathlib.Omega.{arith}
 use borrow.Author.Tests.{eq-eqb, ne-eqb}
 use lib.ListN.{length, length-replicate, replicate}
-use Rattle.macros.specs.Bounds.{mostFileBytes}
+use Rattle.macros.specs.Bounds.{mostFileBytes, mostEntryBytes}
 use Rattle.macros.specs.Refusals.{number, place, hostNumber}
 use Rattle.macros.specs.Macro.{pick}
 use Rattle.macros.specs.Formed.{Octets}
-use Rattle.macros.specs.Read.{readFile}
+use Rattle.macros.specs.Read.{readFileBy}
 use Rattle.form_table.specs.Form.{tableBytes, form}
 use Rattle.faults.specs.Refusal.{RecoverRefusal, recoverNumber, recoverPlace}
 use Rattle.faults.specs.Recover.{recover}
@@ -56,7 +56,7 @@ refusal-place : (s : List ℕ) (v : RecoverRefusal) → Octets s → recover s �
 refusal-place s v bytes e = by v (recovers-exactly s (refused v) bytes .0 e)
   where
     by : (u : RecoverRefusal) → Recovers s (refused u) → recoverPlace u ≤ mostFileBytes
-    by u (refusedWhole l f) = unfold recoverPlace readFile in onto-place _ s f
+    by u (refusedWhole l f) = unfold recoverPlace readFileBy in onto-place mostEntryBytes _ s f
     by u (past g x) = omega (arith, past-place s g (omega arith) x, g .0)
 
 pub zeros-lent : {z : List ℕ} {n : ℕ} → z ≡ replicate n 0 → length z ≡ n

@@ -9,12 +9,12 @@ use mir.Syntax.{w8}
 use mir.Val.{Fits}
 use lib.Dec.{eqb}
 use lib.ListN.{length, getD, replicate, length-replicate}
-use Rattle.macros.specs.Bounds.{mostFileBytes, mostMacros}
+use Rattle.macros.specs.Bounds.{mostFileBytes, mostMacros, mostEntryBytes}
 use Rattle.macros.specs.Refusals.{FileRefusal, number, place, hostNumber, fileNumber}
 use Rattle.macros.specs.Refusals.FileRefusal.{fileTooLong, zeroByte, incomplete, badClass, noUnit, badBrace, badCall, noElement, macroTooLong, tooManyMacros}
 use Rattle.macros.specs.Macro.{Table, pick}
 use Rattle.macros.specs.Formed.{Octets}
-use Rattle.macros.specs.Read.{Read, readFile, readOnto}
+use Rattle.macros.specs.Read.{Read, readFile, readOnto, readFileBy}
 use Rattle.macros.specs.ReadFile.Read.{refusedAt, table}
 use Rattle.macros.specs.Write.{Written, writeOut}
 use Rattle.macros.specs.Write.Written.{refused, file}
@@ -95,7 +95,7 @@ module _ (s z made : List ℕ) (r : Reading) (zeros : z ≡ replicate 98304 0) (
     read-few o = let k = read-keeps [] s (onto .0) none-accepted o (onto .1) .accepted .count in let f = onto .2 in omega arith
 
     pub read-taken : (old : List ℕ) {a : Answer} {b : List ℕ} → length old ≡ tableBytes → b ≡ made → a ≡ reply 0 0 n → Gives (reads s old) a b
-    unfolding readFile ofReading takes
+    unfolding readFileBy ofReading takes
     read-taken old l f g = gives (reads-sized s old l ∙ ap (ofReading old) (onto .1)) (g ∙ ap (reply 0 0) (onto .2)) (f ∙ sym (onto .3))
 
   -- a refusal with its place
@@ -104,10 +104,10 @@ module _ (s z made : List ℕ) (r : Reading) (zeros : z ≡ replicate 98304 0) (
     not-read = subst (Onto s 0 z made) e given [] none-accepted (none-form ∙ sym zeros) refl .0
 
     pub read-place : q ≤ mostFileBytes
-    read-place = onto-place [] s not-read
+    read-place = onto-place mostEntryBytes [] s not-read
 
     pub read-refused : (old : List ℕ) {a : Answer} {k : ℕ} → length old ≡ tableBytes → k ≡ fileNumber (faultOf f) → a ≡ reply k q 0 → Gives (reads s old) a old
-    unfolding readFile ofReading refuses number place
+    unfolding readFileBy ofReading refuses number place
     read-refused old l g h = gives (reads-sized s old l ∙ ap (ofReading old) not-read) (h ∙ ap (λ (k : ℕ). reply k q 0) g) refl
 
 -- a call that is answered with 0 has made a table
@@ -126,7 +126,7 @@ not-zero tooManyMacros e = omega arith
 
 module _ (s old : List ℕ) (o : Octets s) {a : Answer} {b : List ℕ} (z : a .number ≡ 0) where
   of-read : (w : Read) → readFile s ≡ w → Gives (ofReading old w) a b → (ms : Table) × IsTable b ms
-  unfolding readFile ofReading refuses takes reply number
+  unfolding readFileBy ofReading refuses takes reply number
   of-read (refusedAt f p) e g = absurd (not-zero f (sym (ap (λ (x : Answer). x .number) (g .answers)) ∙ z))
   of-read (table ms) e g = (ms, record { accepted = read-keeps [] s ms none-accepted o e .accepted; form = sym (g .holds) })
 

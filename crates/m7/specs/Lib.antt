@@ -3,3 +3,4 @@ pub mod Feeding
 pub mod HostRefusal
 pub mod Words
 pub mod Recovering
+pub mod Widening

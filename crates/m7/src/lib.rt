@@ -1,12 +1,14 @@
-// The engine for the host: reading a macro file, also past its faults, measuring one, writing out a table, the fresh state, feeding a line,
-// and looking words up. Each exported function has a file of its own.
+// The engine for the host: reading a macro file, also past its faults, measuring one, writing out a table, the fresh state, states of the old
+// size, feeding a line, and looking words up. Each exported function has a file of its own.
 mod answers;
 pub mod feed;
 pub mod fresh;
 pub mod looking;
 pub mod measure;
+pub mod narrow;
 pub mod read;
 pub mod recover;
+pub mod widen;
 pub mod write;
 
 // The bytes of a table's memory, of a file's to write to, of a state's, of a line's, of a trace's, and of a list of faults.
@@ -14,7 +16,7 @@ pub(crate) const TABLE_BYTES: usize = 98304;
 
 pub(crate) const FILE_BYTES: usize = 32768;
 
-pub(crate) const STATE_BYTES: usize = 26236;
+pub(crate) const STATE_BYTES: usize = 52236;
 
 pub(crate) const LINE_BYTES: usize = 1054;
 

@@ -5,3 +5,4 @@ pub mod Demand3Laws
 pub mod TraceLaws
 pub mod MeasureLaws
 pub mod RecoverLaws
+pub mod WidthLaws

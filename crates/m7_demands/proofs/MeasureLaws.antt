@@ -13,7 +13,7 @@ use Rattle.macros.specs.Refusals.{FileRefusal, number, place, fileNumber}
 use Rattle.macros.specs.Macro.{Symbol, Macro, Table}
 use Rattle.macros.specs.Macro.Symbol.{equal, less}
 use Rattle.macros.specs.Formed.{Octets}
-use Rattle.macros.specs.Read.{Read, readFile}
+use Rattle.macros.specs.Read.{Read, readFile, readFileBy}
 use Rattle.macros.specs.ReadFile.Read.{refusedAt, table}
 use Rattle.macros.specs.Write.{Written, writeOut}
 use Rattle.macros.specs.Write.Written.{refused, file}
@@ -184,7 +184,7 @@ none-accepted : Accepted []
 none-accepted = record { count = omega arith; macros = tt }
 
 of-reading : (s old : List ℕ) → Octets s → (r : Read) → readFile s ≡ r → Measured (ofReading old r) (told (measured r))
-unfolding ofReading measured told refuses reply number place readFile
+unfolding ofReading measured told refuses reply number place readFileBy
 of-reading s old o (table ms) e = taken ms (read-keeps [] s ms none-accepted o e .accepted) (writeOut ms) refl
 of-reading s old o (refusedAt c p) e =
     record {

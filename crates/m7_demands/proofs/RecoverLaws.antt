@@ -13,7 +13,7 @@ use Rattle.macros.specs.Refusals.{FileRefusal, fileNumber, number, place, hostN
 use Rattle.macros.specs.Refusals.FileRefusal.{tooManyMacros}
 use Rattle.macros.specs.Macro.{Macro, Table, pick}
 use Rattle.macros.specs.Formed.{Between, Octets}
-use Rattle.macros.specs.Read.{Read, readFile}
+use Rattle.macros.specs.Read.{Read, readFile, readFileBy}
 use Rattle.macros.specs.ReadFile.Read.{refusedAt, table}
 use Rattle.macros.specs.FirstFault.{Plain}
 use Rattle.macros.specs.Accepted.{Each, Spellable}
@@ -227,7 +227,7 @@ module _ (s : List ℕ) (ms : Table) (fs : List Fault) (o : Octets s) (e : recov
       rw (w .1, j) (a .0)
 
   spelled : Each Spellable ms
-  unfolding readFile
+  unfolding readFileBy
   spelled =
       let x = kept-could-be-read s ms fs o e in
       each-spellable (read-keeps [] (x .0) ms (record { count = omega arith; macros = tt }) (x .1) (x .2) .accepted)

@@ -6,3 +6,4 @@ pub mod Demand3
 pub mod Trace
 pub mod Measure
 pub mod Recover
+pub mod Widths

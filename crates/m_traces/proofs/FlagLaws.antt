@@ -6,28 +6,25 @@ use mathlib.Core.List.{List, [], _∷_}
 use mathlib.Core.Option.{Option, none, some}
 use lib.Dec.{leb, ltb, eqb}
 use lib.ListN.{length, drop}
-use Rattle.macros.specs.Bounds.{mostLineBytes, mostBudget, mostTraceBytes, mostEntries, mostCounter, mostEntryBytes}
+use Rattle.macros.specs.Bounds.{mostLineBytes, mostBudget, mostTraceBytes, mostEntries, mostCounter}
 use Rattle.macros.specs.Refusals.{WorkRefusal}
 use Rattle.macros.specs.Refusals.Refusal.{ofHost, ofLine, ofWork}
 use Rattle.macros.specs.Refusals.HostRefusal.{budgetTooLarge}
 use Rattle.macros.specs.Refusals.LineRefusal.{lineTooLong, badByte}
 use Rattle.macros.specs.Refusals.WorkRefusal.{traceTooLong, budgetUsedUp, newLineTooLong, tagTooLong, pointerTooHigh, counterTooHigh}
-use Rattle.macros.specs.Macro.{PatternUnit, Piece, Mark, Sign, Move, Call, Action, Macro, Table, pick}
-use Rattle.macros.specs.Macro.PatternUnit.{literal, kind, class, callOf}
-use Rattle.macros.specs.Macro.Piece.{element, start, end, left, right}
+use Rattle.macros.specs.Macro.{Piece, Mark, Sign, Move, Call, Action, Macro, Table, pick}
 use Rattle.macros.specs.Macro.Mark.{stack, counter}
 use Rattle.macros.specs.Macro.Sign.{plus, minus}
 use Rattle.macros.specs.Macro.Move.{still, before, after}
 use Rattle.macros.specs.Macro.Call.{insert, storeTag, setTo, storeText, setIncrement, divide}
 use Rattle.macros.specs.Macro.Action.{text, tag, call}
-use Rattle.macros.specs.Read.{Read, readOnto}
+use Rattle.macros.specs.Read.{Read, readOntoBy}
 use Rattle.macros.specs.ReadFile.Read.{refusedAt, table}
-use Rattle.lines.specs.State.{State, stackOf, counterOf, currentEntry, contents}
-use Rattle.lines.specs.Matching.{Division, begins, fits, width, endOf, stops, tagText}
-use Rattle.lines.specs.Choosing.{then, repeated, isEnd, chosen}
+use Rattle.lines.specs.State.{State, stackOf, counterOf, contents}
+use Rattle.lines.specs.Matching.{Division, begins, endOf, stops, tagText}
 use Rattle.lines.specs.Dividing.{dividedText}
 use Rattle.lines.specs.Replacing.{Work, Done, bad, good, startIn, _>>=_, unless, puts, put, withStack, withCounter, withPointer, withValue, withIncrement, withEntry, fallen, moves, early, late, stores, callActs, acts, replaces, commandsAct, beforeActs, occur}
-use Rattle.lines.specs.Pass.{Occurrence, Walk, ended, occurs, counting, match, goOn, matched, atEnd, onward, atByte, walk, pass, occurred, outcome}
+use Rattle.lines.specs.Pass.{Occurrence, Walk, ended, occurs, match, goOn, matched, atEnd, onward, atByte, walk, pass, occurred, outcome}
 use Rattle.lines.specs.Line.{Sent, Numbered, Pass, Ending, Line, passed, refused, done, control, isIn, newestFirst, closedBy, prepares, passBehind, passOf, isControl, due, follow, afterPass, textOf, passes, lineOf, passesOf, hadOccurrence, ending}
 use Rattle.lines.specs.Line.{Line.ended as lineEnded}
 use Rattle.lines.specs.Trace.{historyOf, cutIf, isOn}
@@ -35,6 +32,7 @@ use Rattle.lines.specs.Feeding.{Order, wrong, orders, Kind, Answer, bytes, same
 use Rattle.lines.specs.Feeding.Kind.{refusedWith}
 use Rattle.lines.specs.Demand.{endOfLine}
 use Rattle.lines.proofs.LineLaws.{end-of-line}
+use Rattle.lines.proofs.ContentLaws.{contents-same, match-same}
 use Rattle.m_traces.specs.Traced.{Alike, FlagAlike}
 use Rattle.m_traces.proofs.CutLaws.{uncut}
 
@@ -42,7 +40,7 @@ module _ (n : ℕ) where
   -- WITH ANOTHER FLAG
 
   abbrev flagged : State → State
-  flagged st = record { stacks = st .stacks; counters = st .counters; trace = n; nflag = st .nflag }
+  flagged st = record { stacks = st .stacks; counters = st .counters; trace = n; nflag = st .nflag; entryBytes = st .entryBytes }
 
   abbrev workWith : Work → Work
   workWith w = record { out = w .out; size = w .size; state = flagged (w .state) }
@@ -69,44 +67,6 @@ module _ (n : ℕ) where
   abbrev lineWith : Line → Line
   lineWith (lineEnded e) = lineEnded (endingWith e)
   lineWith (passed x l) = passed (passWith x) (lineWith l)
-
-  -- MATCHING
-
-  contents-with : (st : State) (m : Mark) (i : ℕ) → contents (flagged st) m i ≡ contents st m i
-  unfolding contents currentEntry stackOf counterOf
-  contents-with st stack i = refl
-  contents-with st counter i = refl
-
-  fits-with : (st : State) (u : PatternUnit) (s : List ℕ) → fits (flagged st) u s ≡ fits st u s
-  unfolding fits
-  fits-with st (literal c) s = refl
-  fits-with st (kind k) s = refl
-  fits-with st (class neg ms) s = refl
-  fits-with st (callOf m i) s = ap (λ (x : List ℕ). begins x s) (contents-with st m i)
-
-  width-with : (st : State) (u : PatternUnit) → width (flagged st) u ≡ width st u
-  unfolding width
-  width-with st (literal c) = refl
-  width-with st (kind k) = refl
-  width-with st (class neg ms) = refl
-  width-with st (callOf m i) = ap length (contents-with st m i)
-
-  chosen-with : (st : State) (es : List Piece) → chosen (flagged st) es ≡ chosen st es
-  unfolding chosen
-  chosen-with st [] = refl
-  chosen-with st (element u c ∷ es) =
-      let f : fits (flagged st) u ≡ fits st u = λ i s. fits-with st u s i in
-      let w = width-with st u in
-      let ih = chosen-with st es in
-      λ i p s. repeated c (f i) (w i) (ih i) p s
-  chosen-with st (start ∷ es) = let ih = chosen-with st es in λ i p s. elim (eqb p 0) [ true ↦ then 1 p (ih i p s) | false ↦ none ]
-  chosen-with st (end ∷ es) = let ih = chosen-with st es in λ i p s. elim (isEnd s) [ true ↦ then 1 p (ih i p s) | false ↦ none ]
-  chosen-with st (left ∷ es) = let ih = chosen-with st es in λ i p s. then 1 p (ih i p s)
-  chosen-with st (right ∷ es) = let ih = chosen-with st es in λ i p s. then 1 p (ih i p s)
-
-  match-with : (st : State) (es : List Piece) (last : Option ℕ) (p : ℕ) (s : List ℕ) → match (flagged st) es last p s ≡ match st es last p s
-  unfolding match
-  match-with st es last p s = ap (λ (f : ℕ → List ℕ → Option Division). counting last p (f p s)) (chosen-with st es)
 
   -- REPLACING
 
@@ -144,7 +104,7 @@ module _ (n : ℕ) where
 
   stores-with : (i : ℕ) (t : List ℕ) (w : Work) → stores i t (workWith w) ≡ doneWith (stores i t w)
   unfolding stores withEntry withStack stackOf
-  stores-with i t w = unless-with (leb (length t) mostEntryBytes) tagTooLong w _
+  stores-with i t w = unless-with (leb (length t) (w .state .entryBytes)) tagTooLong w _
 
   bind-with : (a : Done) (k : Work → Done) → ((w : Work) → k (workWith w) ≡ doneWith (k w)) → (doneWith a >>= k) ≡ doneWith (a >>= k)
   bind-with (bad r w) k h = refl
@@ -159,7 +119,7 @@ module _ (n : ℕ) where
   call-with t es qs (insert m i v) w =
       then-with (early m v i w >>= (λ x. puts (contents (x .state) m i) x)) (early m v i (workWith w) >>= (λ x. puts (contents (x .state) m i) x)) (late m v i)
       (then-with (early m v i w) (early m v i (workWith w)) (λ x. puts (contents (x .state) m i) x) (early-with m v i w)
-      (λ x. ap (λ (s : List ℕ). puts s (workWith x)) (contents-with (x .state) m i) ∙ puts-with (contents (x .state) m i) x))
+      (λ x. ap (λ (s : List ℕ). puts s (workWith x)) (contents-same (flagged (x .state)) (x .state) refl refl m i) ∙ puts-with (contents (x .state) m i) x))
       (late-with m v i)
   call-with t es qs (storeTag k i v) w =
       then-with (early stack v i w >>= stores i (tagText t (k - 1) es qs)) (early stack v i (workWith w) >>= stores i (tagText t (k - 1) es qs)) (late stack v i)
@@ -230,10 +190,10 @@ module _ (n : ℕ) where
 
   walk-with : (m : Macro) (t s : List ℕ) (skip : ℕ) (last : Option ℕ) (p : ℕ) (w : Work) → walk m t skip last p (workWith w) s ≡ walkWith (walk m t skip last p w s)
   unfolding walk
-  walk-with m t [] skip last p w = ap (atEnd m t p (workWith w)) (match-with (w .state) (m .pattern) last p []) ∙ end-with m t p w (match (w .state) (m .pattern) last p [])
+  walk-with m t [] skip last p w = ap (atEnd m t p (workWith w)) (match-same (flagged (w .state)) (w .state) refl refl (m .pattern) last p []) ∙ end-with m t p w (match (w .state) (m .pattern) last p [])
   walk-with m t (b ∷ bs) (suc skip) last p w = walk-with m t bs skip last (suc p) w
   walk-with m t (b ∷ bs) zero last p w =
-      ap (atByte m t p b last (workWith w) (λ k l v. walk m t k l (suc p) v bs)) (match-with (w .state) (m .pattern) last p (b ∷ bs))
+      ap (atByte m t p b last (workWith w) (λ k l v. walk m t k l (suc p) v bs)) (match-same (flagged (w .state)) (w .state) refl refl (m .pattern) last p (b ∷ bs))
       ∙ byte-with m t p b last w _ (λ k l v. walk m t k l (suc p) v bs) (λ k l v. walk-with m t bs k l (suc p) v) (match (w .state) (m .pattern) last p (b ∷ bs))
 
   pass-with : (m : Macro) (t : List ℕ) (st : State) → pass m t (flagged st) ≡ walkWith (pass m t st)
@@ -359,9 +319,9 @@ module _ (ms : Table) (n k : ℕ) (st : State) where
   unfolding orderOf
   order-alike t = by (begins (bytes "$MACRO") t)
     where
-      by : (b : Bool) → AlikeOrders (elim b [ true ↦ macroOrder ms (flagged n st) (readOnto ms (drop 6 t)) | false ↦ flagOrder ms (flagged n st) t ])
-          (elim b [ true ↦ macroOrder ms (flagged k st) (readOnto ms (drop 6 t)) | false ↦ flagOrder ms (flagged k st) t ])
-      by true = macro-alike (readOnto ms (drop 6 t))
+      by : (b : Bool) → AlikeOrders (elim b [ true ↦ macroOrder ms (flagged n st) (readOntoBy (st .entryBytes) ms (drop 6 t)) | false ↦ flagOrder ms (flagged n st) t ])
+          (elim b [ true ↦ macroOrder ms (flagged k st) (readOntoBy (st .entryBytes) ms (drop 6 t)) | false ↦ flagOrder ms (flagged k st) t ])
+      by true = macro-alike (readOntoBy (st .entryBytes) ms (drop 6 t))
       by false = flag-alike t
 
 -- ANSWERS

@@ -16,7 +16,8 @@ use Rattle.macros.specs.Macro.Move.{after, before, still}
 use Rattle.macros.specs.Macro.Call.{divide, insert, setIncrement, setTo, storeTag, storeText}
 use Rattle.macros.specs.Macro.Action.{call, tag, text}
 use Rattle.macros.specs.Formed.{Commands, FormedAction, FormedCall, FormedCommands, FormedReplacement, Letter, numberFits}
-use Rattle.macros.specs.Read.{Front, Part, Phase, CallSite, andDigit, breaks, callByte, callsByte, callsFresh, commandsByte, commandsFresh, isSign, isStill, mayInsert, mayStoreTag, numberEnd, partByte, piecesOf, behindCall, replacementByte, replacementFresh, sign, signOf, siteOf, skips, tagByte, tagEnd, textByte, turned}
+use Rattle.macros.specs.Read.{Front, Part, Phase, CallSite, andDigit, breaks, callByte, callsByte, callsFresh, commandsByte, commandsFresh, isSign, isStill, mayInsert, mayStoreTag, numberEnd, partByte, piecesOf, behindCall, replacementByte, replacementFresh, sign, signOf, siteOf, skips, tagByte, tagEnd, textByteBy, turned}
+use Rattle.macros.specs.Read.{partByteBy}
 use Rattle.macros.specs.ReadSoFar.Phase.{begun, comma, divisor, equals, increment, named, signed, tagNamed, tagSigned, tagged, texted}
 use Rattle.macros.specs.ReadSoFar.CallSite.{callsSoFar, commandsSoFar, replacementSoFar}
 use Rattle.macros.specs.ReadSoFar.Part.{callText, callTextEscape, calling, calls, commands, replacement, tagNumber}
@@ -59,12 +60,12 @@ module _ (S : Option ℕ → Part) (skipping : (o : Option ℕ) → skips (S o) 
 -- CALLS
 
 call-into : (pl : CallSite) (ph ph′ : Phase) (b : ℕ) → eqb b 47 ≡ false → callByte (siteOf pl) ph b ≡ into ph′ → Reads (calling pl ph) (b ∷ []) (calling pl ph′)
-unfolding skips partByte turned
+unfolding skips partByteBy turned
 call-into pl ph ph′ b s e = move (calling pl ph) b (calling pl ph′) s (rw e) stay
 
 call-closed : (pl : CallSite) (ph : Phase) (c : Call) (b : ℕ) → eqb b 47 ≡ false → callByte (siteOf pl) ph b ≡ closed c → numberFits (tags (piecesOf pl)) c ≡ true
     → Reads (calling pl ph) (b ∷ []) (behindCall pl c)
-unfolding skips partByte turned pick
+unfolding skips partByteBy turned pick
 call-closed pl ph c b s e r = move (calling pl ph) b (behindCall pl c) s (rw (e, r)) stay
 
 -- a lower case letter is nothing else
@@ -129,7 +130,7 @@ module _ (pl : CallSite) (i : ℕ) (g : Letter i) where
       then (call-into pl (comma n) (tagNamed n i still) i (l .slash) (simp (l .sign, l .low))) (call-into pl (tagNamed n i still) (tagNamed n i (after minus)) 45 refl refl)
 
   set-to : (m : Mark) (n : ℕ) → numberFits (tags (piecesOf pl)) (setTo m i n) ≡ true → Reads (calling pl (begun m)) (i ∷ 61 ∷ (digits n ++ (41 ∷ []))) (behindCall pl (setTo m i n))
-  unfolding callByte pick isStill digit within numberEnd isSign signOf turned partByte skips
+  unfolding callByte pick isStill digit within numberEnd isSign signOf turned partByteBy skips
   set-to m n r =
       then (name-still m)
       (then (to-equals m)
@@ -142,7 +143,7 @@ module _ (pl : CallSite) (i : ℕ) (g : Letter i) where
 
   set-increment : (n : ℕ) → numberFits (tags (piecesOf pl)) (setIncrement i n) ≡ true
       → Reads (calling pl (begun counter)) (i ∷ 44 ∷ (digits n ++ (41 ∷ []))) (behindCall pl (setIncrement i n))
-  unfolding callByte pick isStill digit within numberEnd isSign signOf turned partByte skips
+  unfolding callByte pick isStill digit within numberEnd isSign signOf turned partByteBy skips
   set-increment n r =
       then (name-still counter)
       (then (call-into pl (named counter i still) (increment i none) 44 refl refl)
@@ -151,7 +152,7 @@ module _ (pl : CallSite) (i : ℕ) (g : Letter i) where
 
   divide-by : mayInsert (siteOf pl) ≡ true → (n : ℕ) → numberFits (tags (piecesOf pl)) (divide i n) ≡ true
       → Reads (calling pl (begun counter)) (i ∷ 58 ∷ (digits n ++ (41 ∷ []))) (behindCall pl (divide i n))
-  unfolding callByte pick isStill digit within numberEnd isSign signOf turned partByte skips
+  unfolding callByte pick isStill digit within numberEnd isSign signOf turned partByteBy skips
   divide-by c n r =
       then (name-still counter)
       (then (call-into pl (named counter i still) (divisor i none) 58 refl (rw c))
@@ -164,7 +165,7 @@ tagPart pl none = calling pl (begun stack)
 tagPart pl (some n) = calling pl (tagged n)
 
 tag-digits : (pl : CallSite) (n : ℕ) → mayStoreTag (siteOf pl) ≡ true → Reads (calling pl (begun stack)) (digits n) (calling pl (tagged n))
-unfolding tagPart callByte turned partByte skips pick andDigit
+unfolding tagPart callByte turned partByteBy skips pick andDigit
 tag-digits pl n t = read-digits (tagPart pl) skipping takes n
   where
     skipping : (o : Option ℕ) → skips (tagPart pl o) ≡ true
@@ -190,16 +191,16 @@ may-store (commandsSoFar f ps cs) n e = refl
 module _ (y : Style) (fair : Fair y) (pl : CallSite) where
   read-call-text-byte : (i : ℕ) (h : Move) (acc : List ℕ) (b : ℕ) (p q : Bool) → length acc < mostEntryBytes → y .textToo b ≡ p → among callTextSigns b ≡ q
       → Reads (callText pl i h acc) (byte (p || q) b) (callText pl i h (b ∷ acc))
-  unfolding byte skips partByte textByte breaks among pick
+  unfolding byte skips partByteBy textByteBy breaks among pick
   read-call-text-byte i h acc b false false l e n =
       move (callText pl i h acc) b (callText pl i h (b ∷ acc)) (absent callTextSigns b 47 n refl)
-      (simp (absent callTextSigns b 58 n refl, no-break callTextSigns b n refl refl refl, lt-ltb (length acc) 50 l, absent callTextSigns b 92 n refl)) stay
+      (simp (absent callTextSigns b 58 n refl, no-break callTextSigns b n refl refl refl, lt-ltb (length acc) mostEntryBytes l, absent callTextSigns b 92 n refl)) stay
   read-call-text-byte i h acc b true q l e n =
-      move (callText pl i h acc) 92 (callTextEscape pl i h acc) refl (rw (lt-ltb (length acc) 50 l))
+      move (callText pl i h acc) 92 (callTextEscape pl i h acc) refl (rw (lt-ltb (length acc) mostEntryBytes l))
       (next refl (ap (λ (c : ℕ). on (callText pl i h (c ∷ acc)))
       (escaped-escape b (spares (λ c. y .textToo c) b 110 (fair .text-n) e) (spares (λ c. y .textToo c) b 116 (fair .text-t) e))) stay)
   read-call-text-byte i h acc b false true l e n =
-      move (callText pl i h acc) 92 (callTextEscape pl i h acc) refl (rw (lt-ltb (length acc) 50 l))
+      move (callText pl i h acc) 92 (callTextEscape pl i h acc) refl (rw (lt-ltb (length acc) mostEntryBytes l))
       (next refl (ap (λ (c : ℕ). on (callText pl i h (c ∷ acc)))
       (escaped-escape b (spares (among callTextSigns) b 110 refl n) (spares (among callTextSigns) b 116 refl n))) stay)
 
@@ -211,7 +212,7 @@ module _ (y : Style) (fair : Fair y) (pl : CallSite) where
       then (read-call-text-byte i h acc b (y .textToo b) (among callTextSigns b) (omega arith) refl refl) (read-call-text t i h (b ∷ acc) (omega arith))
 
   read-inner : (c : Call) → FormedCall (tags (piecesOf pl)) c → (mayInsert (siteOf pl) ≡ false → Commands c) → Reads (calling pl (begun (markOf c))) (innerBytes (textBytes y) c) (behindCall pl c)
-  unfolding innerBytes markOf callByte pick turned partByte skips textByte isSign signOf
+  unfolding innerBytes markOf callByte pick turned partByteBy skips textByteBy isSign signOf
   read-inner (insert stack i h) g k =
       let c : mayInsert (siteOf pl) ≡ true = may-insert (mayInsert (siteOf pl)) k in
       then (name-stack pl i (g .names) h) (call-closed pl (named stack i h) (insert stack i h) 41 refl (rw c) (g .numbers))
@@ -292,7 +293,7 @@ module _ (y : Style) (fair : Fair y) where
 
   read-text-by : (a : Option Mark) (f : Front) (ps : List Action) (b : ℕ) (p q : Bool) → y .textToo b ≡ p → needsText a b ≡ q
       → Reads (replacement a f ps) (byte (p || q) b) (replacement (pick p none (markIn b)) f (beforeAction (pick p none (markIn b)) (text b) (withMark a ps)))
-  unfolding byte skips partByte replacementFresh breaks among pick needsText beforeAction
+  unfolding byte skips partByteBy replacementFresh breaks among pick needsText beforeAction
   read-text-by a f ps b false false e n =
       let m = or-left (among textSigns b) (eqb b 40 && isMark a) n in
       move (replacement a f ps) b (replacement (markIn b) f (beforeAction (markIn b) (text b) (withMark a ps))) (absent textSigns b 47 m refl)
@@ -309,18 +310,18 @@ module _ (y : Style) (fair : Fair y) where
 
   -- `&(` or `#(` in a replacement, and behind one
   read-open : (m : Mark) (a : Option Mark) (f : Front) (ps : List Action) → Reads (replacement a f ps) (markByte m ∷ 40 ∷ []) (calling (replacementSoFar f (withMark a ps)) (begun m))
-  unfolding markByte skips partByte replacementFresh replacementByte breaks among pick
+  unfolding markByte skips partByteBy replacementFresh replacementByte breaks among pick
   read-open stack a f ps = next refl (settles-text a f ps 38 refl) (next refl refl stay)
   read-open counter a f ps = next refl (settles-text a f ps 35 refl) (next refl refl stay)
 
   command-open : (m : Mark) (a : Option Mark) (f : Front) (ps : List Action) (cs : List Call) → Reads (commands a f ps cs) (markByte m ∷ 40 ∷ []) (calling (commandsSoFar f ps cs) (begun m))
-  unfolding markByte skips partByte commandsFresh commandsByte pick
+  unfolding markByte skips partByteBy commandsFresh commandsByte pick
   command-open stack a f ps cs = next refl (settles-commands a f ps cs 38 refl) (next refl refl stay)
   command-open counter a f ps cs = next refl (settles-commands a f ps cs 35 refl) (next refl refl stay)
 
   read-action : (a : Option Mark) (f : Front) (ps : List Action) (p : Action) → FormedAction (tags (f .pieces)) p
       → Reads (replacement a f ps) (actionBytes y a p) (replacement (actionLeaves y p) f (beforeAction (actionLeaves y p) p (withMark a ps)))
-  unfolding actionBytes callBytes actionLeaves beforeAction skips partByte replacementFresh tagByte breaks among pick digit within tagEnd siteOf mayInsert piecesOf behindCall
+  unfolding actionBytes callBytes actionLeaves beforeAction skips partByteBy replacementFresh tagByte breaks among pick digit within tagEnd siteOf mayInsert piecesOf behindCall
   read-action a f ps (text b) g = read-text-by a f ps b (y .textToo b) (needsText a b) refl refl
   read-action a f ps (tag n) g =
       next refl (settles-text a f ps 123 refl)
@@ -331,7 +332,7 @@ module _ (y : Style) (fair : Fair y) where
 
   pub read-replacement : (l : List Action) (a : Option Mark) (f : Front) (ps : List Action) → FormedReplacement (tags (f .pieces)) l
       → Reads (replacement a f ps) (replacementBytes y a l ++ (39 ∷ [])) (commands none f (reverseAux l (withMark a ps)) [])
-  unfolding replacementBytes skips partByte replacementFresh breaks among pick
+  unfolding replacementBytes skips partByteBy replacementFresh breaks among pick
   read-replacement [] a f ps g = next refl (settles-text a f ps 39 refl) stay
   read-replacement (p ∷ l) a f ps g =
       let e = settled-action y p (withMark a ps) in
@@ -350,7 +351,7 @@ module _ (y : Style) (fair : Fair y) where
   -- CALLS BEFORE A PATTERN
 
   calls-open : (m : Mark) (cs : List Call) → Reads (calls none cs) (markByte m ∷ 40 ∷ []) (calling (callsSoFar cs) (begun m))
-  unfolding markByte skips partByte callsFresh callsByte pick
+  unfolding markByte skips partByteBy callsFresh callsByte pick
   calls-open stack cs = next refl refl (next refl refl stay)
   calls-open counter cs = next refl refl (next refl refl stay)
 

@@ -14,7 +14,7 @@ use Rattle.macros.specs.Macro.Mark.{counter, stack}
 use Rattle.macros.specs.Macro.PatternUnit.{callOf, class, kind, literal}
 use Rattle.macros.specs.Macro.Piece.{element, end, left, right, start}
 use Rattle.macros.specs.Formed.{Between, FormedMember, FormedMembers, FormedPattern, FormedPieces, FormedUnit, Letter}
-use Rattle.macros.specs.Read.{Joinable, Last, Part, breaks, classEnd, closes, dashed, dashes, fresh, hold, membersAtEnd, kindDigit, membersByte, newMember, openedByte, partByte, patternByte, patternEnd, sign, signs, skips}
+use Rattle.macros.specs.Read.{Joinable, Last, Part, breaks, classEnd, closes, dashed, dashes, fresh, hold, membersAtEnd, kindDigit, membersByte, newMember, openedByte, partByteBy, patternByte, patternEnd, sign, signs, skips}
 use Rattle.macros.specs.ReadSoFar.Joinable.{marked, nothing, query, starred, unit}
 use Rattle.macros.specs.ReadSoFar.Last.{dash, free, member}
 use Rattle.macros.specs.ReadSoFar.Part.{awaitSymbol, members, opened, pattern, patternCall, patternCalled}
@@ -70,13 +70,13 @@ plain h b e =
 
 read-escape : (h : Joinable) (ps : List Piece) (b : ℕ) → eqb b 110 ≡ false → eqb b 116 ≡ false
     → Reads (pattern h ps) (92 ∷ escapeByte b ∷ []) (pattern (unit (literal b)) (settled h ps))
-unfolding skips partByte fresh signs sign among breaks pick kindDigit within
+unfolding skips partByteBy fresh signs sign among breaks pick kindDigit within
 read-escape h ps b f g =
     next refl (settles h ps 92 (loose h 92 refl refl refl) refl)
     (next refl (ap (λ (c : ℕ). on (pattern (unit (literal c)) (settled h ps))) (escaped-escape b f g)) stay)
 
 read-raw : (h : Joinable) (ps : List Piece) (b : ℕ) → needs h b ≡ false → Reads (pattern h ps) (b ∷ []) (pattern (hold b) (settled h ps))
-unfolding skips partByte
+unfolding skips partByteBy
 read-raw h ps b e =
     let p = plain h b e in
     next (p .slash) (settles h ps b (p .joint) (p .star) ∙ fresh-raw (settled h ps) b (p .sign)) stay
@@ -165,7 +165,7 @@ no-dash aRange (dash a) b f j = absurd f
 
 class-end : (ps : List Piece) (neg : Bool) (l : Last) (ms : List Member) → 0 < length (membersAtEnd l ms)
     → Reads (members ps neg l ms) (93 ∷ []) (pattern (unit (class neg (reverse (membersAtEnd l ms)))) ps)
-unfolding skips partByte membersByte classEnd pick
+unfolding skips partByteBy membersByte classEnd pick
 class-end ps neg l ms h = next refl (by (membersAtEnd l ms) h) stay
   where
     by : (k : List Member) → 0 < length k → classEnd ps neg k ≡ on (pattern (unit (class neg (reverse k))) ps)
@@ -194,18 +194,18 @@ module _ (y : Style) (fair : Fair y) (ps : List Piece) (neg : Bool) where
 
   escaped-member : (c : Before) (l : Last) (acc : List Member) (a : ℕ) → Fits c l → eqb a 110 ≡ false → eqb a 116 ≡ false
       → Reads (members ps neg l acc) (92 ∷ escapeByte a ∷ []) (members ps neg (member a) (membersAtEnd l acc))
-  unfolding skips partByte membersByte breaks among pick
+  unfolding skips partByteBy membersByte breaks among pick
   escaped-member c l acc a f g h =
       next refl refl (next refl (ap (newMember ps neg l acc) (escaped-escape a g h) ∙ new-single ps neg c l acc a f) stay)
 
   raw-member : (c : Before) (l : Last) (acc : List Member) (a : ℕ) → Fits c l → among classSigns a ≡ false → (eqb a 45 && dashes l) ≡ false
       → Reads (members ps neg l acc) (a ∷ []) (members ps neg (member a) (membersAtEnd l acc))
-  unfolding skips partByte
+  unfolding skips partByteBy
   raw-member c l acc a f m d = next refl (members-raw ps neg l acc a m d ∙ new-single ps neg c l acc a f) stay
 
   -- a dash at the end
   last-dash : (l : Last) (acc : List Member) (a : ℕ) → (eqb a 45 && dashes l) ≡ true → Reads (members ps neg l acc) (a ∷ 93 ∷ []) (Classed [] (single a ∷ membersAtEnd l acc))
-  unfolding dashes membersAtEnd skips partByte membersByte breaks among pick dashed classEnd
+  unfolding dashes membersAtEnd skips partByteBy membersByte breaks among pick dashed classEnd
   last-dash free acc a e = clash e (simp and-false)
   last-dash (dash x) acc a e = clash e (simp and-false)
   last-dash (member x) acc a e =
@@ -243,7 +243,7 @@ module _ (y : Style) (fair : Fair y) (ps : List Piece) (neg : Bool) where
 
   read-range : (c : Before) (l : Last) (acc : List Member) (a z : ℕ) → Fits c l → isRange a z ≡ true
       → Reads (members ps neg l acc) (a ∷ 45 ∷ z ∷ []) (members ps neg free (range a z ∷ membersAtEnd l acc))
-  unfolding skips partByte membersByte breaks among pick dashes dashed newMember membersAtEnd alnum digit asciiUpper asciiLower within spared
+  unfolding skips partByteBy membersByte breaks among pick dashes dashed newMember membersAtEnd alnum digit asciiUpper asciiLower within spared
   read-range c l acc a z f e =
       let p = first-alnum a z e in
       let q = second-alnum a z e in
@@ -271,7 +271,7 @@ tilde-more [] w h = absurd h
 tilde-more (b ∷ v) w h = h
 
 open-class : (ps : List Piece) (w : List ℕ) (t : Part) → Tilde-less w → Reads (members ps false free []) w t → Reads (opened ps) w t
-unfolding Tilde-less skips partByte openedByte pick
+unfolding Tilde-less skips partByteBy openedByte pick
 open-class ps [] t h r = absurd h
 open-class ps (b ∷ w) t h (next {st′ = u} f e r) = move (opened ps) b u refl (rw h e) r
 
@@ -288,7 +288,7 @@ first-byte y isLast (single a) g = by (y .classToo a) (needsClass bracket isLast
 module _ (y : Style) (fair : Fair y) (h : Joinable) (ps : List Piece) where
   read-class : (neg : Bool) (ms : List Member) → 0 < length ms → FormedMembers ms
       → Reads (pattern h ps) (classBytes y neg ms) (pattern (unit (class neg (reverse (reverseAux ms [])))) (settled h ps))
-  unfolding classBytes skips partByte fresh signs sign among breaks pick kindDigit within openedByte membersAtEnd Fits membersBytes
+  unfolding classBytes skips partByteBy fresh signs sign among breaks pick kindDigit within openedByte membersAtEnd Fits membersBytes
   read-class true ms l g =
       next refl (settles h ps 91 (loose h 91 refl refl refl) refl)
       (next refl refl (read-members y fair (settled h ps) true ms tilde free [] tt g (rw (length-reverse ms) l)))
@@ -299,19 +299,19 @@ module _ (y : Style) (fair : Fair y) (h : Joinable) (ps : List Piece) where
       (read-members y fair (settled h ps) false (m ∷ ms) bracket free [] tt g (rw (length-reverse (m ∷ ms)) l)))
 
   read-kind : (k : ℕ) → Between 1 6 k → Reads (pattern h ps) (63 ∷ (48 + k) ∷ []) (pattern (unit (kind k)) (settled h ps))
-  unfolding skips partByte fresh signs sign among breaks pick kindDigit within hold patternByte
+  unfolding skips partByteBy fresh signs sign among breaks pick kindDigit within hold patternByte
   read-kind k g =
       let e : 48 + k - 48 ≡ k = omega arith in
       next refl (settles h ps 63 (loose h 63 refl refl refl) refl)
       (move (pattern query (settled h ps)) (48 + k) (pattern (unit (kind k)) (settled h ps)) (ne-eqb (48 + k) 47 (omega arith)) (rw (le-leb 49 (48 + k) (omega arith), le-leb (48 + k) 54 (omega arith), e)) stay)
 
   read-mark : (m : Mark) → Reads (pattern h ps) (markByte m ∷ 40 ∷ []) (patternCall m (settled h ps))
-  unfolding markByte skips partByte fresh signs sign among breaks pick kindDigit within hold patternByte
+  unfolding markByte skips partByteBy fresh signs sign among breaks pick kindDigit within hold patternByte
   read-mark stack = next refl (settles h ps 38 (loose h 38 refl refl refl) refl) (next refl refl stay)
   read-mark counter = next refl (settles h ps 35 (loose h 35 refl refl refl) refl) (next refl refl stay)
 
   read-call-of : (m : Mark) (i : ℕ) → Letter i → Reads (pattern h ps) (markByte m ∷ 40 ∷ i ∷ 41 ∷ []) (pattern (unit (callOf m i)) (settled h ps))
-  unfolding skips partByte pick within asciiLower
+  unfolding skips partByteBy pick within asciiLower
   read-call-of m i g =
       then (read-mark m)
       (move (patternCall m (settled h ps)) i (patternCalled m (settled h ps) i) (ne-eqb i 47 (omega arith)) (rw (le-leb 97 i (g .0), le-leb i 122 (g .1))) (next refl refl stay))
@@ -391,7 +391,7 @@ formed-tail (right ∷ l) ps g = formed-tail l (right ∷ ps) g .1
 module _ (y : Style) (fair : Fair y) where
   read-piece : (h : Joinable) (ps : List Piece) (p : Piece) → FormedPieces (p ∷ settled h ps)
       → Reads (pattern h ps) (pieceBytes y h p) (pattern (pieceLeaves y p) (beforePiece p (settled h ps)))
-  unfolding pieceBytes closureBytes pieceLeaves beforePiece skips partByte fresh signs sign among breaks pick kindDigit within patternByte
+  unfolding pieceBytes closureBytes pieceLeaves beforePiece skips partByteBy fresh signs sign among breaks pick kindDigit within patternByte
   read-piece h ps (element u once) g = then (read-unit y fair h ps u (g .0)) stay
   read-piece h ps (element u oneOrMore) g = then (read-unit y fair h ps u (g .0)) (next refl (star-unit y u (settled h ps)) stay)
   read-piece h ps (element u zeroOrMore) g = then (read-unit y fair h ps u (g .0)) (next refl (star-unit y u (settled h ps)) (next refl refl stay))
@@ -406,7 +406,7 @@ module _ (y : Style) (fair : Fair y) where
 
   pub read-pattern : (l : List Piece) (h : Joinable) (ps : List Piece) → FormedPattern (reverseAux l (settled h ps))
       → Reads (pattern h ps) (patternBytes y h l ++ (39 ∷ [])) (awaitSymbol (reverseAux l (settled h ps)))
-  unfolding patternBytes skips partByte fresh signs sign among breaks pick kindDigit within patternEnd
+  unfolding patternBytes skips partByteBy fresh signs sign among breaks pick kindDigit within patternEnd
   read-pattern [] h ps g =
       move (pattern h ps) 39 (awaitSymbol (settled h ps)) refl
       (settles h ps 39 (loose h 39 refl refl refl) refl ∙ rw (g .shut, lt-ltb 0 (elements (settled h ps)) (g .someElement))) stay

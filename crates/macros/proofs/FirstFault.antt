@@ -15,7 +15,7 @@ use Rattle.macros.specs.Refusals.{FileRefusal, fileNumber}
 use Rattle.macros.specs.Refusals.FileRefusal.{fileTooLong, macroTooLong, tooManyMacros, zeroByte}
 use Rattle.macros.specs.Macro.{Table, pick}
 use Rattle.macros.specs.Begins.{callSign}
-use Rattle.macros.specs.Read.{Next, Read, Reader, atEnd, firstZero, readFrom, readOnto, step}
+use Rattle.macros.specs.Read.{Next, Read, Reader, atEnd, firstZero, readFrom, readOnto, step, readFromBy, readOntoBy}
 use Rattle.macros.specs.ReadFile.Pending.{clear}
 use Rattle.macros.specs.ReadFile.Reader.{between, inside}
 use Rattle.macros.specs.ReadFile.Next.{go, refuse, refuseBefore}
@@ -86,7 +86,7 @@ module _ (start : Reader) where
 
   shows : (s u : List ℕ) (q : ℕ) (r : Reader) (k : FileRefusal) (p : ℕ) → length u ≡ q → after start u ≡ go r → Pends start u r
       → readFrom q r s ≡ refusedAt k p → Shows u s q r k p
-  unfolding readFrom
+  unfolding readFromBy
   shows [] u q r k p h e g f = record {
     j = 0;
     rests = here (u ++ []) k p q (end-place q r k p f);
@@ -141,7 +141,7 @@ no-zero p (b ∷ s) w = rw (ne-eqb b 0 (omega (arith, w .0))) (no-zero (suc p) s
 -- a refusal 12 to 19 shows in the reading byte by byte
 pub in-reading : (older : Table) (s : List ℕ) (k : FileRefusal) (p : ℕ) → 12 ≤ fileNumber k → readOnto older s ≡ refusedAt k p
     → readFrom 0 (between false clear (reverse older)) s ≡ refusedAt k p
-unfolding readOnto fileNumber
+unfolding readOntoBy fileNumber
 in-reading older s k p h e = by (ltb mostFileBytes (length s)) (firstZero 0 s) e
   where
     by : (x : Bool) (o : Option ℕ)
@@ -152,7 +152,7 @@ in-reading older s k p h e = by (ltb mostFileBytes (length s)) (firstZero 0 s) e
     by false none f = unfold pick in f
 
 pub fault-by-its-bytes : FaultByItsBytes
-unfolding readOnto pick after
+unfolding readOntoBy pick after
 fault-by-its-bytes older s k p n e = (0 + suc (w .j), w .rests, back)
   where
     start : Reader
@@ -162,4 +162,4 @@ fault-by-its-bytes older s k p n e = (0 + suc (w .j), w .rests, back)
     w = shows start s [] 0 start k p refl refl tt (in-reading older s k p n e)
 
     back : (t : List ℕ) → Plain t → take (0 + suc (w .j)) s ≡ take (0 + suc (w .j)) t → readOnto older t ≡ refusedAt k p
-    back t g h = unfold readOnto pick in simp (le-ltb 32768 (length t) (g .0), no-zero 0 t (g .1)) (w .same t (rw (zero-add (suc (w .j))) at h))
+    back t g h = unfold readOntoBy pick in simp (le-ltb 32768 (length t) (g .0), no-zero 0 t (g .1)) (w .same t (rw (zero-add (suc (w .j))) at h))

@@ -7,7 +7,7 @@ use native.Mathlib.Omega.{arith}
 use lib.ListN.{length}
 use Rattle.macros.specs.Macro.{Macro, Table, pick}
 use Rattle.macros.specs.Formed.{Bytes, Octets}
-use Rattle.macros.specs.Read.{atEnd, readFile, readFrom, readOnto}
+use Rattle.macros.specs.Read.{atEnd, readFileBy, readFrom, readOnto, readFromBy}
 use Rattle.macros.specs.ReadFile.Read.{table}
 use Rattle.macros.specs.ReadFile.Pending.{clear}
 use Rattle.macros.specs.ReadFile.Reader.{between}
@@ -26,7 +26,7 @@ use Rattle.macros.proofs.Paid.{SpelledIn, produced}
 -- THE SHORTEST SPELLING
 
 pub shortest-reads : ShortestReads
-unfolding readFrom atEnd pick
+unfolding readFromBy atEnd pick
 shortest-reads m g h =
     let e = shortest-bare m in
     read-whole (shortest m) (rw e (whole-spelled bare m g)) (omega arith)
@@ -49,7 +49,7 @@ octets [] g = tt
 octets (b ∷ s) g = (g .0 .1, octets s (g .1))
 
 pub some-file-spells : SomeFileSpells
-unfolding readFile
+unfolding readFileBy
 some-file-spells m = (
   λ h. (shortest m, octets (shortest m) (rw (shortest-bare m) (whole-spelled bare m (h .0))), shortest-reads m (h .0) (h .1)),
   λ f. let r = spelled-in [] m (f .0) (f .1) (f .2) in (r .formed, r .short),

@@ -15,4 +15,5 @@ pub mod FirstFault
 pub mod ReadOnto
 pub mod Skips
 pub mod WriteRefusals
+pub mod ReadBounds
 pub mod Laws

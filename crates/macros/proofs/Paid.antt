@@ -17,6 +17,7 @@ use Rattle.macros.specs.Macro.PatternUnit.{callOf, literal}
 use Rattle.macros.specs.Macro.Action.{text}
 use Rattle.macros.specs.Formed.{Byte, Bytes, Formed, FormedCommands, Octets}
 use Rattle.macros.specs.Read.{Joinable, Next, Part, Pending, Prior, Read, Reader, Step, atEnd, callByte, count, escaped, firstCall, firstZero, further, macroOf, outside, outsideFresh, partByte, quoteByte, readFrom, readOnto, siteOf, skips, step, symbolByte, tagByte, taken}
+use Rattle.macros.specs.Read.{partByteBy, readFromBy, readOntoBy, stepBy}
 use Rattle.macros.specs.ReadSoFar.Joinable.{nothing, unit}
 use Rattle.macros.specs.ReadSoFar.Part.{awaitQuote, awaitSymbol, callText, callTextEscape, calling, calls, commands, members, membersEscape, opened, pattern, patternCall, patternCalled, patternEscape, replacement, replacementEscape, tagNumber}
 use Rattle.macros.specs.ReadSoFar.Step.{done, on, opens, stop}
@@ -45,7 +46,7 @@ gap-none = refl
 
 -- every byte
 keeps : (st : Part) (n b : ℕ) → Byte b → (skips st && eqb b 47) ≡ false → load st ≤ n → Fit st → Good n (partByte st b)
-unfolding partByte skips symbolByte quoteByte tagByte load Fit asciiLower slack settled leavesUnit gap withMark slackMark Done costActions costText figures
+unfolding partByteBy skips symbolByte quoteByte tagByte load Fit asciiLower slack settled leavesUnit gap withMark slackMark Done costActions costText figures
 keeps (calls a cs) n b g s l f = calls-good n b a cs l f
 keeps (pattern h ps) n b g s l f = pattern-good n b g h ps s l f
 keeps (patternEscape ps) n b g s l f =
@@ -219,7 +220,7 @@ further-stood p clear s = tt
 further-stood p (atMark m n) s = (omega arith, omega (arith, s .1))
 
 step-sure : (old : List Macro) (r : Reader) (p b : ℕ) → Byte b → Sound old p r → Sure old (suc p) (step r b)
-unfolding step Sound
+unfolding stepBy Sound
 step-sure old (between skip a ms) p b g s =
     let stays : Onto old (suc p) ms × Few old ms × Stood (suc p) (further a) = (later old p ms (s .0), s .1, further-stood p a (s .2)) in
     which (λ e. ahead stays) (λ e. which (λ k. ahead stays) (λ k. outside-sure old p ms (s .0) (s .1) a b (s .2)))
@@ -251,7 +252,7 @@ finished old q ms o h =
     }
 
 read-right : (old : List Macro) (s : List ℕ) (p q : ℕ) (r : Reader) → Bytes s → Sound old q r → Right (reverse old) (q + length s) (readFrom p r s)
-unfolding readFrom Sound atEnd
+unfolding readFromBy Sound atEnd
 read-right old [] p q (between true a ms) g h = unfold pick in refusal tt
 read-right old [] p q (between false a ms) g h = unfold pick in macros {ms = reverse ms} (rw add-zero (finished old q ms (h .0) (h .1)))
 read-right old [] p q (inside skip n st pr) g h = refusal tt
@@ -286,7 +287,7 @@ right-table older q (table l) ms (macros e) t = let z : l ≡ ms = cc in rw (←
 right-table older q (refusedAt n p) ms (refusal w) t = let z : _≡_ {A = ℕ} 0 1 = cc in absurd (omega arith)
 
 pub produced : (older : Table) (s : List ℕ) (ms : Table) → Octets s → readOnto older s ≡ table ms → Produced older (length s) ms
-unfolding readOnto
+unfolding readOntoBy
 produced older s ms g e = by (ltb mostFileBytes (length s)) (firstZero 0 s) refl e
   where
     by : (x : Bool) (o : Option ℕ) → firstZero 0 s ≡ o
@@ -302,5 +303,5 @@ right-refusal older q (refusedAt n j) k p (refusal w) t = let z : n ≡ k = cc i
 
 -- bytes that are no more than a file may have, none of them 0, are not refused by 10 or 11
 pub refusal-shows : (older : Table) (s : List ℕ) (k : FileRefusal) (p : ℕ) → Bytes s → length s ≤ mostFileBytes → readOnto older s ≡ refusedAt k p → Shows k
-unfolding readOnto pick
+unfolding readOntoBy pick
 refusal-shows older s k p g h e = right-refusal older (length s) _ k p (read-onto older s g) (simp (le-ltb 32768 (length s) h, no-zero 0 s g) at e)

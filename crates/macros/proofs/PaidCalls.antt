@@ -8,6 +8,7 @@ use native.Mathlib.Omega.{arith}
 use lib.ListN.{length, length-append, length-reverse}
 use lib.Dec.{eqb, ltb}
 use borrow.Author.Tests.{eqb-true, lt-ltb, ltb-false, ltb-true}
+use Rattle.macros.specs.Bounds.{mostEntryBytes}
 use Rattle.macros.specs.Macro.{Action, Call, Mark, Move, among, digit, asciiLower, markByte, pick, tags}
 use Rattle.macros.specs.Macro.Mark.{counter, stack}
 use Rattle.macros.specs.Macro.Move.{after, before, still}
@@ -15,6 +16,7 @@ use Rattle.macros.specs.Macro.Call.{divide, insert, setIncrement, setTo,
 use Rattle.macros.specs.Macro.Action.{call, tag, text}
 use Rattle.macros.specs.Formed.{Byte, Bytes, Commands, Formed, FormedCall, FormedCommands, FormedReplacement, Letter, Named}
 use Rattle.macros.specs.Read.{Front, Part, Phase, Site, CallSite, Turn, andDigit, behindCall, breaks, callByte, callsByte, callsFresh, commandsByte, commandsFresh, isStill, macroOf, mayInsert, mayStoreTag, numberEnd, otherwise, piecesOf, replacementByte, replacementFresh, siteOf, tagEnd, textByte, turned}
+use Rattle.macros.specs.Read.{textByteBy}
 use Rattle.macros.specs.ReadSoFar.Phase.{begun, comma, divisor, equals, increment, named, signed, tagNamed, tagSigned, tagged, texted}
 use Rattle.macros.specs.ReadSoFar.CallSite.{callsSoFar, commandsSoFar, replacementSoFar}
 use Rattle.macros.specs.ReadSoFar.Part.{callText, calling, calls, commands, replacement, tagNumber}
@@ -211,13 +213,13 @@ no-call-text-sign b s c f h =
 
 pub call-text-good : (n b : ℕ) → Byte b → (pl : CallSite) (i : ℕ) (j : Move) (t : List ℕ) → eqb b 47 ≡ false → load (callText pl i j t) ≤ n → Fit (callText pl i j t)
     → Good n (textByte pl i j t b)
-unfolding textByte load Fit FitPhase loadCall costText
+unfolding textByteBy load Fit FitPhase loadCall costText
 call-text-good n b g pl i j t s l h =
     either (λ e. fine (omega arith) (h .0, (h .1, h .2, h .3)))
     (λ c. either (λ e. fault tt)
     (λ k. either
-    (λ r. either (λ e. fine (omega arith) (h .0, h .1, h .2, ltb-true (length t) 50 r))
-    (λ e. fine (omega (arith, one-byte (no-call-text-sign b s c k e))) (h .0, h .1, (g, h .2), ltb-true (length t) 50 r)))
+    (λ r. either (λ e. fine (omega arith) (h .0, h .1, h .2, ltb-true (length t) mostEntryBytes r))
+    (λ e. fine (omega (arith, one-byte (no-call-text-sign b s c k e))) (h .0, h .1, (g, h .2), ltb-true (length t) mostEntryBytes r)))
     (λ r. fault tt)))
   where
     one-byte : among callTextSigns b ≡ false → length (byte (among callTextSigns b) b) ≡ 1

@@ -14,7 +14,7 @@ use Rattle.macros.specs.Refusals.FileRefusal.{macroTooLong, tooManyMacro
 use Rattle.macros.specs.Macro.{Macro, Mark, markByte, pick}
 use Rattle.macros.specs.Macro.Mark.{counter, stack}
 use Rattle.macros.specs.Read.{Next, Pending, Prior, Reader, Step, count, firstCall, further, noCalls, outside, outsideFresh}
-use Rattle.macros.specs.Read.{partByte, readFrom, skips, step, taken}
+use Rattle.macros.specs.Read.{partByte, readFrom, skips, step, taken, stepBy}
 use Rattle.macros.specs.ReadSoFar.Joinable.{nothing}
 use Rattle.macros.specs.ReadSoFar.CallSite.{callsSoFar}
 use Rattle.macros.specs.ReadSoFar.Phase.{begun}
@@ -163,16 +163,16 @@ pub skip-on : (t : List ℕ) (a : Pending) (ms : List Macro) → NoSlash t → a
 unfolding after
 skip-on [] a ms g = rw (more-none a)
 skip-on (b ∷ t) a ms g =
-    after-go (between true a ms) (between true (further a) ms) b t (unfold step pick in rw (ne-eqb b 47 (g .0)))
+    after-go (between true a ms) (between true (further a) ms) b t (unfold stepBy pick in rw (ne-eqb b 47 (g .0)))
     ∙ (skip-on t (further a) ms (g .1) ∙ ap (λ x. go (between true x ms)) (more-one (length t) a))
 
 -- a skip
 pub skip-over : (t : List ℕ) (a : Pending) (ms : List Macro) → NoSlash t
     → after (between false a ms) (skipOver t) ≡ go (between false (more (length (skipOver t)) a) ms)
 skip-over t a ms g =
-    after-go (between false a ms) (between true (further a) ms) 47 (t ++ (47 ∷ [])) (unfold step pick in refl)
+    after-go (between false a ms) (between true (further a) ms) 47 (t ++ (47 ∷ [])) (unfold stepBy pick in refl)
     ∙ (after-one t (between true (further a) ms) (between true (more (length t) (further a)) ms) (between false (further (more (length t) (further a))) ms) 47
-    (skip-on t (further a) ms g) (unfold step pick in refl)
+    (skip-on t (further a) ms g) (unfold stepBy pick in refl)
     ∙ ap (λ x. go (between false x ms)) (ap further (more-one (length t) a) ∙ (more-last (suc (length t)) a ∙ ap (λ (k : ℕ). more k a) (sym (skip-length t)))))
 
 -- skips, one behind the other
@@ -186,7 +186,7 @@ skips-over u a ms (aSkip t v g s) =
 
 -- a sign between macros, whatever stands before it
 sign-on : (m : Mark) (a : Pending) (ms : List Macro) → step (between false a ms) (markByte m) ≡ go (between false (atMark m 1) ms)
-unfolding step outside outsideFresh markByte pick
+unfolding stepBy outside outsideFresh markByte pick
 sign-on stack clear ms = refl
 sign-on stack (atMark m n) ms = refl
 sign-on counter clear ms = refl
@@ -338,7 +338,7 @@ module _ (s : Reader) (u : List ℕ) (b : ℕ) where
 
   -- one byte more
   pub pends-one : (r r′ : Reader) → after s u ≡ go r → Pends s u r → step r b ≡ go r′ → Pends s (u ++ (b ∷ [])) r′
-  unfolding step
+  unfolding stepBy
   pends-one (between skip a ms) r′ f g e = by (eqb b 47) skip refl f g e
     where
       by : (c d : Bool) → eqb b 47 ≡ c → after s u ≡ go (between d a ms) → Pends s u (between d a ms)
@@ -440,7 +440,7 @@ outside-call (atMark m c) ms b k n e = by (eqb b 40) refl e
     by false f z = unfold pick in fresh-no-call ms b n k z
 
 pub at-call : (r : Reader) (b : ℕ) (k : FileRefusal) (n : ℕ) → step r b ≡ refuseBefore k n → AtCall r b k n
-unfolding step
+unfolding stepBy
 at-call (between skip a ms) b k n e = by (eqb b 47) skip e
   where
     by : (c d : Bool)

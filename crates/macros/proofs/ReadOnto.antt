@@ -14,7 +14,7 @@ use Rattle.macros.specs.Refusals.FileRefusal.{fileTooLong, macroTooLong,
 use Rattle.macros.specs.Macro.{Macro, Mark, Table, markByte, pick}
 use Rattle.macros.specs.Macro.Mark.{counter, stack}
 use Rattle.macros.specs.Read.{Next, Pending, Prior, Reader, Step, atEnd, count, firstCall, firstZero, further, macroOf, noCalls, outside, outsideFresh}
-use Rattle.macros.specs.Read.{partByte, readFile, readFrom, readOnto, skips, step, taken}
+use Rattle.macros.specs.Read.{partByte, readFile, readFrom, readOnto, skips, step, taken, readFileBy, readFromBy, readOntoBy, stepBy}
 use Rattle.macros.specs.ReadSoFar.Joinable.{nothing}
 use Rattle.macros.specs.ReadSoFar.CallSite.{callsSoFar}
 use Rattle.macros.specs.ReadSoFar.Phase.{begun}
@@ -134,7 +134,7 @@ module _ (old : List Macro) where
       by false g = unfold pick in fresh-shift ms b g
 
   step-shift : (r : Reader) (b : ℕ) → Room r b → step (shift r) b ≡ shiftNext (step r b)
-  unfolding step shift shiftNext Room behind
+  unfolding stepBy shift shiftNext Room behind
   step-shift (between skip a ms) b h = by (eqb b 47) skip refl refl
     where
       by : (c d : Bool) → eqb b 47 ≡ c → skip ≡ d
@@ -204,7 +204,7 @@ outside-held (atMark m n) ms b r e = by (eqb b 40) e
     by false z = unfold pick in fresh-held ms b r z
 
 step-grows : (r r′ : Reader) (b : ℕ) → step r b ≡ go r′ → Grows r r′ b
-unfolding step held
+unfolding stepBy held
 step-grows (between skip a ms) r′ b e = by (eqb b 47) skip refl e
   where
     starting : (c : Bool) → eqb b 47 ≡ false → starts a b ≡ c → held r′ ≡ pick c (suc (length ms)) (length ms) → Grows (between false a ms) r′ b
@@ -226,7 +226,7 @@ step-grows (inside skip n st pr) r′ b e = by (skips st && eqb b 47) skip e
 
 -- the reader at the end of bytes that are read as a table
 table-after : (u : List ℕ) (q : ℕ) (r : Reader) (new : Table) → readFrom q r u ≡ table new → (a : Pending) × (after r u ≡ go (between false a (reverse new)))
-unfolding readFrom after atEnd
+unfolding readFromBy after atEnd
 table-after [] q (between true a ms) new e = unfold pick in not-table e
 table-after [] q (between false a ms) new e = unfold pick in let z : reverse ms ≡ new = cc in (a, rw (← z, reverse-reverse ms))
 table-after [] q (inside skip n st pr) new e = not-table e
@@ -259,7 +259,7 @@ after-more (b ∷ u) r r′ e = by (step r b) refl (λ x f. after-more u x r′ 
 module _ (old : List Macro) where
   -- there is room where the next reader's macros fit
   room : (r r′ : Reader) (b : ℕ) → step r b ≡ go r′ → held r′ + length old ≤ mostMacros → Room old r b
-  unfolding Room step held
+  unfolding Room stepBy held
   room (inside skip n st pr) r′ b e h = tt
   room (between skip a ms) r′ b e h = λ f g i. by f g i
     where
@@ -301,7 +301,7 @@ plain-before [] v g = tt
 plain-before (b ∷ u) v g = (g .0, plain-before u v (g .1))
 
 pub read-plain : (older : Table) (s : List ℕ) → Plain s → readOnto older s ≡ readFrom 0 (between false clear (reverse older)) s
-unfolding readOnto pick
+unfolding readOntoBy pick
 read-plain older s g = simp (le-ltb 32768 (length s) (g .0), no-zero 0 s (g .1))
 
 -- a file is plain, or 10 or 11 refuses it on any table
@@ -310,7 +310,7 @@ data Looked (s : List ℕ) : Type 0 where
   refused : (k : FileRefusal) (p : ℕ) → ((older : Table) → readOnto older s ≡ refusedAt k p) → Looked s
 
 look : (s : List ℕ) → Looked s
-unfolding readOnto
+unfolding readOntoBy
 look s = by (ltb mostFileBytes (length s)) (firstZero 0 s) refl refl
   where
     by : (x : Bool) (o : Option ℕ) → ltb mostFileBytes (length s) ≡ x → firstZero 0 s ≡ o → Looked s
@@ -325,11 +325,11 @@ none-before = between false clear []
 
 -- the end of bytes behind which no macro and no skip is open
 end-of : (u : List ℕ) (r : Reader) (a : Pending) (ms : List Macro) → after r u ≡ go (between false a ms) → readFrom 0 r u ≡ table (reverse ms)
-unfolding readFrom atEnd pick
+unfolding readFromBy atEnd pick
 end-of u r a ms e = ap (readFrom 0 r) (sym (append-nil u)) ∙ read-after u [] 0 r (between false a ms) e
 
 end-table : (u : List ℕ) (a : Pending) (ms : List Macro) → Plain u → after none-before u ≡ go (between false a ms) → readFile u ≡ table (reverse ms)
-unfolding readFile
+unfolding readFileBy
 end-table u a ms g e = read-plain [] u g ∙ end-of u none-before a ms e
 
 plain-front : (u v : List ℕ) → Plain (u ++ v) → Plain u
@@ -337,13 +337,13 @@ plain-front u v g = let l = length-append u v in (omega (arith, g .0), plain-bef
 
 -- the 97th macro's first quote
 quote-full : (a : Pending) (ms : List Macro) → length ms ≡ mostMacros → step (between false a ms) 39 ≡ refuse tooManyMacros
-unfolding step outside outsideFresh pick
+unfolding stepBy outside outsideFresh pick
 quote-full clear ms h = let l : 96 ≤ length ms = omega arith in rw (le-ltb (length ms) 96 l)
 quote-full (atMark m n) ms h = let l : 96 ≤ length ms = omega arith in rw (le-ltb (length ms) 96 l)
 
 -- the `(` of the first call before its pattern
 call-full : (m : Mark) (n : ℕ) (ms : List Macro) → length ms ≡ mostMacros → step (between false (atMark m n) ms) 40 ≡ refuseBefore tooManyMacros n
-unfolding step outside firstCall pick
+unfolding stepBy outside firstCall pick
 call-full m n ms h = let l : 96 ≤ length ms = omega arith in rw (le-ltb (length ms) 96 l)
 
 -- the bytes with which the 97th macro begins, whatever follows
@@ -433,7 +433,7 @@ module _ (old : List Macro) where
   faulty-from : (v s u : List ℕ) (q : ℕ) (r : Reader) (k : FileRefusal) (p : ℕ) → s ≡ u ++ v → Plain s → after none-before u ≡ go r → Pends none-before u r
       → held r + length old ≤ mostMacros → ((j q : ℕ) → Begins s j q → length old + j ≡ mostMacros → ⊥) → readFrom q r v ≡ refusedAt k p
       → readFrom q (shift old r) v ≡ refusedAt k p
-  unfolding readFrom atEnd shift shiftNext
+  unfolding readFromBy atEnd shift shiftNext
   faulty-from [] s u q (between true a ms) k p z g e w h never f = unfold pick in f
   faulty-from [] s u q (between false a ms) k p z g e w h never f = unfold pick in not-table (sym f)
   faulty-from [] s u q (inside skip n st pr) k p z g e w h never f = f
@@ -457,7 +457,7 @@ module _ (old : List Macro) where
           read-refuse-before q j n (shift old r) b v y ∙ (sym (read-refuse-before q j n r b v i) ∙ f)
 
 adds : (older : Table) (s : List ℕ) (new : Table) → readFile s ≡ table new → length older + length new ≤ mostMacros → Looked s → readOnto older s ≡ table (older ++ new)
-unfolding readFile shift held
+unfolding readFileBy shift held
 adds older s new e h (refused k p f) = not-table (sym (f []) ∙ e)
 adds older s new e h (plain g) =
     let t = table-after s 0 none-before new (sym (read-plain [] s g) ∙ e) in
@@ -466,7 +466,7 @@ adds older s new e h (plain g) =
     ∙ rw (reverse-append (reverse new) (reverse older), reverse-reverse older, reverse-reverse new))
 
 fills : (older : Table) (s : List ℕ) (j p : ℕ) → Plain s → Begins s j p → length older + j ≡ mostMacros → readOnto older s ≡ refusedAt tooManyMacros p
-unfolding readFile shift held
+unfolding readFileBy shift held
 fills older s j p g t h =
     let u = t .before in
     let f : Plain u = plain-front u (t .opening ++ t .rest) (rw (t .stands) at g) in
@@ -480,7 +480,7 @@ fills older s j p g t h =
 
 faults : (older : Table) (s : List ℕ) (k : FileRefusal) (p : ℕ) → length older ≤ mostMacros → readFile s ≡ refusedAt k p
     → ((j q : ℕ) → Begins s j q → length older + j ≡ mostMacros → ⊥) → Looked s → readOnto older s ≡ refusedAt k p
-unfolding readFile shift held after
+unfolding readFileBy shift held after
 faults older s k p h e never (refused i q f) = f older ∙ (sym (f []) ∙ e)
 faults older s k p h e never (plain g) =
     read-plain older s g

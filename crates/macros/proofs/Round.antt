@@ -15,7 +15,8 @@ use Rattle.macros.specs.Macro.{Call, Macro, Mark, Piece, Symbol, markByt
 use Rattle.macros.specs.Macro.Mark.{counter, stack}
 use Rattle.macros.specs.Macro.Symbol.{equal, less}
 use Rattle.macros.specs.Formed.{Bytes, Formed, FormedCommands}
-use Rattle.macros.specs.Read.{Front, Part, Prior, Reader, atEnd, callsByte, callsFresh, commandsByte, commandsFresh, count, firstCall, firstZero, macroOf, noCalls, outside, outsideFresh, partByte, quoteByte, readFile, readFrom, readOnto, skips, step, symbolByte, taken}
+use Rattle.macros.specs.Read.{Front, Part, Prior, Reader, atEnd, callsByte, callsFresh, commandsByte, commandsFresh, count, firstCall, firstZero, macroOf, noCalls, outside, outsideFresh, partByte, quoteByte, readFile, readFrom, readOntoBy, skips, step, symbolByte, taken}
+use Rattle.macros.specs.Read.{partByteBy, readFileBy, readFromBy, stepBy}
 use Rattle.macros.specs.ReadSoFar.Joinable.{nothing}
 use Rattle.macros.specs.ReadSoFar.CallSite.{callsSoFar}
 use Rattle.macros.specs.ReadSoFar.Phase.{begun}
@@ -40,21 +41,21 @@ use Rattle.macros.proofs.Whole.{whole-append, whole-spelled}
 -- READING ON
 
 pub read-go : (p : ℕ) (r r′ : Reader) (b : ℕ) (bs : List ℕ) → step r b ≡ go r′ → readFrom p r (b ∷ bs) ≡ readFrom (suc p) r′ bs
-unfolding readFrom
-read-go p r r′ b bs e = rw (e, readFrom)
+unfolding readFromBy
+read-go p r r′ b bs e = rw (e, readFromBy)
 
 pub read-refuse : (p : ℕ) (k : FileRefusal) (r : Reader) (b : ℕ) (bs : List ℕ) → step r b ≡ refuse k → readFrom p r (b ∷ bs) ≡ refusedAt k p
-unfolding readFrom
-read-refuse p k r b bs e = rw (e, readFrom)
+unfolding readFromBy
+read-refuse p k r b bs e = rw (e, readFromBy)
 
 -- a fault that shows later than its place
 pub read-refuse-before : (p : ℕ) (k : FileRefusal) (n : ℕ) (r : Reader) (b : ℕ) (bs : List ℕ) → step r b ≡ refuseBefore k n → readFrom p r (b ∷ bs) ≡ refusedAt k (p - n)
-unfolding readFrom
-read-refuse-before p k n r b bs e = rw (e, readFrom)
+unfolding readFromBy
+read-refuse-before p k n r b bs e = rw (e, readFromBy)
 
 step-on : (n : ℕ) (st st′ : Part) (pr : Prior) (b : ℕ) → (skips st && eqb b 47) ≡ false → partByte st b ≡ on st′ → n < mostMacroBytes
     → step (inside false n st pr) b ≡ go (inside false (suc n) st′ pr)
-unfolding step taken count pick
+unfolding stepBy taken count pick
 step-on n st st′ pr b f e h = simp (f, e, lt-ltb n 512 h)
 
 -- in a macro, as long as its bytes are no more than 512
@@ -84,39 +85,39 @@ unfolding macroOf front
 macro-of m = rw (reverse-reverse (m .before), reverse-reverse (m .pattern), reverse-reverse (m .replacement), reverse-reverse (m .commands))
 
 last-byte : (m : Macro) → partByte (lastPart m) 59 ≡ done (front m) (reverse (m .replacement)) (reverse (m .commands))
-unfolding lastPart partByte commandsByte commandsFresh pick
+unfolding lastPart partByteBy commandsByte commandsFresh pick
 last-byte m = refl
 
 final : (n : ℕ) (m : Macro) (ms : List Macro) → n < mostMacroBytes → step (inside false n (lastPart m) (prior (m .before) ms)) 59 ≡ go (between false clear (m ∷ ms))
-unfolding step taken count pick prior
+unfolding stepBy taken count pick prior
 final n m ms h =
     let e = last-byte m in
     let f = macro-of m in
     unfold lastPart skips in simp (e, f, lt-ltb n 512 h)
 
 first-quote : (ms : List Macro) → length ms < mostMacros → step (between false clear ms) 39 ≡ go (inside false 1 (pattern nothing []) (noCalls ms))
-unfolding step outside outsideFresh pick
+unfolding stepBy outside outsideFresh pick
 first-quote ms h = rw (lt-ltb (length ms) 96 h)
 
 -- the `&` or `#` of a macro's first call, and its `(`
 first-mark : (m : Mark) (ms : List Macro) → step (between false clear ms) (markByte m) ≡ go (between false (atMark m 1) ms)
-unfolding step outside outsideFresh markByte pick
+unfolding stepBy outside outsideFresh markByte pick
 first-mark stack ms = refl
 first-mark counter ms = refl
 
 first-open : (m : Mark) (ms : List Macro) → length ms < mostMacros → step (between false (atMark m 1) ms) 40 ≡ go (inside false 2 (calling (callsSoFar []) (begun m)) (noCalls ms))
-unfolding step outside firstCall pick
+unfolding stepBy outside firstCall pick
 first-open m ms h = simp (lt-ltb (length ms) 96 h)
 
 -- the quote behind the calls
 opens-pattern : (n : ℕ) (cs : List Call) (ms : List Macro) → n < mostMacroBytes
     → step (inside false n (calls none (reverse cs)) (noCalls ms)) 39 ≡ go (inside false (suc n) (pattern nothing []) (prior cs ms))
-unfolding step skips partByte callsByte callsFresh taken count pick prior
+unfolding stepBy skips partByteBy callsByte callsFresh taken count pick prior
 opens-pattern n cs ms h = simp (lt-ltb n 512 h)
 
 -- so that quote ends what stands before the pattern
 quote-ends : (cs : List Call) (s : Part) → partByte (calls none cs) 39 ≡ on s → ⊥
-unfolding partByte callsByte callsFresh pick
+unfolding partByteBy callsByte callsFresh pick
 quote-ends cs s e = let z : _≡_ {A = ℕ} 0 1 = cc in omega arith
 
 -- a macro is known by where the reader stands before its pattern and before its `;`
@@ -125,7 +126,7 @@ unfolding lastPart front
 same-parts m n e f = cc (macro-of m, macro-of n)
 
 read-symbol : (ps : List Piece) (a : Symbol) → Reads (awaitSymbol ps) (symbolSign a ∷ 39 ∷ []) (replacement none (record { pieces = ps; symbol = a }) [])
-unfolding symbolSign skips partByte symbolByte quoteByte pick
+unfolding symbolSign skips partByteBy symbolByte quoteByte pick
 read-symbol ps equal = next refl refl (next refl refl stay)
 read-symbol ps less = next refl refl (next refl refl stay)
 
@@ -196,7 +197,7 @@ no-zero p [] w = refl
 no-zero p (b ∷ s) w = rw (ne-eqb b 0 (omega (arith, w .0 .0))) (no-zero (suc p) s (w .1))
 
 pub read-whole : (s : List ℕ) → Bytes s → length s ≤ mostFileBytes → readFile s ≡ readFrom 0 (between false clear []) s
-unfolding readFile readOnto pick
+unfolding readFileBy readOntoBy pick
 read-whole s w h = simp (le-ltb 32768 (length s) h, no-zero 0 s w)
 
 read-written : (m : Macro) → Formed m → length (written m) ≤ mostMacroBytes → (p : ℕ) (ms : List Macro) (rest : List ℕ) → length ms < mostMacros
@@ -217,7 +218,7 @@ not-file : {A : Type 0} {n : FileRefusal} {p : ℕ} {t : List ℕ} → refused n
 not-file e = let z : _≡_ {A = ℕ} 0 1 = cc in absurd (omega arith)
 
 line-feed : (ms : List Macro) → step (between false clear ms) 10 ≡ go (between false clear ms)
-unfolding step outside outsideFresh pick
+unfolding stepBy outside outsideFresh pick
 line-feed ms = refl
 
 -- a macro's line is written where it and the file are short enough
@@ -249,7 +250,7 @@ write-more (m ∷ ms) s t h e =
 
 pub read-lines : (ms : List Macro) (p : ℕ) (acc : List Macro) → Each Spellable ms → Each Short ms → length ms + length acc ≤ mostMacros
     → readFrom p (between false clear acc) (lines ms) ≡ table (reverse (reverseAux ms acc))
-unfolding lines readFrom atEnd pick
+unfolding lines readFromBy atEnd pick
 read-lines [] p acc g k h = refl
 read-lines (m ∷ ms) p acc g k h =
     ap (readFrom p (between false clear acc)) (append-assoc (written m) (10 ∷ []) (lines ms))

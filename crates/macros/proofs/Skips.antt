@@ -17,7 +17,7 @@ use Rattle.macros.specs.Macro.Member.{single}
 use Rattle.macros.specs.Macro.PatternUnit.{literal}
 use Rattle.macros.specs.Macro.Action.{text}
 use Rattle.macros.specs.ReadFile.{Next, Pending, Prior, Read, Reader, atEnd, count, firstCall, further, macroOf, noCalls, outside, outsideFresh}
-use Rattle.macros.specs.ReadFile.{readFrom, readOnto, step, taken}
+use Rattle.macros.specs.ReadFile.{readFrom, readOnto, step, taken, readFromBy, stepBy}
 use Rattle.macros.specs.ReadFile.Pending.{atMark, clear}
 use Rattle.macros.specs.ReadFile.Reader.{between, inside}
 use Rattle.macros.specs.ReadFile.Next.{go, refuse, refuseBefore}
@@ -63,7 +63,7 @@ not-moved n k j p q h e = rw (lt-ltb p n h, e)
 -- it was reached by the bytes w from one that stood at the place n or behind it, so a pending sign stands there too
 shifted : (v w : List ℕ) (n q k : ℕ) (s r : Reader) → n + length w ≤ q → after s w ≡ go r → Pends s w r
     → readFrom (q + k) r v ≡ moved n k (readFrom q r v)
-unfolding readFrom atEnd
+unfolding readFromBy atEnd
 shifted [] w n q k s (between true a ms) h e g = unfold pick in on-moved n k incomplete q (q + k) (omega arith) refl
 shifted [] w n q k s (between false a ms) h e g = unfold pick in refl
 shifted [] w n q k s (inside skip c st pr) h e g = on-moved n k incomplete q (q + k) (omega arith) refl
@@ -130,7 +130,7 @@ module _ (n k : ℕ) where
   taken-along pr (stop j) = stops j refl refl
 
   step-along : (skip : Bool) (st : Part) (pr : Prior) (b : ℕ) → Along k (step (inside skip n st pr) b) (step (inside skip (n + k) st pr) b)
-  unfolding step
+  unfolding stepBy
   step-along skip st pr b = by (skips st && eqb b 47) skip
     where
       by : (c d : Bool) → Along k
@@ -142,7 +142,7 @@ module _ (n k : ℕ) where
 
 along : (v : List ℕ) (p q k : ℕ) (skip : Bool) (n : ℕ) (st : Part) (pr : Prior) → p ≤ q
     → ReadAlike p k (readFrom q (inside skip n st pr) v) (readFrom (q + k) (inside skip (n + k) st pr) v)
-along [] p q k skip n st pr h = unfold readFrom atEnd in alike (on-moved p k incomplete q (q + k) h refl)
+along [] p q k skip n st pr h = unfold readFromBy atEnd in alike (on-moved p k incomplete q (q + k) h refl)
 along (b ∷ v) p q k skip n st pr h = by (step-along n k skip st pr b) (λ skip′ n′ st′ pr′. along v p (suc q) k skip′ n′ st′ pr′ (omega arith))
   where
     r : Reader
@@ -178,7 +178,7 @@ data Waits (k c : ℕ) (skip : Bool) (m : Mark) (ms : List Macro) (b : ℕ) (x y
 
 step-waits : (k c : ℕ) (skip : Bool) (m : Mark) (ms : List Macro) (b : ℕ)
     → Waits k c skip m ms b (step (between skip (atMark m c) ms) b) (step (between skip (atMark m (c + k)) ms) b)
-unfolding step further outside
+unfolding stepBy further outside
 step-waits k c skip m ms b = by (eqb b 47) skip (eqb b 40)
   where
     z : suc (c + k) ≡ suc c + k
@@ -215,8 +215,8 @@ first-calls k c m ms = by (ltb (length ms) mostMacros) (ltb (c + k) mostMacroByt
 -- the sign stands before the place n
 waiting : (v : List ℕ) (n q k c : ℕ) (skip : Bool) (m : Mark) (ms : List Macro) → n ≤ q → q < n + c → c ≤ q
     → ReadAlike n k (readFrom q (between skip (atMark m c) ms) v) (readFrom (q + k) (between skip (atMark m (c + k)) ms) v)
-waiting [] n q k c true m ms h l s = unfold readFrom atEnd pick in alike (on-moved n k incomplete q (q + k) h refl)
-waiting [] n q k c false m ms h l s = unfold readFrom atEnd pick in alike refl
+waiting [] n q k c true m ms h l s = unfold readFromBy atEnd pick in alike (on-moved n k incomplete q (q + k) h refl)
+waiting [] n q k c false m ms h l s = unfold readFromBy atEnd pick in alike refl
 waiting (b ∷ v) n q k c skip m ms h l s =
     by (step-waits k c skip m ms b) (λ skip′. waiting v n (suc q) k (suc c) skip′ m ms (omega arith) (omega arith) (omega arith))
   where
@@ -303,7 +303,7 @@ skipped [] v q n st pr g = let x : q + 0 ≡ q = omega arith in let y : n + 0 �
 skipped (b ∷ t) v q n st pr g =
     let x : suc q + length t ≡ q + suc (length t) = omega arith in
     let y : suc n + length t ≡ n + suc (length t) = omega arith in
-    pass-pass (one q n (inside true n st pr) true st pr b (t ++ v) (unfold step pick in rw (g .0)))
+    pass-pass (one q n (inside true n st pr) true st pr b (t ++ v) (unfold stepBy pick in rw (g .0)))
     (pass-by (skipped t v (suc q) (suc n) st pr (g .1)) (rw (x, y)))
 
 silent : (st : Part) (t : List ℕ) → NoSlash t → Silent st t
@@ -334,10 +334,10 @@ through t v q r g (apart a ms) =
 through t v q r g (part n st pr e) =
     let x : suc (suc q + length t) ≡ q + length (skipOver t) = omega (arith, skip-length t) in
     let y : suc (suc n + length t) ≡ n + length (skipOver t) = omega (arith, skip-length t) in
-    pass-pass (one q n (inside false n st pr) true st pr 47 ((t ++ (47 ∷ [])) ++ v) (unfold step pick in rw e))
+    pass-pass (one q n (inside false n st pr) true st pr 47 ((t ++ (47 ∷ [])) ++ v) (unfold stepBy pick in rw e))
     (pass-on (ap (readFrom (suc q) (inside true (suc n) st pr)) (append-assoc t (47 ∷ []) v))
     (pass-pass (skipped t (47 ∷ v) (suc q) (suc n) st pr (silent st t g))
-    (pass-by (one (suc q + length t) (suc n + length t) (inside true (suc n + length t) st pr) false st pr 47 v (unfold step pick in rw e)) (rw (x, y)))))
+    (pass-by (one (suc q + length t) (suc n + length t) (inside true (suc n + length t) st pr) false st pr 47 v (unfold stepBy pick in rw e)) (rw (x, y)))))
 through t v q r g (within n st pr e) = skipped (skipOver t) v q n st pr (silent-all st (skipOver t) e)
 
 -- behind the skip
@@ -445,7 +445,7 @@ long-not e = other-number e (λ f. omega arith)
 -- a part in which a `;` ends or breaks off its macro is no skip
 not-skipped : {A : Type 0} (q n : ℕ) (st : Part) (pr : Prior) → AtSemicolon (partByte st 59)
     → readFrom (suc q) (inside false n st pr) (59 ∷ 32 ∷ []) ≡ refusedAt incomplete (q + 3) → A
-unfolding step taken
+unfolding stepBy taken
 not-skipped q n st pr (breaks-off f) e =
     let x : step (inside false n st pr) 59 ≡ refuse incomplete = unfold pick in rw (and-false (skips st), f) in
     other-place (sym (read-refuse (suc q) incomplete (inside false n st pr) 59 (32 ∷ []) x) ∙ e) (omega arith)
@@ -465,18 +465,18 @@ not-skipped q n st pr (ends-macro f l cs g) e = by (counted n 0 (between false c
 
     by : {A : Type 0} → Counted n 0 (between false clear ms) (between false clear ms) → A
     by (both i h) =
-        let y : readFrom (suc (suc q)) (between false clear ms) (32 ∷ []) ≡ table (reverse ms) = unfold readFrom step outside outsideFresh atEnd pick in refl in
+        let y : readFrom (suc (suc q)) (between false clear ms) (32 ∷ []) ≡ table (reverse ms) = unfold readFromBy stepBy outside outsideFresh atEnd pick in refl in
         no-table (sym y ∙ (sym (read-go (suc q) r (between false clear ms) 59 (32 ∷ []) (x ∙ i)) ∙ e))
     by (over h) = long-not (sym (read-refuse (suc q) macroTooLong r 59 (32 ∷ []) (x ∙ (ap (λ (j : ℕ). count j (between false clear ms)) (sym z) ∙ h))) ∙ e)
 
 -- a `/` and a `;` behind a skip between macros
 skip-closed : (q : ℕ) (a : Pending) (ms : List Macro) → readFrom q (between true a ms) (47 ∷ 59 ∷ 32 ∷ []) ≡ table (reverse ms)
-unfolding readFrom step outside outsideFresh further atEnd pick
+unfolding readFromBy stepBy outside outsideFresh further atEnd pick
 skip-closed q clear ms = refl
 skip-closed q (atMark m n) ms = refl
 
 open-at : (q : ℕ) (r : Reader) → readFrom q r (47 ∷ 59 ∷ 32 ∷ []) ≡ refusedAt incomplete (q + 3) → Open r
-unfolding step taken
+unfolding stepBy taken
 open-at q (between false a ms) e = apart a ms
 open-at q (between true a ms) e = no-table (sym (skip-closed q a ms) ∙ e)
 open-at q (inside true n st pr) e = by (skips st) refl

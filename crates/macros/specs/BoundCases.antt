@@ -4,7 +4,7 @@ use Prim.Native.Nat.{ℕ, zero, suc}
 use mathlib.Core.List.{List, [], _∷_, _++_}
 use lib.ListN.{replicate}
 use Rattle.macros.specs.Bounds.{mostFileBytes, mostMacros, mostMacroBytes, mostTags, mostLineBytes, letters}
-use Rattle.macros.specs.Bounds.{mostEntries, mostEntryBytes, mostCounter, mostBudget}
+use Rattle.macros.specs.Bounds.{mostEntries, mostEntryBytes, oldEntryBytes, mostCounter, mostBudget}
 use Rattle.macros.specs.Refusals.{hostNumber, lineNumber, fileNumber, workNumber, place}
 use Rattle.macros.specs.Refusals.HostRefusal.{badMemory, badTable, badState, budgetTooLarge}
 use Rattle.macros.specs.Refusals.LineRefusal.{lineTooLong, badByte, badControl}
@@ -16,10 +16,11 @@ use Rattle.macros.specs.Read.{readFile, readOnto}
 use Rattle.macros.specs.ReadFile.Read.{refusedAt, table}
 use Rattle.macros.specs.Cases.{everything, bytes, shown, sized}
 
--- 01's bounds: file, macros, a macro's bytes, tags, line; stacks, their entries, an entry's bytes, counters, budget
+-- 01's bounds: file, macros, a macro's bytes, tags, line; stacks, their entries, an entry's bytes (02, N6), the old ones, counters, budget
 pub boundNumbers :
     (mostFileBytes ∷ mostMacros ∷ mostMacroBytes ∷ mostTags ∷ mostLineBytes ∷ [] ≡ 32768 ∷ 96 ∷ 512 ∷ 99 ∷ 1054 ∷ []) ×
-    (letters ∷ mostEntries ∷ mostEntryBytes ∷ mostCounter ∷ mostBudget ∷ [] ≡ 26 ∷ 20 ∷ 50 ∷ 999999999 ∷ 1000000 ∷ [])
+    (letters ∷ mostEntries ∷ mostEntryBytes ∷ oldEntryBytes ∷ mostCounter ∷ mostBudget ∷ []
+    ≡ 26 ∷ 20 ∷ 100 ∷ 50 ∷ 999999999 ∷ 1000000 ∷ [])
 boundNumbers = (refl, refl)
 
 -- 01's numbers of refusals, in its order: the host, whoever sends the line, the table writer, the table at work

@@ -29,9 +29,13 @@ letters = 26
 abbrev pub mostEntries : ℕ
 mostEntries = 20
 
--- the bytes of an entry
+-- the bytes of an entry, and of the text in a call (02, N6)
 abbrev pub mostEntryBytes : ℕ
-mostEntryBytes = 50
+mostEntryBytes = 100
+
+-- the same in the old engine, before N6
+abbrev pub oldEntryBytes : ℕ
+oldEntryBytes = 50
 
 -- the largest counter, the largest increment, and the largest number that a counter is divided by (02, N7)
 abbrev pub mostCounter : ℕ

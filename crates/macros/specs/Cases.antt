@@ -9,14 +9,15 @@ use Prim.Native.String.{String}
 use Prim.Native.Char.{Char, code}
 use Rattle.macros.specs.Macro.{Table, pick, among, within, asciiUpper, asciiLower, digit, isRange, markByte, tags, elements, depth}
 pub use Rattle.macros.specs.Quoted.{bytes}
+use Rattle.macros.specs.Bounds.{oldEntryBytes}
 use Rattle.macros.specs.Formed.{limit, numberFits}
 use Rattle.macros.specs.Refusals.{hostNumber, lineNumber, fileNumber, workNumber, number, place}
 use Rattle.macros.specs.Read.{Read, breaks, escaped, signs, kindDigit, hold, patternEnd, sign, fresh, closes, patternByte}
 use Rattle.macros.specs.Read.{newMember, membersAtEnd, classEnd, dashes, dashed, membersByte, openedByte, otherwise, andDigit, isSign}
 use Rattle.macros.specs.Read.{signOf, isStill, numberEnd, mayInsert, mayStoreTag, callByte, siteOf, piecesOf, behindCall, turned}
-use Rattle.macros.specs.Read.{textByte, tagEnd, tagByte, replacementFresh, replacementByte, callsFresh, callsByte, symbolByte}
-use Rattle.macros.specs.Read.{quoteByte, commandsFresh, commandsByte, partByte, skips, count, macroOf, taken, outsideFresh, firstCall}
-use Rattle.macros.specs.Read.{outside, further, step, atEnd, readFrom, firstZero, readOnto, readFile}
+use Rattle.macros.specs.Read.{textByteBy, tagEnd, tagByte, replacementFresh, replacementByte, callsFresh, callsByte, symbolByte}
+use Rattle.macros.specs.Read.{quoteByte, commandsFresh, commandsByte, partByteBy, skips, count, macroOf, taken, outsideFresh, firstCall}
+use Rattle.macros.specs.Read.{outside, further, stepBy, atEnd, readFromBy, firstZero, readOntoBy, readFile, readFileBy}
 use Rattle.macros.specs.Write.{Written, patternMarks, classMarks, textMarks, escapeByte, byte, digitsBy, digits, writeMember}
 use Rattle.macros.specs.Write.{writeMembers, writeUnit, closureBytes, writePiece, writePattern, signByte, nameBytes, writeText}
 use Rattle.macros.specs.Write.{markOf, innerBytes, callBytes, writeAction, writeReplacement, commandsBytes, symbolSign, written}
@@ -49,18 +50,18 @@ opensClass = 0
 
 -- opens ReadCalls
 unfoldable pub opensCalls : ℕ
-unfolding otherwise andDigit isSign signOf isStill numberEnd mayInsert mayStoreTag callByte siteOf piecesOf behindCall turned textByte
+unfolding otherwise andDigit isSign signOf isStill numberEnd mayInsert mayStoreTag callByte siteOf piecesOf behindCall turned textByteBy
 opensCalls = 0
 
 -- opens ReadReplacement and ReadParts
 unfoldable pub opensParts : ℕ
-unfolding tagEnd tagByte replacementFresh replacementByte callsFresh callsByte symbolByte quoteByte commandsFresh commandsByte partByte
+unfolding tagEnd tagByte replacementFresh replacementByte callsFresh callsByte symbolByte quoteByte commandsFresh commandsByte partByteBy
     skips
 opensParts = 0
 
 -- opens ReadFile
 unfoldable pub opensFile : ℕ
-unfolding count macroOf taken outsideFresh firstCall outside further step atEnd readFrom firstZero readOnto readFile
+unfolding count macroOf taken outsideFresh firstCall outside further stepBy atEnd readFromBy firstZero readOntoBy readFileBy
 opensFile = 0
 
 -- opens Write: marks and numbers
@@ -126,6 +127,10 @@ sized n = bytes "'a'='" ++ (replicate n 98 ++ bytes "';")
 -- a text, n copies of a byte, a text
 abbrev pub stretched : String → ℕ → Char → String → List ℕ
 stretched s n c t = bytes s ++ (replicate n (code c) ++ bytes t)
+
+-- number and place of such a file as the old engine reads it (02, N6)
+abbrev pub oldShown : String → ℕ → Char → String → ℕ × ℕ
+oldShown s n c t = shown (readFileBy oldEntryBytes (stretched s n c t))
 
 infix 30 _is_at_
 infix 30 _becomes_

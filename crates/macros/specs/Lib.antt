@@ -17,6 +17,7 @@ pub mod Accepted
 pub mod RoundTrip
 pub mod Spelling
 pub mod ReadKeeps
+pub mod ReadBounds
 pub mod Begins
 pub mod FirstFault
 pub mod ReadOnto

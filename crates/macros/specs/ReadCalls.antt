@@ -142,10 +142,14 @@ turned pl ph b (textOf i v) = on (callText pl i v [])
 turned pl ph b (closed c) = pick (numberFits (tags (piecesOf pl)) c) (on (behindCall pl c)) (stop badCall)
 turned pl ph b wrong = otherwise (calling pl ph) b
 
--- "`&(i:text:)` stores text, at most 50 bytes, ended by the first `:` without `\`";
--- 12 at a raw quote, `;` or line feed, 16 at the 51st byte
-unfoldable pub textByte : CallSite → ℕ → Move → List ℕ → ℕ → Step
-textByte pl i v t b =
+-- "`&(i:text:)` stores text", at most 100 bytes (02, N6), by the old engine at most 50 (`longest`), "ended by the first `:` without `\`"
+-- 12 at a raw quote, `;` or line feed, 16 at the byte behind the longest text
+unfoldable pub textByteBy : (longest : ℕ) → CallSite → ℕ → Move → List ℕ → ℕ → Step
+textByteBy longest pl i v t b =
     pick (b is ":") (on (calling pl (texted i v t)))
     (pick (breaks b) (stop incomplete)
-    (pick (ltb (length t) mostEntryBytes) (pick (b is "\\") (on (callTextEscape pl i v t)) (on (callText pl i v (b ∷ t)))) (stop badCall)))
+    (pick (ltb (length t) longest) (pick (b is "\\") (on (callTextEscape pl i v t)) (on (callText pl i v (b ∷ t)))) (stop badCall)))
+
+-- with texts of at most 100 bytes
+abbrev pub textByte : CallSite → ℕ → Move → List ℕ → ℕ → Step
+textByte = textByteBy mostEntryBytes

@@ -6,7 +6,7 @@ use mathlib.Core.Option.{Option, none, some}
 use lib.Dec.{ltb, eqb}
 use lib.ListN.{length}
 use Rattle.macros.specs.Quoted.{_is_}
-use Rattle.macros.specs.Bounds.{mostFileBytes, mostMacros, mostMacroBytes}
+use Rattle.macros.specs.Bounds.{mostFileBytes, mostMacros, mostMacroBytes, mostEntryBytes}
 use Rattle.macros.specs.Refusals.{FileRefusal}
 use Rattle.macros.specs.Refusals.FileRefusal.{fileTooLong, zeroByte, incomplete, macroTooLong, tooManyMacros}
 use Rattle.macros.specs.Macro.{Mark, Call, Action, Macro, Table, pick}
@@ -17,7 +17,7 @@ use Rattle.macros.specs.ReadSoFar.CallSite.{callsSoFar}
 use Rattle.macros.specs.ReadSoFar.Phase.{begun}
 use Rattle.macros.specs.ReadSoFar.Part.{pattern, calling}
 use Rattle.macros.specs.ReadSoFar.Step.{on, opens, done, stop}
-use Rattle.macros.specs.ReadParts.{partByte, skips}
+use Rattle.macros.specs.ReadParts.{partByteBy, skips}
 
 -- between macros: no `&` or `#` that a `(` may join; or one, and the bytes from it up to here, itself counted
 pub data Pending : Type 0 where
@@ -90,13 +90,17 @@ unfoldable pub further : Pending → Pending
 further clear = clear
 further (atMark m n) = atMark m (suc n)
 
--- ONE BYTE OF A FILE
-unfoldable pub step : Reader → ℕ → Next
-step (between skip a ms) b =
+-- ONE BYTE OF A FILE, with texts in calls of at most `longest` bytes
+unfoldable pub stepBy : (longest : ℕ) → Reader → ℕ → Next
+stepBy longest (between skip a ms) b =
     pick (b is "/") (go (between (not skip) (further a) ms)) (pick skip (go (between true (further a) ms)) (outside a ms b))
-step (inside skip n st pr) b =
+stepBy longest (inside skip n st pr) b =
     pick (skips st && b is "/") (count n (inside (not skip) (suc n) st pr))
-    (pick skip (count n (inside true (suc n) st pr)) (taken n pr (partByte st b)))
+    (pick skip (count n (inside true (suc n) st pr)) (taken n pr (partByteBy longest st b)))
+
+-- with texts of at most 100 bytes
+abbrev pub step : Reader → ℕ → Next
+step = stepBy mostEntryBytes
 
 -- the macros, oldest first, or a refusal with its place
 pub data Read : Type 0 where
@@ -109,14 +113,18 @@ atEnd p (between skip a ms) = pick skip (refusedAt incomplete p) (table (reverse
 atEnd p (inside skip n st pr) = refusedAt incomplete p
 
 -- the bytes from place p on
-unfoldable pub readFrom : ℕ → Reader → List ℕ → Read
-readFrom p r [] = atEnd p r
-readFrom p r (b ∷ bs) =
-    elim (step r b) [
-      | go r′ ↦ readFrom (suc p) r′ bs
+unfoldable pub readFromBy : (longest : ℕ) → ℕ → Reader → List ℕ → Read
+readFromBy longest p r [] = atEnd p r
+readFromBy longest p r (b ∷ bs) =
+    elim (stepBy longest r b) [
+      | go r′ ↦ readFromBy longest (suc p) r′ bs
       | refuse k ↦ refusedAt k p
       | refuseBefore k n ↦ refusedAt k (p - n)
     ]
+
+-- with texts of at most 100 bytes
+abbrev pub readFrom : ℕ → Reader → List ℕ → Read
+readFrom = readFromBy mostEntryBytes
 
 -- the place of the first byte 0, counted from p
 unfoldable pub firstZero : ℕ → List ℕ → Option ℕ
@@ -124,11 +132,19 @@ firstZero p [] = none
 firstZero p (b ∷ bs) = pick (eqb b 0) (some p) (firstZero (suc p) bs)
 
 -- a file read onto a table: the table with the file's macros behind its own; "10 .., then 11 .., over the whole file first"
-unfoldable pub readOnto : Table → List ℕ → Read
-readOnto older s =
+unfoldable pub readOntoBy : (longest : ℕ) → Table → List ℕ → Read
+readOntoBy longest older s =
     pick (ltb mostFileBytes (length s)) (refusedAt fileTooLong mostFileBytes)
-    (elim (firstZero 0 s) [ none ↦ readFrom 0 (between false clear (reverse older)) s | some p ↦ refusedAt zeroByte p ])
+    (elim (firstZero 0 s) [ none ↦ readFromBy longest 0 (between false clear (reverse older)) s | some p ↦ refusedAt zeroByte p ])
+
+-- with texts of at most 100 bytes
+abbrev pub readOnto : Table → List ℕ → Read
+readOnto = readOntoBy mostEntryBytes
 
 -- a macro file: "An empty file is a table without macros."
-unfoldable pub readFile : List ℕ → Read
-readFile s = readOnto [] s
+unfoldable pub readFileBy : (longest : ℕ) → List ℕ → Read
+readFileBy longest s = readOntoBy longest [] s
+
+-- with texts of at most 100 bytes
+abbrev pub readFile : List ℕ → Read
+readFile = readFileBy mostEntryBytes

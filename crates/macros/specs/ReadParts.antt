@@ -5,6 +5,7 @@ use mathlib.Core.Bool.{Bool, true, false, _||_}
 use mathlib.Core.List.{List, [], _∷_}
 use mathlib.Core.Option.{Option, none, some}
 use Rattle.macros.specs.Quoted.{_is_}
+use Rattle.macros.specs.Bounds.{mostEntryBytes}
 use Rattle.macros.specs.Refusals.FileRefusal.{incomplete}
 use Rattle.macros.specs.Macro.{Mark, Piece, Call, Action, pick, asciiLower}
 use Rattle.macros.specs.Macro.Mark.{stack, counter}
@@ -19,7 +20,7 @@ use Rattle.macros.specs.ReadSoFar.Part.{pattern, patternEscape, opened, 
 use Rattle.macros.specs.ReadSoFar.Part.{calls, awaitSymbol, awaitQuote}
 use Rattle.macros.specs.ReadSoFar.Part.{replacement, replacementEscape, tagNumber, calling, callText, callTextEscape, commands}
 use Rattle.macros.specs.ReadSoFar.Step.{on, opens, done, stop}
-use Rattle.macros.specs.ReadCalls.{otherwise, callByte, siteOf, turned, textByte}
+use Rattle.macros.specs.ReadCalls.{otherwise, callByte, siteOf, turned, textByteBy}
 use Rattle.macros.specs.ReadReplacement.{tagByte, replacementByte}
 use Rattle.macros.specs.ReadClass.{newMember, membersByte, openedByte}
 use Rattle.macros.specs.ReadPattern.{patternByte}
@@ -60,25 +61,29 @@ unfoldable pub commandsByte : Option Mark → Front → List Action → List Cal
 commandsByte none f as₁ cs b = commandsFresh f as₁ cs b
 commandsByte (some m) f as₁ cs b = pick (b is "(") (on (calling (commandsSoFar f as₁ cs) (begun m))) (commandsFresh f as₁ cs b)
 
--- one byte of a macro's open part
-unfoldable pub partByte : Part → ℕ → Step
-partByte (calls a cs) b = callsByte a cs b
-partByte (pattern h ps) b = patternByte h ps b
-partByte (patternEscape ps) b = on (pattern (unit (literal (escaped b))) ps)
-partByte (opened ps) b = openedByte ps b
-partByte (members ps neg l ms) b = membersByte ps neg l ms b
-partByte (membersEscape ps neg l ms) b = newMember ps neg l ms (escaped b)
-partByte (patternCall m ps) b = pick (asciiLower b) (on (patternCalled m ps b)) (otherwise (patternCall m ps) b)
-partByte (patternCalled m ps i) b = pick (b is ")") (on (pattern (unit (callOf m i)) ps)) (otherwise (patternCalled m ps i) b)
-partByte (awaitSymbol ps) b = symbolByte ps b
-partByte (awaitQuote f) b = quoteByte f b
-partByte (replacement a f as₁) b = replacementByte a f as₁ b
-partByte (replacementEscape f as₁) b = on (replacement none f (text (escaped b) ∷ as₁))
-partByte (tagNumber n f as₁) b = tagByte n f as₁ b
-partByte (calling pl ph) b = turned pl ph b (callByte (siteOf pl) ph b)
-partByte (callText pl i v t) b = textByte pl i v t b
-partByte (callTextEscape pl i v t) b = on (callText pl i v (escaped b ∷ t))
-partByte (commands a f as₁ cs) b = commandsByte a f as₁ cs b
+-- one byte of a macro's open part, with texts of at most `longest` bytes
+unfoldable pub partByteBy : (longest : ℕ) → Part → ℕ → Step
+partByteBy longest (calls a cs) b = callsByte a cs b
+partByteBy longest (pattern h ps) b = patternByte h ps b
+partByteBy longest (patternEscape ps) b = on (pattern (unit (literal (escaped b))) ps)
+partByteBy longest (opened ps) b = openedByte ps b
+partByteBy longest (members ps neg l ms) b = membersByte ps neg l ms b
+partByteBy longest (membersEscape ps neg l ms) b = newMember ps neg l ms (escaped b)
+partByteBy longest (patternCall m ps) b = pick (asciiLower b) (on (patternCalled m ps b)) (otherwise (patternCall m ps) b)
+partByteBy longest (patternCalled m ps i) b = pick (b is ")") (on (pattern (unit (callOf m i)) ps)) (otherwise (patternCalled m ps i) b)
+partByteBy longest (awaitSymbol ps) b = symbolByte ps b
+partByteBy longest (awaitQuote f) b = quoteByte f b
+partByteBy longest (replacement a f as₁) b = replacementByte a f as₁ b
+partByteBy longest (replacementEscape f as₁) b = on (replacement none f (text (escaped b) ∷ as₁))
+partByteBy longest (tagNumber n f as₁) b = tagByte n f as₁ b
+partByteBy longest (calling pl ph) b = turned pl ph b (callByte (siteOf pl) ph b)
+partByteBy longest (callText pl i v t) b = textByteBy longest pl i v t b
+partByteBy longest (callTextEscape pl i v t) b = on (callText pl i v (escaped b ∷ t))
+partByteBy longest (commands a f as₁ cs) b = commandsByte a f as₁ cs b
+
+-- with texts of at most 100 bytes
+abbrev pub partByte : Part → ℕ → Step
+partByte = partByteBy mostEntryBytes
 
 -- "`/` skips to the next `/`, everywhere but in a class"; behind `\` it is literal
 unfoldable pub skips : Part → Bool

@@ -15,7 +15,7 @@ use Rattle.macros.specs.Macro.Action.{text, tag, call}
 use Rattle.macros.specs.Macro.Symbol.{equal, less}
 use Rattle.macros.specs.Read.{readFile}
 use Rattle.macros.specs.ReadFile.Read.{table}
-use Rattle.macros.specs.Cases.{everything, bytes, Case, Hold}
+use Rattle.macros.specs.Cases.{everything, bytes, oldShown, Case, Hold}
 use Rattle.macros.specs.Cases.Case.{_is_at_, _becomes_, _shortensTo_, _skips_, long}
 
 -- 01's M11 to M13
@@ -434,8 +434,8 @@ pub wrongCallsBefore : Hold (
     ∷ ("see #(2) 'a'='b';" is 16 at 6)
     ∷ ("x &(Chorus) 'a'='b';" is 16 at 4)
     ∷ ("'a'='b';#(b)" is 16 at 11)
-    ∷ (long "&(s:" 50 "x" ":)'a'='b';" 0 1)
-    ∷ (long "&(s:" 51 "x" ":)'a'='b';" 16 54) ∷ [])
+    ∷ (long "&(s:" 100 "x" ":)'a'='b';" 0 1)
+    ∷ (long "&(s:" 101 "x" ":)'a'='b';" 16 104) ∷ [])
 unfolding everything
 wrongCallsBefore = refl
 
@@ -451,23 +451,38 @@ pub spaces : Hold (
 unfolding everything
 spaces = refl
 
--- a call's text: at most 50 bytes behind escapes and skips, 16 at the 51st, at its `\` if it has one; 12 at a raw quote, `;` or line feed
+-- a call's text: at most 100 bytes behind escapes and skips, 16 at the 101st, at its `\` if it has one; 12 at a raw quote, `;` or line feed
 pub texts : Hold (
     ("'a'='&(a::)&(a:{}&#(x\\\\:)';" becomes "'a'='&(a::)&(a:\\{}\\&\\#(x\\\\:)';")
     ∷ ("'a'='&(a:x'" is 12 at 10)
     ∷ ("'a'='&(a:x;" is 12 at 10)
     ∷ ("'a'='&(a:x\n" is 12 at 10)
     ∷ ("'a'='&(a:x" is 12 at 10)
-    ∷ (long "'a'='&(a:" 50 "x" ":)';" 0 1)
-    ∷ (long "'a'='&(a:" 50 "x" "/y/:)';" 0 1)
-    ∷ (long "'a'='&(a:\\:" 49 "x" ":)';" 0 1)
-    ∷ (long "'a'='&(a:" 51 "x" "" 16 59)
-    ∷ (long "'a'='&(a:" 50 "x" "\\x" 16 59)
-    ∷ (long "'a'='&(a:" 50 "x" "'" 12 59)
-    ∷ (long "'a'='&(a:" 50 "x" ";" 12 59)
-    ∷ (long "'a'='&(a:" 50 "x" "\n" 12 59) ∷ [])
+    ∷ (long "'a'='&(a:" 100 "x" ":)';" 0 1)
+    ∷ (long "'a'='&(a:" 100 "x" "/y/:)';" 0 1)
+    ∷ (long "'a'='&(a:\\:" 99 "x" ":)';" 0 1)
+    ∷ (long "'a'='&(a:" 101 "x" "" 16 109)
+    ∷ (long "'a'='&(a:" 100 "x" "\\x" 16 109)
+    ∷ (long "'a'='&(a:" 100 "x" "'" 12 109)
+    ∷ (long "'a'='&(a:" 100 "x" ";" 12 109)
+    ∷ (long "'a'='&(a:" 100 "x" "\n" 12 109) ∷ [])
 unfolding everything
 texts = refl
+
+-- 02, N6: the same as the old engine reads, with texts of at most 50 bytes, in a replacement, a command and before a pattern
+pub oldTexts :
+    (oldShown "'a'='&(a:" 50 "x" ":)';" ≡ (0, 1)) ×
+    (oldShown "'a'='&(a:" 50 "x" "/y/:)';" ≡ (0, 1)) ×
+    (oldShown "'a'='&(a:\\:" 49 "x" ":)';" ≡ (0, 1)) ×
+    (oldShown "'a'='&(a:" 51 "x" ":)';" ≡ (16, 59)) ×
+    (oldShown "'a'='&(a:" 100 "x" ":)';" ≡ (16, 59)) ×
+    (oldShown "'a'='&(a:" 50 "x" "\\x" ≡ (16, 59)) ×
+    (oldShown "'a'='&(a:" 50 "x" "'" ≡ (12, 59)) ×
+    (oldShown "'a'='b'&(a:" 51 "x" ":);" ≡ (16, 61)) ×
+    (oldShown "&(s:" 50 "x" ":)'a'='b';" ≡ (0, 1)) ×
+    (oldShown "&(s:" 51 "x" ":)'a'='b';" ≡ (16, 54))
+unfolding everything
+oldTexts = (refl, refl, refl, refl, refl, refl, refl, refl, refl, refl)
 
 -- THE 513TH BYTE: 12 to 17 come before 18; the file's end is no byte; skipped bytes count
 pub byte513 : Hold (

@@ -192,11 +192,11 @@ module _ (b : List ℕ) (i k : ℕ) (s : IsState b) where
 
   pub store-refused : (t : List ℕ) → mostEntryBytes < length t → Changes (stores i t) b k b (Refused TagTooLong k)
   unfolding stores unless
-  store-refused t h = changes-refused TagTooLong s (λ w g. rw (lt-leb (length t) mostEntryBytes h))
+  store-refused t h = changes-refused TagTooLong s (λ w g. rw (g .inRange .entryBytes, lt-leb (length t) mostEntryBytes h))
 
   pub store-made : {b₁ : List ℕ} (t : List ℕ) → length t ≤ mostEntryBytes → OfWork b (λ w. Holds b₁ (withEntry i t w .state)) → Changes (stores i t) b k b₁ (Made k)
   unfolding stores unless
-  store-made t h o = changes-made (λ w. withEntry i t w) s (λ w g. rw (le-leb (length t) mostEntryBytes h)) (λ w. entry-kept i t w) o
+  store-made t h o = changes-made (λ w. withEntry i t w) s (λ w g. rw (g .inRange .entryBytes, le-leb (length t) mostEntryBytes h)) (λ w. entry-kept i t w) o
 
   -- THE MOVES OF A CALL
 

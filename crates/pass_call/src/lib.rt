@@ -97,12 +97,12 @@ pub fn shift(state: &mut [u8], code: u8, i: u8, first: u8, done: Outcome) -> Out
     Outcome::Made(size)
 }
 
-// 33: "a stored tag over 50 bytes".
+// 33: "a stored tag over 100 bytes".
 pub fn store(state: &mut [u8], i: u8, text: &[u8], size: usize) -> Outcome
     requires { ⌜ IsState (now state) × Letter i × Bytes (now text) ⌝ }
     ensures { λ r. ⌜ Changes (stores i (now (text .entry))) (now (state .entry)) size (now (state .exit)) r ⌝ }
 {
-    if 50 < text.len() {
+    if 100 < text.len() {
         return Outcome::Refused(WorkFault::TagTooLong, size);
     }
     set_entry(state, i, text);

@@ -43,5 +43,5 @@ pub(crate) fn set_entry(state: &mut [u8], i: u8, text: &[u8])
 {
     let at = entry_at(state, i);
     copy(state, at, text);
-    clear(state, at + text.len(), 50 - text.len());
+    clear(state, at + text.len(), 100 - text.len());
 }

@@ -97,7 +97,7 @@ fn matched(
     ensures { λ r. ⌜ Passes (now (slot .entry)) (now (line .entry)) (now (state .entry)) (now (state .exit)) (now (out .entry)) (now (out .exit)) r ⌝ }
 {
     if has_calls(items) {
-        let mut seen = [0u8; 26236];
+        let mut seen = [0u8; 52236];
         copy_state(state, &mut seen);
         return walk(
             slot,

@@ -9,7 +9,7 @@ use Rattle.macros.specs.Bounds.{mostFileBytes}
 use Rattle.macros.specs.Refusals.{FileRefusal}
 use Rattle.macros.specs.Macro.{Table}
 use Rattle.macros.specs.Formed.{Octets}
-use Rattle.macros.specs.Read.{Read, readFile}
+use Rattle.macros.specs.Read.{Read, readFile, readFileBy}
 use Rattle.macros.specs.ReadFile.Read.{refusedAt, table}
 use Rattle.macros.specs.Write.{Written, writeOut}
 use Rattle.macros.specs.Write.Written.{refused, file}
@@ -74,7 +74,7 @@ small-size ms w (long t l n) = l
 small-size ms w (full l n) = omega arith
 
 small-takes : (s : List ℕ) (ms : Table) → Octets s → readFile s ≡ table ms → Small (measured (table ms))
-unfolding measured readFile
+unfolding measured readFileBy
 small-takes s ms g e =
     let a = read-keeps [] s ms none-accepted g e .accepted in
     let k = each-one Spellable ms (each-spellable a) in (
@@ -85,7 +85,7 @@ small-takes s ms g e =
     )
 
 pub measures-small : MeasuresSmall
-unfolding measure measured readFile
+unfolding measure measured readFileBy
 measures-small s g = by (readFile s) refl
   where
     by : (r : Read) → readFile s ≡ r → Small (measured r)

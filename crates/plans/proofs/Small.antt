@@ -17,7 +17,7 @@ use Rattle.macros.specs.Macro.{Closure, PatternUnit, Piece, Macro, Table, pick,
 use Rattle.macros.specs.Macro.PatternUnit.{literal, kind, class, callOf}
 use Rattle.macros.specs.Macro.Piece.{element, start, end, left, right}
 use Rattle.macros.specs.Formed.{FormedPieces}
-use Rattle.macros.specs.Read.{Joinable, Next, Reader, step, atEnd, readFrom, firstZero, readOnto}
+use Rattle.macros.specs.Read.{Joinable, Next, Reader, step, atEnd, readFrom, firstZero, readOnto, readFromBy, readOntoBy}
 use Rattle.macros.specs.ReadSoFar.Joinable.{nothing}
 use Rattle.macros.specs.ReadFile.Pending.{clear}
 use Rattle.macros.specs.ReadFile.Reader.{between, inside}
@@ -100,7 +100,7 @@ end-within q (between false a ms) c p e = no-table e
 end-within q (inside skip n st pr) c p e = let z = same-place e .1 in omega arith
 
 from-within : (s : List ℕ) (q : ℕ) (r : Reader) (c : FileRefusal) (p : ℕ) → readFrom q r s ≡ refusedAt c p → p ≤ q + length s
-unfolding readFrom
+unfolding readFromBy
 from-within [] q r c p e = let z = end-within q r c p e in omega arith
 from-within (b ∷ s) q r c p e = by (step r b) refl (λ x f. from-within s (suc q) x c p f)
   where
@@ -119,7 +119,7 @@ zero-within q (b ∷ s) p e = by (eqb b 0) e (λ f. zero-within (suc q) s p f)
     by false f ih = unfold pick in let z = ih f in omega arith
 
 pub onto-within : (older : Table) (s : List ℕ) (c : FileRefusal) (p : ℕ) → readOnto older s ≡ refusedAt c p → p ≤ mostFileBytes
-unfolding readOnto
+unfolding readOntoBy
 onto-within older s c p e = by (ltb mostFileBytes (length s)) (firstZero 0 s) refl refl e
   where
     by : (x : Bool) (o : Option ℕ) → ltb mostFileBytes (length s) ≡ x → firstZero 0 s ≡ o

@@ -81,9 +81,9 @@ parts-refused (suc n) h = refl
 
 -- THE FRESH STATE
 
-pub fresh-state : {answer : Answer} {state : List ℕ} (old : List ℕ) → length old ≡ 26236 → Gives (freshens old) answer state → state ≡ stateForm fresh
+pub fresh-state : {answer : Answer} {state : List ℕ} (old : List ℕ) → length old ≡ 52236 → Gives (freshens old) answer state → state ≡ stateForm fresh
 unfolding freshens takes pick
-fresh-state old h g = g .holds ∙ rw (eq-eqb (length old) 26236 h) refl
+fresh-state old h g = g .holds ∙ rw (eq-eqb (length old) 52236 h) refl
 
 pub fresh-lines : {table state table′ state′ block′ line′ out′ : List ℕ} → state ≡ stateForm fresh → LinesDone table state (replicate 65536 0) (replicate 1055 0) (replicate 65536 0) table′ state′ block′ line′ out′ → FreshLines table table′
 fresh-lines {table = table} {table′ = table′} {state′ = state′} {block′ = block′} {line′ = line′} {out′ = out′} e l =

@@ -45,7 +45,7 @@ fn answer_lines(table: &mut [u8; 98304])
     requires { ⌜ SomeTable (now table) ⌝ }
     ensures { λ _. ⌜ FreshLines (now (table .entry)) (now (table .exit)) ⌝ }
 {
-    let mut state: [u8; 26236] = [0; 26236];
+    let mut state: [u8; 52236] = [0; 52236];
     m7::fresh::m7_fresh(&mut state);
     let mut block: [u8; 65536] = [0; 65536];
     let mut line: [u8; 1055] = [0; 1055];
@@ -56,7 +56,7 @@ fn answer_lines(table: &mut [u8; 98304])
 // The lines to the end of the input, numbered from 1. The trace's memory is lent to every line; nothing of it is said.
 fn each_line(
     table: &mut [u8; 98304],
-    state: &mut [u8; 26236],
+    state: &mut [u8; 52236],
     block: &mut [u8; 65536],
     line: &mut [u8],
     out: &mut [u8; 65536],
@@ -95,7 +95,7 @@ fn write_held(out: &[u8], used: usize)
 // Feeds the line that is held, and puts what there is to say.
 fn answer_line(
     table: &mut [u8; 98304],
-    state: &mut [u8; 26236],
+    state: &mut [u8; 52236],
     line: &[u8],
     held: usize,
     number: u64,

@@ -15,6 +15,7 @@ use Rattle.macros.specs.Macro.{Mark, Action, pick, among, within, digit, markBy
 use Rattle.macros.specs.Macro.Mark.{stack, counter}
 use Rattle.macros.specs.Macro.Action.{text, tag, call}
 use Rattle.macros.specs.Read.{Prior, Step, Front, partByte, skips, replacementByte, replacementFresh, tagByte, tagEnd, breaks, escaped, siteOf, piecesOf, behindCall}
+use Rattle.macros.specs.Read.{partByteBy}
 use Rattle.macros.specs.ReadSoFar.Part.{replacement, replacementEscape, tagNumber, calling, commands}
 use Rattle.macros.specs.ReadSoFar.CallSite.{replacementSoFar}
 use Rattle.macros.specs.ReadSoFar.Site.{inReplacement}
@@ -102,37 +103,37 @@ unfolding skips
 part-skips m f l = refl
 
 part-escape : (f : Front) (l : List Action) → partByte (replacement none f l) 92 ≡ on (replacementEscape f l)
-unfolding partByte replacementByte replacementFresh pick breaks among
+unfolding partByteBy replacementByte replacementFresh pick breaks among
 part-escape f l = refl
 
 part-tag : (f : Front) (l : List Action) → partByte (replacement none f l) 123 ≡ on (tagNumber none f l)
-unfolding partByte replacementByte replacementFresh pick breaks among
+unfolding partByteBy replacementByte replacementFresh pick breaks among
 part-tag f l = refl
 
 part-mark : (m : Mark) (f : Front) (l : List Action) → partByte (replacement none f l) (markByte m) ≡ on (replacement (some m) f l)
-unfolding partByte replacementByte replacementFresh pick breaks among markByte
+unfolding partByteBy replacementByte replacementFresh pick breaks among markByte
 part-mark stack f l = refl
 part-mark counter f l = refl
 
 part-quote : (f : Front) (l : List Action) (b : ℕ) → b ≡ 39 → partByte (replacement none f l) b ≡ on (commands none f l [])
-unfolding partByte replacementByte replacementFresh pick
+unfolding partByteBy replacementByte replacementFresh pick
 part-quote f l b e = rw e refl
 
 part-break : (f : Front) (l : List Action) (b : ℕ) → (b ≡ 39 → ⊥) → breaks b ≡ true → partByte (replacement none f l) b ≡ stop incomplete
-unfolding partByte replacementByte replacementFresh pick
+unfolding partByteBy replacementByte replacementFresh pick
 part-break f l b e g = simp (ne-eqb _ _ e, g)
 
 part-literal : (f : Front) (l : List Action) (b : ℕ) → (b ≡ 39 → ⊥) → breaks b ≡ false → (b ≡ 92 → ⊥) → (b ≡ 123 → ⊥) → (b ≡ 38 → ⊥) → (b ≡ 35 → ⊥)
     → partByte (replacement none f l) b ≡ on (replacement none f (text b ∷ l))
-unfolding partByte replacementByte replacementFresh pick
+unfolding partByteBy replacementByte replacementFresh pick
 part-literal f l b e g h i j k = simp (ne-eqb _ _ e, g, ne-eqb _ _ h, ne-eqb _ _ i, ne-eqb _ _ j, ne-eqb _ _ k)
 
 mark-call : (m : Mark) (f : Front) (l : List Action) (b : ℕ) → b ≡ 40 → partByte (replacement (some m) f l) b ≡ on (calling (replacementSoFar f l) (begun m))
-unfolding partByte replacementByte pick
+unfolding partByteBy replacementByte pick
 mark-call m f l b e = rw e refl
 
 mark-other : (m : Mark) (f : Front) (l : List Action) (b : ℕ) → (b ≡ 40 → ⊥) → partByte (replacement (some m) f l) b ≡ partByte (replacement none f (text (markByte m) ∷ l)) b
-unfolding partByte replacementByte pick
+unfolding partByteBy replacementByte pick
 mark-other m f l b e = simp (ne-eqb _ _ e)
 
 text-items : (b : ℕ) → actionItems (text b) ≡ 40 ∷ b ∷ []
@@ -168,7 +169,7 @@ module _ {s : List ℕ} {a p b : ℕ} (old out : List ℕ) (n k : ℕ) (x : Here
 
 escape-on : {s : List ℕ} {a p d : ℕ} → At s a p d → (f : Front) (l : List Action) (pr : Prior)
     → run s a pr false p (replacementEscape f l) ≡ run s a pr false (p + 1) (replacement none f (text (escaped d) ∷ l))
-unfolding partByte skips
+unfolding partByteBy skips
 escape-on {s} {a} {p} {d} x f l pr = at-on x pr (replacementEscape f l) (replacement none f (text (escaped d) ∷ l)) (λ q o. refl) refl refl
 
 module _ {s : List ℕ} {a p : ℕ} (old out : List ℕ) (n : ℕ) (x : Here s a p 92) {r : Next} (y : Stays s a (p + 1) r) where
@@ -237,7 +238,7 @@ stray x z true = refl
 stray x z false = refl
 
 tag-stray : (o : Option ℕ) (f : Front) (l : List Action) (b : ℕ) → digit b ≡ false → (b ≡ 125 → ⊥) → partByte (tagNumber o f l) b ≡ stop (wrongTag b)
-unfolding partByte tagByte wrongTag
+unfolding partByteBy tagByte wrongTag
 tag-stray o f l b h e = simp (h, ne-eqb _ _ e) (stray _ (tagEnd o f l) (eqb b 59 || eqb b 10))
 
 wrong-brace : faultOf BadCall ≡ wrongTag 125
@@ -249,15 +250,15 @@ unfolding digit within
 digit-brace = refl
 
 tag-empty : (f : Front) (l : List Action) → partByte (tagNumber none f l) 125 ≡ stop badCall
-unfolding partByte tagByte tagEnd pick
+unfolding partByteBy tagByte tagEnd pick
 tag-empty f l = simp digit-brace
 
 tag-no : (w : ℕ) (f : Front) (l : List Action) → within 1 (tags (f .pieces)) w ≡ false → partByte (tagNumber (some w) f l) 125 ≡ stop badCall
-unfolding partByte tagByte tagEnd pick
+unfolding partByteBy tagByte tagEnd pick
 tag-no w f l h = simp (digit-brace, h)
 
 tag-yes : (w : ℕ) (f : Front) (l : List Action) → within 1 (tags (f .pieces)) w ≡ true → partByte (tagNumber (some w) f l) 125 ≡ on (replacement none f (tag w ∷ l))
-unfolding partByte tagByte tagEnd pick
+unfolding partByteBy tagByte tagEnd pick
 tag-yes w f l h = simp (digit-brace, h)
 
 pub counted-at : (s : List ℕ) (a p : ℕ) {r : Number} {v : ℕ} {m : Bool} {b q : ℕ} → Counts s a p false r → r ≡ Got v m b q → Counts s a p false (Got v m b q)

@@ -11,7 +11,7 @@ use lib.ListN.{length}
 use borrow.Author.Tests.{ne-eqb}
 use Rattle.macros.specs.Refusals.FileRefusal.{incomplete}
 use Rattle.macros.specs.Macro.{Piece, pick}
-use Rattle.macros.specs.Read.{Part, Prior, Front, partByte, skips, symbolByte, quoteByte}
+use Rattle.macros.specs.Read.{Part, Prior, Front, partByte, skips, symbolByte, quoteByte, partByteBy}
 use Rattle.macros.specs.ReadSoFar.Part.{awaitSymbol, awaitQuote, replacement}
 use Rattle.macros.specs.ReadSoFar.Step.{on, stop}
 use Rattle.read_scan.specs.Scan.{run, Here, Passes}
@@ -33,23 +33,23 @@ unfolding skips
 symbol-skips ps = refl
 
 symbol-equal : (ps : List Piece) (b : ℕ) → b ≡ 61 → partByte (awaitSymbol ps) b ≡ on (awaitQuote (record { pieces = ps; symbol = symbolOf b }))
-unfolding partByte symbolByte symbolOf pick
+unfolding partByteBy symbolByte symbolOf pick
 symbol-equal ps b e = rw e refl
 
 symbol-less : (ps : List Piece) (b : ℕ) → b ≡ 60 → partByte (awaitSymbol ps) b ≡ on (awaitQuote (record { pieces = ps; symbol = symbolOf b }))
-unfolding partByte symbolByte symbolOf pick
+unfolding partByteBy symbolByte symbolOf pick
 symbol-less ps b e = rw e refl
 
 symbol-quote : (ps : List Piece) (b : ℕ) → b ≡ 39 → partByte (awaitSymbol ps) b ≡ stop incomplete
-unfolding partByte symbolByte pick
+unfolding partByteBy symbolByte pick
 symbol-quote ps b e = rw e refl
 
 symbol-end : (ps : List Piece) (b : ℕ) → b ≡ 59 → partByte (awaitSymbol ps) b ≡ stop incomplete
-unfolding partByte symbolByte pick
+unfolding partByteBy symbolByte pick
 symbol-end ps b e = rw e refl
 
 symbol-other : (ps : List Piece) (b : ℕ) → (b ≡ 61 → ⊥) → (b ≡ 60 → ⊥) → (b ≡ 39 → ⊥) → (b ≡ 59 → ⊥) → partByte (awaitSymbol ps) b ≡ on (awaitSymbol ps)
-unfolding partByte symbolByte pick
+unfolding partByteBy symbolByte pick
 symbol-other ps b e f g h = simp (ne-eqb _ _ e, ne-eqb _ _ f, ne-eqb _ _ g, ne-eqb _ _ h)
 
 module _ (s : List ℕ) (a p v : ℕ) (g : Waits s a awaitSymbol p v) (l : p ≤ v) {r : Next} (y : Passes s a v r) where
@@ -95,15 +95,15 @@ unfolding skips
 quote-skips f = refl
 
 quote-quote : (f : Front) (b : ℕ) → b ≡ 39 → partByte (awaitQuote f) b ≡ on (replacement none f [])
-unfolding partByte quoteByte pick
+unfolding partByteBy quoteByte pick
 quote-quote f b e = rw e refl
 
 quote-end : (f : Front) (b : ℕ) → b ≡ 59 → partByte (awaitQuote f) b ≡ stop incomplete
-unfolding partByte quoteByte pick
+unfolding partByteBy quoteByte pick
 quote-end f b e = rw e refl
 
 quote-other : (f : Front) (b : ℕ) → (b ≡ 39 → ⊥) → (b ≡ 59 → ⊥) → partByte (awaitQuote f) b ≡ on (awaitQuote f)
-unfolding partByte quoteByte pick
+unfolding partByteBy quoteByte pick
 quote-other f b g h = simp (ne-eqb _ _ g, ne-eqb _ _ h)
 
 module _ (s : List ℕ) (a p v : ℕ) (g : Waits s a awaitQuote p v) (l : p ≤ v) {r : Next} (y : Passes s a v r) where

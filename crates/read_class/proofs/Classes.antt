@@ -13,7 +13,7 @@ use Rattle.macros.specs.Refusals.FileRefusal.{incomplete, badClass}
 use Rattle.macros.specs.Macro.{Member, Piece, pick, among, isRange}
 use Rattle.macros.specs.Macro.Member.{single, range}
 use Rattle.macros.specs.Macro.PatternUnit.{class}
-use Rattle.macros.specs.Read.{Part, Prior, Last, partByte, skips, newMember, membersByte, breaks, escaped, dashes, dashed, membersAtEnd, classEnd}
+use Rattle.macros.specs.Read.{Part, Prior, Last, partByteBy, skips, newMember, membersByte, breaks, escaped, dashes, dashed, membersAtEnd, classEnd}
 use Rattle.macros.specs.ReadSoFar.Joinable.{unit}
 use Rattle.macros.specs.ReadSoFar.Last.{free, member, dash}
 use Rattle.macros.specs.ReadSoFar.Part.{pattern, members, membersEscape}
@@ -48,19 +48,19 @@ no-bracket f e = true≢false (sym f ∙ ap breaks e)
 -- the step of the members at the place p
 module _ {s : List ℕ} {a p b : ℕ} (x : At s a p b) (ps : List Piece) (neg : Bool) (l : Last) (xs : List Member) (pr : Prior) where
   pub member-on : (st : Part) → membersByte ps neg l xs b ≡ on st → run s a pr false p (members ps neg l xs) ≡ run s a pr false (p + 1) st
-  unfolding partByte skips
+  unfolding partByteBy skips
   member-on st e = at-on x pr (members ps neg l xs) st (λ q o. refl) refl e
 
   pub member-stop : (k : FileRefusal) → membersByte ps neg l xs b ≡ stop k → run s a pr false p (members ps neg l xs) ≡ refusedAt k p
-  unfolding partByte skips
+  unfolding partByteBy skips
   member-stop k e = at-stop x pr (members ps neg l xs) k refl e
 
   escaped-on : (st : Part) → newMember ps neg l xs (escaped b) ≡ on st → run s a pr false p (membersEscape ps neg l xs) ≡ run s a pr false (p + 1) st
-  unfolding partByte skips
+  unfolding partByteBy skips
   escaped-on st e = at-on x pr (membersEscape ps neg l xs) st (λ q o. refl) refl e
 
   escaped-stop : (k : FileRefusal) → newMember ps neg l xs (escaped b) ≡ stop k → run s a pr false p (membersEscape ps neg l xs) ≡ refusedAt k p
-  unfolding partByte skips
+  unfolding partByteBy skips
   escaped-stop k e = at-stop x pr (membersEscape ps neg l xs) k refl e
 
   member-escape : b ≡ 92 → run s a pr false p (members ps neg l xs) ≡ run s a pr false (p + 1) (membersEscape ps neg l xs)

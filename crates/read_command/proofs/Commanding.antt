@@ -12,6 +12,7 @@ use Rattle.macros.specs.Refusals.FileRefusal.{incomplete}
 use Rattle.macros.specs.Macro.{Mark, Call, pick, markByte, tags}
 use Rattle.macros.specs.Macro.Mark.{stack, counter}
 use Rattle.macros.specs.Read.{Part, Prior, CallSite, partByte, skips, callsByte, callsFresh, commandsByte, commandsFresh, siteOf, piecesOf, behindCall}
+use Rattle.macros.specs.Read.{partByteBy}
 use Rattle.macros.specs.ReadSoFar.Part.{calling}
 use Rattle.macros.specs.ReadSoFar.Site.{beforePattern}
 use Rattle.macros.specs.ReadSoFar.CallSite.{callsSoFar, commandsSoFar}
@@ -108,12 +109,12 @@ noted-listed true x m cs st q o = refl
 noted-listed false x m cs st q o = refl
 
 command-stray : (d : Bool) (x : Ahead d) (cs : List Call) (b : ℕ) → b ≡ strayByte d → partByte (listed d x none cs) b ≡ stop incomplete
-unfolding partByte callsByte callsFresh commandsByte commandsFresh pick
+unfolding partByteBy callsByte callsFresh commandsByte commandsFresh pick
 command-stray true x cs b e = rw e refl
 command-stray false x cs b e = rw e refl
 
 command-mark : (d : Bool) (m : Mark) (x : Ahead d) (cs : List Call) → partByte (listed d x none cs) (markByte m) ≡ on (listed d x (some m) cs)
-unfolding partByte callsByte callsFresh commandsByte commandsFresh pick markByte
+unfolding partByteBy callsByte callsFresh commandsByte commandsFresh pick markByte
 command-mark true stack x cs = refl
 command-mark true counter x cs = refl
 command-mark false stack x cs = refl
@@ -121,7 +122,7 @@ command-mark false counter x cs = refl
 
 command-other : (d : Bool) (x : Ahead d) (cs : List Call) (b : ℕ) → (b ≡ lastByte d → ⊥) → (b ≡ strayByte d → ⊥) → (b ≡ 38 → ⊥) → (b ≡ 35 → ⊥)
     → partByte (listed d x none cs) b ≡ on (listed d x none cs)
-unfolding partByte callsByte callsFresh commandsByte commandsFresh pick
+unfolding partByteBy callsByte callsFresh commandsByte commandsFresh pick
 command-other true x cs b e g h i = simp (ne-eqb _ _ e, ne-eqb _ _ g, ne-eqb _ _ h, ne-eqb _ _ i)
 command-other false x cs b e g h i = simp (ne-eqb _ _ e, ne-eqb _ _ g, ne-eqb _ _ h, ne-eqb _ _ i)
 
@@ -146,12 +147,12 @@ sited-behind true x cs c = refl
 sited-behind false x cs c = refl
 
 mark-call : (d : Bool) (m : Mark) (x : Ahead d) (cs : List Call) (b : ℕ) → b ≡ 40 → partByte (listed d x (some m) cs) b ≡ on (calling (sited d x cs) (begun m))
-unfolding partByte callsByte commandsByte pick
+unfolding partByteBy callsByte commandsByte pick
 mark-call true m x cs b e = rw e refl
 mark-call false m x cs b e = rw e refl
 
 mark-other : (d : Bool) (m : Mark) (x : Ahead d) (cs : List Call) (b : ℕ) → (b ≡ 40 → ⊥) → partByte (listed d x (some m) cs) b ≡ partByte (listed d x none cs) b
-unfolding partByte callsByte commandsByte pick
+unfolding partByteBy callsByte commandsByte pick
 mark-other true m x cs b e = simp (ne-eqb _ _ e)
 mark-other false m x cs b e = simp (ne-eqb _ _ e)
 

@@ -12,7 +12,7 @@ use borrow.Author.Tests.{lt-ltb, le-ltb}
 use Rattle.macros.specs.Refusals.{FileRefusal}
 use Rattle.macros.specs.Refusals.FileRefusal.{fileTooLong, zeroByte}
 use Rattle.macros.specs.Macro.{Table, pick}
-use Rattle.macros.specs.Read.{readFrom, readOnto, firstZero}
+use Rattle.macros.specs.Read.{readFrom, readOnto, firstZero, readOntoBy}
 use Rattle.macros.specs.ReadFile.Pending.{clear}
 use Rattle.macros.specs.ReadFile.Reader.{between}
 use Rattle.macros.specs.ReadFile.Read.{refusedAt, table}
@@ -37,15 +37,15 @@ use Rattle.read_file.proofs.Adding.{slots-append}
 -- THE WHOLE FILE FIRST
 
 too-long : (ms : Table) (s : List ℕ) → 32768 < length s → readOnto ms s ≡ refusedAt fileTooLong 32768
-unfolding readOnto pick
+unfolding readOntoBy pick
 too-long ms s h = rw (lt-ltb _ _ h) refl
 
 with-zero : (ms : Table) (s : List ℕ) (p : ℕ) → length s ≤ 32768 → firstZero 0 s ≡ some p → readOnto ms s ≡ refusedAt zeroByte p
-unfolding readOnto pick
+unfolding readOntoBy pick
 with-zero ms s p h e = rw (le-ltb _ _ h, e) refl
 
 fresh : (ms : Table) (s : List ℕ) → length s ≤ 32768 → firstZero 0 s ≡ none → readOnto ms s ≡ readFrom 0 (between false clear (reverse ms)) s
-unfolding readOnto pick
+unfolding readOntoBy pick
 fresh ms s h e = rw (le-ltb _ _ h, e) refl
 
 abbrev pub Refuses : FileTest → Type 0

@@ -13,6 +13,7 @@ use borrow.Author.Tests.{lt-ltb, le-ltb, ne-eqb}
 use Rattle.macros.specs.Refusals.FileRefusal.{macroTooLong}
 use Rattle.macros.specs.Macro.{Macro, Action, Call, pick, tags}
 use Rattle.macros.specs.Read.{Front, Prior, Reader, step, skips, partByte, taken, count, macroOf, noCalls, callsByte, callsFresh, commandsByte, commandsFresh}
+use Rattle.macros.specs.Read.{stepBy, partByteBy}
 use Rattle.macros.specs.ReadSoFar.CallSite.{callsSoFar}
 use Rattle.macros.specs.ReadSoFar.Phase.{begun}
 use Rattle.macros.specs.ReadSoFar.Part.{calls, calling, awaitSymbol, replacement, commands}
@@ -48,11 +49,11 @@ use Rattle.form_items.proofs.Writing.{wrote-none, wrote-behind, wrote-all}
 -- AT THE `;`
 
 done-byte : (f : Front) (l : List Action) (cs : List Call) → partByte (commands none f l cs) 59 ≡ done f l cs
-unfolding partByte commandsByte commandsFresh pick
+unfolding partByteBy commandsByte commandsFresh pick
 done-byte f l cs = refl
 
 done-step : (n : ℕ) (f : Front) (l : List Action) (cs : List Call) (pr : Prior) → step (inside false n (commands none f l cs) pr) 59 ≡ count n (between false clear (macroOf (pr .calls) f l cs ∷ pr .macros))
-unfolding step pick skips taken
+unfolding stepBy pick skips taken
 done-step n f l cs pr = rw (done-byte f l cs) refl
 
 count-go : (n : ℕ) (r : Reader) → n < 512 → count n r ≡ go r
@@ -140,7 +141,7 @@ module _ (s : List ℕ) (a p : ℕ) (o₁ : List ℕ) (b n i t : ℕ) (o₂ : Li
 -- THE CALLS BEFORE THE PATTERN
 
 opens-byte : (cs : List Call) → partByte (calls none cs) 39 ≡ opens cs
-unfolding partByte callsByte callsFresh pick
+unfolding partByteBy callsByte callsFresh pick
 opens-byte cs = refl
 
 module _ (s : List ℕ) (a p : ℕ) (old : List ℕ) where

@@ -11,6 +11,7 @@ use borrow.Author.Tests.{ne-eqb, lt-ltb, le-ltb, ltb-true, ltb-false, leb-true}
 use Rattle.macros.specs.Macro.{Mark, Action, pick, within, asciiLower, digit}
 use Rattle.macros.specs.Macro.Mark.{stack}
 use Rattle.macros.specs.Read.{Part, Prior, Front, CallSite, partByte, skips, andDigit, tagByte, turned, callByte, siteOf, mayStoreTag, otherwise, isSign}
+use Rattle.macros.specs.Read.{partByteBy}
 use Rattle.macros.specs.ReadSoFar.Step.{on}
 use Rattle.macros.specs.ReadSoFar.Part.{tagNumber, calling}
 use Rattle.macros.specs.ReadSoFar.Phase.{equals, increment, divisor, begun, tagged}
@@ -67,19 +68,19 @@ digit-high {b} e = leb-true _ _ (and-right (leb 48 b) _ e)
 
 -- `{n}` and the calls take digits
 pub eats-tag : (f : Front) (xs : List Action) → Eats false (λ o. tagNumber o f xs)
-unfolding partByte skips tagByte pick
+unfolding partByteBy skips tagByte pick
 eats-tag f xs = record { skipping = λ o. refl; digits = λ o b e. simp e; spaces = λ o e. absurd (true≢false (sym e)); within = λ o u q r. refl }
 
 pub eats-equals : (pl : CallSite) (m : Mark) (i : ℕ) → Eats true (λ o. calling pl (equals m i o))
-unfolding partByte skips pick turned callByte otherwise digit within
+unfolding partByteBy skips pick turned callByte otherwise digit within
 eats-equals pl m i = record { skipping = λ o. refl; digits = λ o b e. simp e; spaces = λ o e. refl; within = λ o u q r. refl }
 
 pub eats-increment : (pl : CallSite) (i : ℕ) → Eats true (λ o. calling pl (increment i o))
-unfolding partByte skips pick turned callByte otherwise digit within
+unfolding partByteBy skips pick turned callByte otherwise digit within
 eats-increment pl i = record { skipping = λ o. refl; digits = λ o b e. simp e; spaces = λ o e. refl; within = λ o u q r. refl }
 
 pub eats-divisor : (pl : CallSite) (i : ℕ) → Eats true (λ o. calling pl (divisor i o))
-unfolding partByte skips pick turned callByte otherwise digit within
+unfolding partByteBy skips pick turned callByte otherwise digit within
 eats-divisor pl i = record { skipping = λ o. refl; digits = λ o b e. simp e; spaces = λ o e. refl; within = λ o u q r. refl }
 
 -- behind `&(`, the number of a tag, where one may be stored
@@ -88,7 +89,7 @@ tagState pl none = calling pl (begun stack)
 tagState pl (some n) = calling pl (tagged n)
 
 pub eats-tagged : (pl : CallSite) → mayStoreTag (siteOf pl) ≡ true → Eats true (tagState pl)
-unfolding partByte skips pick turned callByte otherwise digit within isSign asciiLower andDigit
+unfolding partByteBy skips pick turned callByte otherwise digit within isSign asciiLower andDigit
 eats-tagged pl h = record { skipping = skipped; digits = took; spaces = spaced; within = inner }
   where
     skipped : (o : Option ℕ) → skips (tagState pl o) ≡ true

@@ -14,7 +14,7 @@ use Rattle.macros.specs.Bounds.{mostFileBytes}
 use Rattle.macros.specs.Refusals.{FileRefusal}
 use Rattle.macros.specs.Macro.{Macro, Table, pick}
 use Rattle.macros.specs.Formed.{Byte, Bytes, Octets}
-use Rattle.macros.specs.Read.{Part, Pending, Prior, Reader, Next, step, atEnd, readFrom, readOnto, firstZero, noCalls}
+use Rattle.macros.specs.Read.{Part, Pending, Prior, Reader, Next, step, atEnd, readFromBy, readOnto, firstZero, noCalls}
 use Rattle.macros.specs.ReadFile.Pending.{clear}
 use Rattle.macros.specs.ReadFile.Reader.{between, inside}
 use Rattle.macros.specs.ReadFile.Next.{go, refuse, refuseBefore}
@@ -134,7 +134,7 @@ module _ (s : List ℕ) (h : length s ≤ mostFileBytes) (g : Bytes s) (p : ℕ)
   short = omega (arith, length-drop p s, ap length (found .split), length-append (found .upto) (found .rest))
 
   read-alone : readOnto (reverse ms) (found .upto) ≡ table (reverse ms ++ (m ∷ []))
-  unfolding readFrom atEnd pick
+  unfolding readFromBy atEnd pick
   read-alone =
       let a = read-after (found .upto) [] 0 (between false clear ms) (between false clear (m ∷ ms)) (found .comes) in
       read-plain (reverse ms) (found .upto) (short, no-zeros (found .upto) alone)

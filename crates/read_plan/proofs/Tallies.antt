@@ -14,7 +14,7 @@ use Rattle.macros.specs.Bounds.{mostFileBytes}
 use Rattle.macros.specs.Refusals.{FileRefusal}
 use Rattle.macros.specs.Macro.{Macro, Table, pick}
 use Rattle.macros.specs.Formed.{Bytes}
-use Rattle.macros.specs.Read.{readFrom, readOnto, readFile, firstZero}
+use Rattle.macros.specs.Read.{readFrom, readOnto, readFile, firstZero, readFileBy}
 use Rattle.macros.specs.ReadFile.Pending.{clear}
 use Rattle.macros.specs.ReadFile.Reader.{between}
 use Rattle.macros.specs.ReadFile.Read.{refusedAt, table}
@@ -95,7 +95,7 @@ pub record Tally (s : List ℕ) (p n e t : ℕ) (w : Answer) : Type 0 where
   pub reads : readFile s ≡ readFrom p (between false clear (reverse macros)) (drop p s)
 
 pub tally-none : (s : List ℕ) → length s ≤ mostFileBytes → Bytes s → Tally s 0 0 0 0 (WrittenOut 0)
-unfolding most meaning reply writeOut writeFrom readFile
+unfolding most meaning reply writeOut writeFrom readFileBy
 tally-none s h g = record { macros = []; counted = refl; elements = refl; tags = refl; written = refl; reads = read-plain [] s (h, no-zeros s g) }
 
 -- the slot is the macro's
@@ -175,7 +175,7 @@ none-accepted : Accepted []
 none-accepted = record { count = omega arith; macros = tt }
 
 pub whole-refused : (s : List ℕ) (t : FileTest) {a : Numbers} → WholeFile s t → Refuses t → a ≡ unplain t → meant a ≡ measure s
-unfolding measure measured readFile
+unfolding measure measured readFileBy
 whole-refused s t x k e = ap meant e ∙ by t x k
   where
     by : (t : FileTest) → WholeFile s t → Refuses t → meant (unplain t) ≡ measure s

@@ -14,6 +14,7 @@ use Rattle.macros.specs.Refusals.{FileRefusal}
 use Rattle.macros.specs.Refusals.FileRefusal.{incomplete, badCall, macroTooLong}
 use Rattle.macros.specs.Macro.{Call, Macro, pick}
 use Rattle.macros.specs.Read.{Part, Step, Pending, Prior, Reader, Next as Stepped, readFrom, step, partByte, taken, count, macroOf, skips, atEnd, breaks, otherwise}
+use Rattle.macros.specs.Read.{readFromBy, stepBy}
 use Rattle.macros.specs.ReadSoFar.Joinable.{nothing}
 use Rattle.macros.specs.ReadSoFar.Part.{calls, pattern, patternEscape, opened, members, membersEscape, patternCall, patternCalled, awaitSymbol, awaitQuote, replacement, replacementEscape, tagNumber, calling, callText, callTextEscape, commands}
 use Rattle.macros.specs.ReadSoFar.Step.{on, opens, done, stop}
@@ -30,12 +31,12 @@ use Rattle.read_scan.specs.declared.Next.{Next as CodeNext}
 use Rattle.read_scan.specs.declared.Next.the-variants.{Byte, Refused as NoByte}
 
 pub read-go : (p : ℕ) (r r′ : Reader) (b : ℕ) (bs : List ℕ) → step r b ≡ go r′ → readFrom p r (b ∷ bs) ≡ readFrom (suc p) r′ bs
-unfolding readFrom
-read-go p r r′ b bs e = rw (e, readFrom)
+unfolding readFromBy
+read-go p r r′ b bs e = rw (e, readFromBy)
 
 pub read-refuse : (p : ℕ) (k : FileRefusal) (r : Reader) (b : ℕ) (bs : List ℕ) → step r b ≡ refuse k → readFrom p r (b ∷ bs) ≡ fileRefusedAt k p
-unfolding readFrom
-read-refuse p k r b bs e = rw (e, readFrom)
+unfolding readFromBy
+read-refuse p k r b bs e = rw (e, readFromBy)
 
 -- from a part to itself
 pub noted-same : (st : Part) (q : ℕ) (o : MacroRead) → noted st st q o ≡ o
@@ -115,7 +116,7 @@ taken-shape pr n (done f as₁ ks) = count-shape (pr .macros) n (between false c
 taken-shape pr n (stop c) = tt
 
 step-shape : (pr : Prior) (k : Bool) (n : ℕ) (st : Part) (b : ℕ) → Shape (pr .macros) (step (inside k n st pr) b)
-unfolding step
+unfolding stepBy
 step-shape pr k n st b =
     let ms = pr .macros in
     pick-shape ms (skips st && eqb b 47) (count n (inside (not k) (suc n) st pr)) (pick k (count n (inside true (suc n) st pr)) (taken n pr (partByte st b)))
@@ -177,7 +178,7 @@ behind-byte s pr p k n st b bs e f (refuse c) h g = read-refuse p c _ b bs g ∙
 behind-byte s pr p k n st b bs e f (refuseBefore c j) h g = absurd h
 
 pub read-after : (s : List ℕ) (pr : Prior) (p : ℕ) (k : Bool) (n : ℕ) (st : Part) (bs : List ℕ) → bs ≡ drop p s → readFrom p (inside k n st pr) bs ≡ after s (pr .macros) (readMacro pr p k n st bs)
-unfolding readFrom atEnd readMacro after
+unfolding readFromBy atEnd readMacro after
 read-after s pr p k n st [] e = refl
 read-after s pr p k n st (b ∷ bs) e =
     let e′ : bs ≡ drop (suc p) s = ap (drop 1) e ∙ (drop-drop 1 p s ∙ ap (λ (j : ℕ). drop j s) (add-one p)) in
@@ -232,27 +233,27 @@ module _ {s : List ℕ} {a p b : ℕ} (x : At s a p b) (pr : Prior) where
 
   -- a slash, in a state that has skips
   pub at-slash : (k : Bool) (st : Part) → skips st ≡ true → b ≡ 47 → run s a pr k p st ≡ run s a pr (not k) (p + 1) st
-  unfolding step pick
+  unfolding stepBy pick
   at-slash k st f e = counted k (not k) st st pr (noted-same st) (simp (f, e))
 
   -- any other byte in a skip
   pub at-within : (st : Part) → (b ≡ 47 → ⊥) → run s a pr true p st ≡ run s a pr true (p + 1) st
-  unfolding step pick
+  unfolding stepBy pick
   at-within st e = counted true true st st pr (noted-same st) (simp (ne-eqb _ _ e, and-false))
 
   -- a byte outside of a skip, in a state where it begins none
   pub at-on : (st st′ : Part) → ((q : ℕ) (o : MacroRead) → noted st st′ q o ≡ o) → (skips st && eqb b 47) ≡ false → partByte st b ≡ on st′ → run s a pr false p st ≡ run s a pr false (p + 1) st′
-  unfolding step pick taken
+  unfolding stepBy pick taken
   at-on st st′ g f e = counted false false st st′ pr g (simp (f, e))
 
   -- the quote behind calls before a pattern
   pub at-opens : (st : Part) (cs : List Call) → ((q : ℕ) (o : MacroRead) → noted st (pattern nothing []) q o ≡ o) → (skips st && eqb b 47) ≡ false → partByte st b ≡ opens cs → run s a pr false p st ≡ run s a (record { calls = cs; macros = pr .macros }) false (p + 1) (pattern nothing [])
-  unfolding step pick taken
+  unfolding stepBy pick taken
   at-opens st cs g f e = counted false false st (pattern nothing []) (record { calls = cs; macros = pr .macros }) g (simp (f, e))
 
   -- such a byte, with what is noted behind it, and as the 513th
   pub at-noted : (st st′ : Part) → p - a < 512 → (skips st && eqb b 47) ≡ false → partByte st b ≡ on st′ → run s a pr false p st ≡ noted st st′ (p + 1) (run s a pr false (p + 1) st′)
-  unfolding step pick taken count
+  unfolding stepBy pick taken count
   at-noted st st′ h f e =
       let n : p + 1 - a ≡ suc (p - a) = omega (arith, x .behind) in
       byte-first false st
@@ -260,17 +261,17 @@ module _ {s : List ℕ} {a p b : ℕ} (x : At s a p b) (pr : Prior) where
       ∙ sym (rw (run-now s a pr false (p + 1) st′ (omega arith), n, add-one) refl))
 
   pub at-late : (st st′ : Part) → 512 ≤ p - a → (skips st && eqb b 47) ≡ false → partByte st b ≡ on st′ → run s a pr false p st ≡ refusedAt macroTooLong p
-  unfolding step pick taken count
+  unfolding stepBy pick taken count
   at-late st st′ h f e = stops false st macroTooLong (simp (f, e, le-ltb _ _ h))
 
   pub at-stop : (st : Part) (c : FileRefusal) → (skips st && eqb b 47) ≡ false → partByte st b ≡ stop c → run s a pr false p st ≡ refusedAt c p
-  unfolding step pick taken
+  unfolding stepBy pick taken
   at-stop st c f e = stops false st c (simp (f, e))
 
   -- two states that do the same with the byte
   pub at-same : (st st′ : Part) → ((x : Part) (q : ℕ) (o : MacroRead) → noted st x q o ≡ noted st′ x q o) → (skips st && eqb b 47) ≡ false → (skips st′ && eqb b 47) ≡ false → partByte st b ≡ partByte st′ b
       → run s a pr false p st ≡ run s a pr false p st′
-  unfolding step pick
+  unfolding stepBy pick
   at-same st st′ h f f′ e =
       byte-first false st
       ∙ (macro-same pr p (p - a) st st′ b _ h (simp (f, f′, e)) ∙ sym (byte-first false st′))

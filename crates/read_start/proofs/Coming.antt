@@ -13,6 +13,7 @@ use Rattle.macros.specs.Refusals.{FileRefusal}
 use Rattle.macros.specs.Refusals.FileRefusal.{incomplete, macroTooLong}
 use Rattle.macros.specs.Macro.{Mark, Macro, pick}
 use Rattle.macros.specs.Read.{Part, Step, Pending, Prior, Reader, Next, step, further, outside, outsideFresh, firstCall, noCalls, readFrom, atEnd, count, taken, skips, partByte, macroOf}
+use Rattle.macros.specs.Read.{stepBy, readFromBy}
 use Rattle.macros.specs.ReadSoFar.Joinable.{nothing}
 use Rattle.macros.specs.ReadSoFar.Part.{calls, pattern, patternEscape, opened, members, membersEscape, patternCall, patternCalled, awaitSymbol, awaitQuote, replacement, replacementEscape, tagNumber, calling, callText, callTextEscape, commands}
 use Rattle.macros.specs.ReadSoFar.Step.{on, opens, done, stop}
@@ -136,7 +137,7 @@ outside-steps (atMark m n) ms b =
     pick-steps ms _ _ _ (pick-steps ms _ _ _ (pick-steps ms _ _ _ (enters _ _ _) (refusesBefore _ _)) (refusesBefore _ _)) (fresh-steps ms b)
 
 pub between-steps : (k : Bool) (a : Pending) (ms : List Macro) (b : ℕ) → Steps ms (step (between k a ms) b)
-unfolding step
+unfolding stepBy
 between-steps k a ms b = pick-steps ms _ _ _ (stays _ _) (pick-steps ms _ _ _ (stays _ _) (outside-steps a ms b))
 
 -- the bytes behind a byte
@@ -144,11 +145,11 @@ pub behind-drop : (s : List ℕ) (p b : ℕ) (bs : List ℕ) → (b ∷ bs) ≡ 
 behind-drop s p b bs e = ap (drop 1) e ∙ (drop-drop 1 p s ∙ ap (λ (j : ℕ). drop j s) (add-one p))
 
 read-before : (p n : ℕ) (c : FileRefusal) (r : Reader) (b : ℕ) (bs : List ℕ) → step r b ≡ refuseBefore c n → readFrom p r (b ∷ bs) ≡ fileRefusedAt c (p - n)
-unfolding readFrom
-read-before p n c r b bs e = rw (e, readFrom)
+unfolding readFromBy
+read-before p n c r b bs e = rw (e, readFromBy)
 
 between-read : (s : List ℕ) (p : ℕ) (k : Bool) (a : Pending) (ms : List Macro) (bs : List ℕ) → bs ≡ drop p s → readFrom p (between k a ms) bs ≡ readOn s ms (nextBy p (between k a ms) bs)
-unfolding nextBy readFrom atEnd endsAt readOn
+unfolding nextBy readFromBy atEnd endsAt readOn
 between-read s p true a ms [] e = unfold pick in refl
 between-read s p false a ms [] e = unfold pick in refl
 between-read s p k a ms (b ∷ bs) e = by (step (between k a ms) b) (between-steps k a ms b) refl (λ j w. between-read s (suc p) j w ms bs e′)
@@ -194,7 +195,7 @@ taken-inner pr n (done f as₁ ks) = count-inner (pr .macros) n _ (leaves (macro
 taken-inner pr n (stop c) = stops c
 
 pub inside-steps : (k : Bool) (n : ℕ) (st : Part) (pr : Prior) (b : ℕ) → Inner (pr .macros) (step (inside k n st pr) b)
-unfolding step
+unfolding stepBy
 inside-steps k n st pr b =
     pick-inner (pr .macros) _ _ _ (count-inner (pr .macros) n _ (keeps _ _ _ pr refl))
     (pick-inner (pr .macros) _ _ _ (count-inner (pr .macros) n _ (keeps _ _ _ pr refl)) (taken-inner pr n (partByte st b)))
@@ -265,7 +266,7 @@ outside-kept p0 p (atMark m n) ms b h = pick-kept p0 p _ _ _ (first (firstCall m
     first x (tooMany e) = rw e h
 
 between-kept : (p0 p : ℕ) (k : Bool) (a : Pending) (ms : List Macro) (b : ℕ) → Since p0 p a → Kept p0 p (step (between k a ms) b)
-unfolding step
+unfolding stepBy
 between-kept p0 p k a ms b h =
     pick-kept p0 p _ (go (between (not k) (further a) ms)) _ (since-further p0 p a h)
     (pick-kept p0 p _ (go (between true (further a) ms)) _ (since-further p0 p a h) (outside-kept p0 p a ms b h))

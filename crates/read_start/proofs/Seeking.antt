@@ -14,7 +14,7 @@ use borrow.Author.Tests.{eqb-true, ne-eqb, not-true, le-ltb, lt-ltb, ltb-true, l
 use Rattle.macros.specs.Refusals.FileRefusal.{macroTooLong, tooManyMacros}
 use Rattle.macros.specs.Macro.{Mark, Macro, pick}
 use Rattle.macros.specs.Macro.Mark.{stack, counter}
-use Rattle.macros.specs.Read.{Part, Pending, step, further, outside, outsideFresh, firstCall, noCalls, firstZero}
+use Rattle.macros.specs.Read.{Part, Pending, step, further, outside, outsideFresh, firstCall, noCalls, firstZero, stepBy}
 use Rattle.macros.specs.ReadSoFar.Joinable.{nothing}
 use Rattle.macros.specs.ReadSoFar.CallSite.{callsSoFar}
 use Rattle.macros.specs.ReadSoFar.Phase.{begun}
@@ -57,7 +57,7 @@ module _ (s : List ℕ) (a : ℕ) (ms : List Macro) where
   -- the `(` of its first call, at a place behind its sign
   call-begins : (at : ℕ) (m : Mark) → a < at → at < length s → getD s at 0 ≡ 40 → firstPart (getD s a 0) ≡ calling (callsSoFar []) (begun m)
       → nextBy at (between false (atMark m (at - a)) ms) (drop at s) ≡ startedBehind s a (at + 1) ms
-  unfolding startedBehind started pick step outside firstCall comes
+  unfolding startedBehind started pick stepBy outside firstCall comes
   call-begins at m l h e f = rw (drop-cons s at 0 h, e) (by (ltb (length ms) 96) refl)
     where
       by-length : (y : Bool) → ltb (length ms) 96 ≡ true → ltb (at - a) 512 ≡ y → nextBy at (between false (atMark m (at - a)) ms) (40 ∷ drop (suc at) s) ≡ startedBehind s a (at + 1) ms
@@ -105,7 +105,7 @@ fresh-on ms b e = rw e (fresh-pick (eqb b 38) (eqb b 35) ms)
 -- a quote begins one
 opening : (l n : ℕ) (ms : List Macro) → step (between false (pendingOf l n) ms) 39
     ≡ pick (ltb (length ms) 96) (go (inside false 1 (pattern nothing []) (noCalls ms))) (refuse tooManyMacros)
-unfolding step pendingOf outsideFresh pick
+unfolding stepBy pendingOf outsideFresh pick
 opening l n ms = outside-pick (eqb l 38) (eqb l 35) n ms 39 (and-false (eqb l 38 || eqb l 35))
 
 -- a byte in a skip
@@ -123,7 +123,7 @@ turn-out false w v ms = refl
 -- a byte that begins no macro, in a skip or not
 turn-step : (k : Bool) (l n : ℕ) (ms : List Macro) (b : ℕ) → opens b k ≡ false → opensCall b k l ≡ false
     → step (between k (pendingOf l n) ms) b ≡ go (between (turned b k) (pick (over b k) (pendingOf l (suc n)) (pendingOf b 1)) ms)
-unfolding step pendingOf pick
+unfolding stepBy pendingOf pick
 turn-step true l n ms b e f = rw (further-pick (eqb l 38) (eqb l 35) n) (turn-in (eqb b 47) _ ms)
 turn-step false l n ms b e f =
     rw (further-pick (eqb l 38) (eqb l 35) n, outside-pick (eqb l 38) (eqb l 35) n ms b f, fresh-on ms b e) (turn-out (eqb b 47) _ _ ms)

@@ -4,7 +4,7 @@ use mathlib.Core.Path.{_≡_, refl}
 use Prim.Native.Nat.{ℕ}
 use Rattle.macros.specs.Macro.{Mark, pick, within, asciiLower, digit}
 use Rattle.macros.specs.Macro.Mark.{stack, counter}
-use Rattle.macros.specs.Read.{Site, CallSite, Phase, partByte, isSign, turned, callByte, otherwise, siteOf}
+use Rattle.macros.specs.Read.{Site, CallSite, Phase, partByte, isSign, turned, callByte, otherwise, siteOf, partByteBy}
 use Rattle.macros.specs.ReadSoFar.Part.{calling}
 use Rattle.macros.specs.ReadSoFar.Phase.{begun, signed, named, equals, increment, divisor, tagged, comma, tagSigned, tagNamed, texted}
 use Rattle.macros.specs.ReadCalls.Turn.{wrong}
@@ -29,9 +29,9 @@ space-wrong si (tagNamed n i h) = refl
 space-wrong si (texted i h t) = refl
 
 pub space-call : (pl : CallSite) (ph : Phase) → partByte (calling pl ph) 32 ≡ on (calling pl ph)
-unfolding partByte turned otherwise pick
+unfolding partByteBy turned otherwise pick
 space-call pl ph = rw (space-wrong (siteOf pl) ph) refl
 
 pub wrong-call : (pl : CallSite) (ph : Phase) (b : ℕ) → callByte (siteOf pl) ph b ≡ wrong → (b ≡ 32 → ⊥) → partByte (calling pl ph) b ≡ stop (wrongCall b)
-unfolding partByte turned
+unfolding partByteBy turned
 wrong-call pl ph b e f = rw e (otherwise-wrong (calling pl ph) b f)

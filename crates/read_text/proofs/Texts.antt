@@ -12,7 +12,7 @@ use Rattle.macros.specs.Refusals.FileRefusal.{incomplete, badCall}
 use Rattle.macros.specs.Macro.{Move, Call, pick, among}
 use Rattle.macros.specs.Macro.Call.{storeText}
 use Rattle.macros.specs.Formed.{numberFits}
-use Rattle.macros.specs.Read.{Part, Prior, Site, CallSite, Phase, partByte, skips, textByte, callByte, breaks, escaped}
+use Rattle.macros.specs.Read.{Part, Prior, Site, CallSite, Phase, partByte, skips, textByteBy, callByte, breaks, escaped, partByteBy}
 use Rattle.macros.specs.ReadSoFar.Part.{calling, callText, callTextEscape}
 use Rattle.macros.specs.ReadSoFar.Phase.{texted}
 use Rattle.macros.specs.ReadSoFar.Step.{on, stop}
@@ -43,29 +43,29 @@ unfolding skips
 text-skips pl i v t = refl
 
 text-colon : (pl : CallSite) (i : ℕ) (v : Move) (t : List ℕ) (b : ℕ) → b ≡ 58 → partByte (callText pl i v t) b ≡ on (calling pl (texted i v t))
-unfolding partByte textByte pick
+unfolding partByteBy textByteBy pick
 text-colon pl i v t b e = simp e
 
 module _ (pl : CallSite) (i : ℕ) (v : Move) (t : List ℕ) (b : ℕ) (h : b ≡ 58 → ⊥) where
   byte-break : breaks b ≡ true → partByte (callText pl i v t) b ≡ stop incomplete
-  unfolding partByte textByte pick
+  unfolding partByteBy textByteBy pick
   byte-break g = simp (ne-eqb _ _ h, g)
 
-  byte-long : breaks b ≡ false → 50 ≤ length t → partByte (callText pl i v t) b ≡ stop badCall
-  unfolding partByte textByte pick
+  byte-long : breaks b ≡ false → 100 ≤ length t → partByte (callText pl i v t) b ≡ stop badCall
+  unfolding partByteBy textByteBy pick
   byte-long g l = simp (ne-eqb _ _ h, g, le-ltb _ _ l)
 
-  byte-escape : breaks b ≡ false → length t < 50 → b ≡ 92 → partByte (callText pl i v t) b ≡ on (callTextEscape pl i v t)
-  unfolding partByte textByte pick
+  byte-escape : breaks b ≡ false → length t < 100 → b ≡ 92 → partByte (callText pl i v t) b ≡ on (callTextEscape pl i v t)
+  unfolding partByteBy textByteBy pick
   byte-escape g l e = simp (ne-eqb _ _ h, g, lt-ltb _ _ l, eq-eqb _ _ e)
 
-  byte-plain : breaks b ≡ false → length t < 50 → (b ≡ 92 → ⊥) → partByte (callText pl i v t) b ≡ on (callText pl i v (b ∷ t))
-  unfolding partByte textByte pick
+  byte-plain : breaks b ≡ false → length t < 100 → (b ≡ 92 → ⊥) → partByte (callText pl i v t) b ≡ on (callText pl i v (b ∷ t))
+  unfolding partByteBy textByteBy pick
   byte-plain g l e = simp (ne-eqb _ _ h, g, lt-ltb _ _ l, ne-eqb _ _ e)
 
 byte-escaped : {s : List ℕ} {a p d : ℕ} → At s a p d → (pl : CallSite) (i : ℕ) (v : Move) (t : List ℕ) (pr : Prior)
     → run s a pr false p (callTextEscape pl i v t) ≡ run s a pr false (p + 1) (callText pl i v (escaped d ∷ t))
-unfolding partByte skips
+unfolding partByteBy skips
 byte-escaped {s} {a} {p} {d} x pl i v t pr = at-on x pr (callTextEscape pl i v t) (callText pl i v (escaped d ∷ t)) (λ q o. refl) refl refl
 
 module _ {s : List ℕ} {a p b : ℕ} (x : Here s a p b) (h : b ≡ 58 → ⊥) (k : ℕ) where
@@ -76,15 +76,15 @@ module _ {s : List ℕ} {a p b : ℕ} (x : Here s a p b) (h : b ≡ 58 → ⊥) 
   text-break g = (within-file, λ pl i v t l pr. here-stop x pr (callText pl i v t) incomplete (byte-break pl i v t b h g))
 
   module _ (g : breaks b ≡ false) where
-    pub text-long : 50 ≤ k → Texting s a p k (NoByte BadCall p)
+    pub text-long : 100 ≤ k → Texting s a p k (NoByte BadCall p)
     text-long j = (within-file, λ pl i v t l pr. here-stop x pr (callText pl i v t) badCall (byte-long pl i v t b h g (omega (arith, l))))
 
-    pub text-plain : k < 50 → (b ≡ 92 → ⊥) → Texting s a p k (Byte b p)
+    pub text-plain : k < 100 → (b ≡ 92 → ⊥) → Texting s a p k (Byte b p)
     text-plain j e =
         let y = x .stands in
         (omega arith, y .there, y .counted, j, λ pl i v t l pr. here-on x pr (callText pl i v t) (callText pl i v (b ∷ t)) (λ q o. refl) (byte-plain pl i v t b h g (omega (arith, l)) e))
 
-    module _ (j : k < 50) (e : b ≡ 92) {r : Next} (y : Stays s a (p + 1) r) where
+    module _ (j : k < 100) (e : b ≡ 92) {r : Next} (y : Stays s a (p + 1) r) where
       escape : (pl : CallSite) (i : ℕ) (v : Move) (t : List ℕ) → length t ≡ k → (pr : Prior) → run s a pr false p (callText pl i v t) ≡ run s a pr false (p + 1) (callTextEscape pl i v t)
       escape pl i v t l pr = here-on x pr (callText pl i v t) (callTextEscape pl i v t) (λ q o. refl) (byte-escape pl i v t b h g (omega (arith, l)) e)
 
@@ -105,7 +105,7 @@ module _ {s : List ℕ} {a p b : ℕ} (x : Here s a p b) (h : b ≡ 58 → ⊥) 
 pub record Reading (s : List ℕ) (a p : ℕ) (old out : List ℕ) (n at k : ℕ) : Type 0 where
   pub text : List ℕ
   pub size : length text ≡ k
-  pub short : k ≤ 50
+  pub short : k ≤ 100
   pub wrote : Wrote old out n (reverse text)
   pub room : p + k ≤ at
   pub reached : Reached s a at

@@ -7,7 +7,7 @@ use Prim.Native.Nat.{ℕ, _+_}
 use Rattle.macros.specs.Refusals.FileRefusal.{badCall}
 use Rattle.macros.specs.Macro.{Move, Call, pick, tags}
 use Rattle.macros.specs.Formed.{numberFits}
-use Rattle.macros.specs.Read.{Prior, CallSite, Phase, partByte, skips, turned, callByte, siteOf, piecesOf, behindCall}
+use Rattle.macros.specs.Read.{Prior, CallSite, Phase, partByte, skips, turned, callByte, siteOf, piecesOf, behindCall, partByteBy}
 use Rattle.macros.specs.ReadSoFar.Part.{calling, callText}
 use Rattle.macros.specs.ReadSoFar.Step.{on, stop}
 use Rattle.macros.specs.ReadCalls.Turn.{into, textOf, closed, wrong}
@@ -19,21 +19,21 @@ use Rattle.read_scan.proofs.Laws.{here-on, here-stop}
 use Rattle.read_text.proofs.Phases.{space-call, wrong-call}
 
 pub turn-on : (pl : CallSite) (ph ph′ : Phase) (b : ℕ) → callByte (siteOf pl) ph b ≡ into ph′ → partByte (calling pl ph) b ≡ on (calling pl ph′)
-unfolding partByte turned
+unfolding partByteBy turned
 turn-on pl ph ph′ b e = rw e refl
 
 pub turn-text : (pl : CallSite) (ph : Phase) (i : ℕ) (v : Move) (b : ℕ) → callByte (siteOf pl) ph b ≡ textOf i v → partByte (calling pl ph) b ≡ on (callText pl i v [])
-unfolding partByte turned
+unfolding partByteBy turned
 turn-text pl ph i v b e = rw e refl
 
 pub turn-closed : (pl : CallSite) (ph : Phase) (c : Call) (b : ℕ) → callByte (siteOf pl) ph b ≡ closed c → numberFits (tags (piecesOf pl)) c ≡ true
     → partByte (calling pl ph) b ≡ on (behindCall pl c)
-unfolding partByte turned pick
+unfolding partByteBy turned pick
 turn-closed pl ph c b e f = rw e (rw f refl)
 
 pub turn-unfit : (pl : CallSite) (ph : Phase) (c : Call) (b : ℕ) → callByte (siteOf pl) ph b ≡ closed c → numberFits (tags (piecesOf pl)) c ≡ false
     → partByte (calling pl ph) b ≡ stop badCall
-unfolding partByte turned pick
+unfolding partByteBy turned pick
 turn-unfit pl ph c b e f = rw e (rw f refl)
 
 pub call-skips : (pl : CallSite) (ph : Phase) → skips (calling pl ph) ≡ true

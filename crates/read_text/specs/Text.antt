@@ -50,7 +50,7 @@ Ends s a p old out n x si k F (NoEnd f q) =
 -- what a byte of a text of k bytes says, spelled from p up to q
 abbrev pub Texting : List ℕ → ℕ → ℕ → ℕ → Next → Type 0
 Texting s a p k (Byte b q) =
-    (p ≤ q) × (q < length s) × (q ≤ a + 512) × (k < 50)
+    (p ≤ q) × (q < length s) × (q ≤ a + 512) × (k < 100)
     × ((pl : CallSite) (i : ℕ) (v : Move) (t : List ℕ) → length t ≡ k → (pr : Prior)
     → run s a pr false p (callText pl i v t) ≡ run s a pr false (q + 1) (callText pl i v (b ∷ t)))
 Texting s a p k (NoByte f q) =
@@ -62,7 +62,7 @@ pub record TextRead (s : List ℕ) (a p : ℕ) (old out : List ℕ) (n q e : ℕ
   pub text : List ℕ
   pub wrote : Wrote old out n (reverse text)
   pub used : e ≡ n + length text
-  pub short : length text ≤ 50
+  pub short : length text ≤ 100
   pub room : length text < q - p
   pub reached : Reached s a q
   pub answer : (pl : CallSite) (i : ℕ) (v : Move) (pr : Prior)

@@ -3,7 +3,7 @@ use line_answer::Answer;
 
 // 3: a state of a byte less.
 pub(crate) fn other_size() -> Answer {
-    let mut state: [u8; 26235] = [0; 26235];
+    let mut state: [u8; 52235] = [0; 52235];
     m7::fresh::m7_fresh(&mut state)
 }
 
@@ -17,7 +17,7 @@ pub(crate) fn no_table() -> Answer {
 // 2: bytes that are no state.
 pub(crate) fn no_state() -> Answer {
     let mut table: [u8; 98304] = [0; 98304];
-    let mut state: [u8; 26236] = [0; 26236];
+    let mut state: [u8; 52236] = [0; 52236];
     let mut text: [u8; 1054] = [0; 1054];
     let mut trace: [u8; 65536] = [0; 65536];
     m7::feed::m7_feed(&mut table, &mut state, b"do", 1, &mut text, &mut trace)

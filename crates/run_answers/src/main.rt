@@ -14,7 +14,7 @@ ghost use Prim.Native.Nat.{_<_};
 // At the start the table is empty and the state fresh.
 fn main() {
     let mut table: [u8; 98304] = [0; 98304];
-    let mut state: [u8; 26236] = [0; 26236];
+    let mut state: [u8; 52236] = [0; 52236];
     m7::fresh::m7_fresh(&mut state);
     let mut block: [u8; 65536] = [0; 65536];
     let mut command: [u8; 131072] = [0; 131072];
@@ -24,7 +24,7 @@ fn main() {
 // The commands to the end of the input. Nothing says that an input ends, so the turns are counted down.
 fn each_command(
     table: &mut [u8; 98304],
-    state: &mut [u8; 26236],
+    state: &mut [u8; 52236],
     block: &mut [u8; 65536],
     command: &mut [u8],
 ) {

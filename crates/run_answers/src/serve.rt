@@ -16,7 +16,7 @@ struct Asked {
 // Obeys a command, of which so many bytes are held, and writes its answer.
 pub(crate) fn obey(
     table: &mut [u8; 98304],
-    state: &mut [u8; 26236],
+    state: &mut [u8; 52236],
     command: &mut [u8],
     held: usize,
 )

@@ -14,6 +14,8 @@ fn print(case: &Case, output: &mut impl Write) -> io::Result<()> {
             Check::Written(_) | Check::WrittenBytes(_) | Check::WritingRefused(_) => {
                 writeln!(output, "write")?
             }
+            Check::Narrow | Check::NarrowRefused(_) => writeln!(output, "narrow")?,
+            Check::Widen => writeln!(output, "widen")?,
             Check::Recover(RecoverCheck::Kept(_) | RecoverCheck::Refused(_)) => {
                 writeln!(output, "recover {}", hex(&case.file))?
             }
@@ -38,7 +40,8 @@ fn main() -> io::Result<()> {
     for name in std::env::args().skip(1) {
         let text = std::fs::read_to_string(&name)?;
         let cases = parse(&text).map_err(|error| io::Error::other(format!("{name}: {error}")))?;
-        for case in &cases {
+        // The old engine has no commands.
+        for case in cases.iter().filter(|case| !case.old) {
             print(case, &mut output)?;
         }
     }

@@ -33,7 +33,7 @@ pub fn bound_case(random: &mut Random) -> Case {
         0 => macro_bytes(random),
         1 => macros(random),
         2 => line_bytes(random),
-        3 => entry_bytes(random),
+        3 => entry_case(random),
         4 => tags(random),
         5 => pointers(random),
         6 => counters(random),
@@ -90,13 +90,24 @@ fn line_bytes(random: &mut Random) -> Case {
     case(file, lines)
 }
 
-/// A stored tag and a stored text of about 50 bytes.
-fn entry_bytes(random: &mut Random) -> Case {
+/// A length of about 50 or about 100 bytes, the entries of the old engine and
+/// of the new one.
+fn entry_length(random: &mut Random) -> usize {
+    let bound = *random.pick(&[50, 100]);
+    near(random, bound - 1)
+}
+
+/// Stored tags and texts of such lengths.
+pub fn entry_case(random: &mut Random) -> Case {
     let step = *random.pick(&["a", "+a", "a-"]);
-    let text = "x".repeat(near(random, 48));
+    let text = "x".repeat(entry_length(random));
     let file = format!("'{{a*}}'<'b&(a)'&(1,{step});'c'<'&({step}:{text}:)&(a)';");
-    let tag = "a".repeat(near(random, 50));
-    case(file, vec![(9, tag.clone()), (9, "c".to_string()), (9, tag)])
+    let tag = "a".repeat(entry_length(random));
+    let other = "a".repeat(entry_length(random));
+    let before = random.pick(&["", "&(c:z:)", "#(v=2)"]).to_string();
+    let added = format!("$MACRO {before}'d'<'&(b:{}:)';", "y".repeat(entry_length(random)));
+    let lines = [tag, "c".to_string(), other, added, "cd".to_string()];
+    case(file, lines.map(|line| (9, line)).to_vec())
 }
 
 /// About 99 tags, nested or side by side.

@@ -6,7 +6,7 @@ mod lines;
 mod macros;
 mod words;
 
-pub use bound::{bound_case, bound_faults, bound_written};
+pub use bound::{bound_case, bound_faults, bound_written, entry_case};
 pub use files::{any_file, broken_file, damaged_file, good_file, padded_spelling, shuffled_file};
 pub use lines::{any_budget, any_case, any_line};
 pub use macros::{any_macro, any_pattern, any_table};

@@ -2,7 +2,7 @@
 //! A byte that no form allowed there can have is 16; an end is 12.
 
 use super::cursor::{no_end, Cursor, Read};
-use crate::bounds::{COUNTER_END, ENTRIES, ENTRY_BYTES};
+use crate::bounds::{COUNTER_END, ENTRIES};
 use crate::macros::{Action, Move, Sign, Unit};
 use crate::refusal::{Refusal, CALL};
 
@@ -180,7 +180,7 @@ fn call_text(cursor: &mut Cursor) -> Read<Vec<u8>> {
             return Ok(text);
         }
         no_end(place, byte)?;
-        if text.len() == ENTRY_BYTES {
+        if text.len() == cursor.longest {
             return wrong(place);
         }
         text.push(match byte {

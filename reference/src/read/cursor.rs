@@ -7,11 +7,13 @@ pub type Read<T> = Result<T, Refusal>;
 pub struct Cursor<'a> {
     file: &'a [u8],
     place: usize,
+    /// The bytes that a call's text may have.
+    pub longest: usize,
 }
 
 impl<'a> Cursor<'a> {
-    pub fn new(file: &'a [u8]) -> Cursor<'a> {
-        Cursor { file, place: 0 }
+    pub fn new(file: &'a [u8], longest: usize) -> Cursor<'a> {
+        Cursor { file, place: 0, longest }
     }
 
     /// Goes to a place of the file.

@@ -6,7 +6,7 @@ mod cursor;
 mod pattern;
 mod replacement;
 
-use crate::bounds::{FILE_BYTES, MACROS, MACRO_BYTES};
+use crate::bounds::{ENTRY_BYTES, FILE_BYTES, MACROS, MACRO_BYTES};
 use crate::macros::{tags, Action, Macro, Symbol, Table};
 use crate::refusal::{
     Refusal, BYTE_ZERO, FILE_TOO_LONG, INCOMPLETE, MACRO_TOO_LONG, TOO_MANY_MACROS,
@@ -16,12 +16,13 @@ use cursor::{Cursor, Read};
 
 /// The table that a macro file spells.
 pub fn read_file(file: &[u8]) -> Read<Table> {
-    read_after(file, 0)
+    read_after(file, 0, ENTRY_BYTES)
 }
 
-/// The macros that `file` spells, where a table already has `before` macros.
-pub fn read_after(file: &[u8], before: usize) -> Read<Table> {
-    Reader::new(file, before)?.collect()
+/// The macros that `file` spells, where a table already has `before` macros
+/// and a call's text has at most `longest` bytes.
+pub fn read_after(file: &[u8], before: usize, longest: usize) -> Read<Table> {
+    Reader::new(file, before, longest)?.collect()
 }
 
 /// The macros of a file, one after the other, or the fault that ends them.
@@ -33,9 +34,9 @@ pub struct Reader<'a> {
 }
 
 impl<'a> Reader<'a> {
-    pub fn new(file: &'a [u8], before: usize) -> Read<Reader<'a>> {
+    pub fn new(file: &'a [u8], before: usize, longest: usize) -> Read<Reader<'a>> {
         whole_file(file)?;
-        Ok(Reader { file, cursor: Cursor::new(file), before })
+        Ok(Reader { file, cursor: Cursor::new(file, longest), before })
     }
 
     fn next_macro(&mut self) -> Read<Option<Macro>> {

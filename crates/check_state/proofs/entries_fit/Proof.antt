@@ -4,6 +4,8 @@ use mathlib.Core.Bool.{Bool, _&&_}
 use native.Mathlib.Omega.{arith}
 use lib.ListN.{take, drop, length-drop}
 use lib.Seq.{length-take-le}
+use Rattle.form_state.specs.Form.{stackBytes}
+use Rattle.macros.specs.Bounds.{mostEntryBytes}
 use Rattle.form_state.specs.Check.{entryCheck, blocksCheck}
 use Rattle.form_state.proofs.Steps.{blocks-start, blocks-step, blocks-end}
 use Rattle.form_state.proofs.Blocks.{blocks-of}
@@ -11,13 +13,13 @@ use Rattle.check_state.proofs.entries_fit.Statement.{statement}
 use Rattle.check_state.proofs.entries_fit.Tie as tie
 
 abbrev Inv-loop : tie.InvT-loop
-Inv-loop entries ok₀ i₀ ok i = (i ≤ 26) × (ok && blocksCheck (blocksCheck entryCheck 50 20) 1000 (26 - i) (drop (1000 * i) entries) ≡ blocksCheck (blocksCheck entryCheck 50 20) 1000 26 entries)
+Inv-loop entries ok₀ i₀ ok i = (i ≤ 26) × (ok && blocksCheck (blocksCheck entryCheck mostEntryBytes 20) stackBytes (26 - i) (drop (stackBytes * i) entries) ≡ blocksCheck (blocksCheck entryCheck mostEntryBytes 20) stackBytes 26 entries)
 
 abbrev μ-loop : tie.MeasureT-loop
 μ-loop entries ok₀ i₀ ok i = 26 - i
 
 loop-holds : tie.Need-loop-holds Inv-loop μ-loop
-loop-holds c = (omega arith, blocks-start (blocksCheck entryCheck 50 20) 1000 26 (c .before .args .entries .now))
+loop-holds c = (omega arith, blocks-start (blocksCheck entryCheck mostEntryBytes 20) stackBytes 26 (c .before .args .entries .now))
 
 mul-at : tie.Need-mul-at Inv-loop μ-loop
 mul-at c = omega arith
@@ -39,8 +41,8 @@ stack-fits-requires c κs =
     let at = c .before .before in
     let l = at .before .before .args .entries .now in
     let i = at .loop .i in
-    let whole : 1000 * i + 1000 - 1000 * i ≡ 1000 = omega arith in
-    rw whole (length-take-le 1000 (drop (1000 * i) l) (omega (arith, length-drop (1000 * i) l)))
+    let whole : stackBytes * i + stackBytes - stackBytes * i ≡ stackBytes = omega arith in
+    rw whole (length-take-le stackBytes (drop (stackBytes * i) l) (omega (arith, length-drop (stackBytes * i) l)))
 
 add-i : tie.Need-add-i Inv-loop μ-loop
 add-i c = omega arith
@@ -53,18 +55,18 @@ loop-again c =
     let at = c .before .before .before in
     let l = at .before .before .args .entries .now in
     let i = at .loop .i in
-    let whole : 1000 * i + 1000 - 1000 * i ≡ 1000 = omega arith in (
+    let whole : stackBytes * i + stackBytes - stackBytes * i ≡ stackBytes = omega arith in (
       omega arith,
-      ap (λ (t : Bool). (at .loop .ok && t) && blocksCheck (blocksCheck entryCheck 50 20) 1000 (26 - (i + 1)) (drop (1000 * (i + 1)) l))
-          (c .stack-fits .ensures ∙ ap (λ (k : ℕ). blocksCheck entryCheck 50 20 (take k (drop (1000 * i) l))) whole)
-          ∙ blocks-step (blocksCheck entryCheck 50 20) 1000 26 l i (at .loop .ok) _ (omega arith) (at .loop .inv .1),
+      ap (λ (t : Bool). (at .loop .ok && t) && blocksCheck (blocksCheck entryCheck mostEntryBytes 20) stackBytes (26 - (i + 1)) (drop (stackBytes * (i + 1)) l))
+          (c .stack-fits .ensures ∙ ap (λ (k : ℕ). blocksCheck entryCheck mostEntryBytes 20 (take k (drop (stackBytes * i) l))) whole)
+          ∙ blocks-step (blocksCheck entryCheck mostEntryBytes 20) stackBytes 26 l i (at .loop .ok) _ (omega arith) (at .loop .inv .1),
     )
 
 returns : tie.Need-returns Inv-loop μ-loop
 returns c =
     let at = c .before in
     let l = at .before .before .args .entries .now in
-    blocks-end (blocksCheck entryCheck 50 20) 1000 26 l (at .loop .i) (at .loop .ok) (omega arith) (at .loop .inv .1) ∙ blocks-of entryCheck 50 20 26 l
+    blocks-end (blocksCheck entryCheck mostEntryBytes 20) stackBytes 26 l (at .loop .i) (at .loop .ok) (omega arith) (at .loop .inv .1) ∙ blocks-of entryCheck mostEntryBytes 20 26 l
 
 pub entries-fit-spec : {M : Type 1} → statement M
 entries-fit-spec =

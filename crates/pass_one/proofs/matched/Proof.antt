@@ -11,16 +11,16 @@ has-calls-requires : tie.Need-has-calls-requires
 has-calls-requires c κs = let y = c .before .before .before .before .before .before .before .pre in (pattern-letters _ (y .macro .0 .pattern) (y .pattern .pattern (y .macro .0) (y .macro .1)), y .pattern .fits)
 
 slice-aggregate-copy-state : tie.Need-slice-aggregate-copy-state
-slice-aggregate-copy-state c = sym (length-replicate {A = ℕ} 26236 0)
+slice-aggregate-copy-state c = sym (length-replicate {A = ℕ} 52236 0)
 
 copy-state-requires : tie.Need-copy-state-requires
-copy-state-requires c κs = is-long _ (c .before .before .before .before .before .before .before .before .before .before .before .pre .state) ∙ sym (length-replicate {A = ℕ} 26236 0)
+copy-state-requires c κs = is-long _ (c .before .before .before .before .before .before .before .before .before .before .before .pre .state) ∙ sym (length-replicate {A = ℕ} 52236 0)
 
 slice-aggregate-walk : tie.Need-slice-aggregate-walk
-slice-aggregate-walk c = sym (c .before .before .before .before .before .copy-state .kept .1 .0 ∙ length-replicate {A = ℕ} 26236 0)
+slice-aggregate-walk c = sym (c .before .before .before .before .before .copy-state .kept .1 .0 ∙ length-replicate {A = ℕ} 52236 0)
 
 walk-requires : tie.Need-walk-requires
-walk-requires c κs = let y = c .before .before .before .before .before .before .before .before .before .before .before .before .before .before .before .before .before .before .pre in (y, seen-self _ _ _ (y .macro .0 .pattern) (y .pattern .pattern (y .macro .0) (y .macro .1)) (y .state) (omega (arith, c .before .before .before .before .before .before .copy-state .kept .1 .0, length-replicate {A = ℕ} 26236 0)) (c .before .before .before .before .before .before .copy-state .ensures))
+walk-requires c κs = let y = c .before .before .before .before .before .before .before .before .before .before .before .before .before .before .before .before .before .before .pre in (y, seen-self _ _ _ (y .macro .0 .pattern) (y .pattern .pattern (y .macro .0) (y .macro .1)) (y .state) (omega (arith, c .before .before .before .before .before .before .copy-state .kept .1 .0, length-replicate {A = ℕ} 52236 0)) (c .before .before .before .before .before .before .copy-state .ensures))
 
 same-length : tie.Need-same-length
 same-length c = c .before .before .before .before .before .before .before .before .before .walk .kept .1 .1 .1 .1 .1 .1 .0

@@ -16,10 +16,10 @@ slice-aggregate-each-line : tie.Need-slice-aggregate-each-line
 slice-aggregate-each-line c = search needs
 
 each-line-requires : tie.Need-each-line-requires
-each-line-requires c κs = fresh-sound (c .before .before .before .before .before .before .before .before .pre) (fresh-state (replicate {A = ℕ} 26236 0) (length-replicate {A = ℕ} 26236 0) (c .before .before .before .before .before .before .m7-fresh .ensures))
+each-line-requires c κs = fresh-sound (c .before .before .before .before .before .before .before .before .pre) (fresh-state (replicate {A = ℕ} 52236 0) (length-replicate {A = ℕ} 52236 0) (c .before .before .before .before .before .before .m7-fresh .ensures))
 
 returns : tie.Need-returns
-returns c = fresh-lines (fresh-state (replicate {A = ℕ} 26236 0) (length-replicate {A = ℕ} 26236 0) (c .before .before .before .before .before .before .before .before .m7-fresh .ensures)) (c .before .each-line .ensures)
+returns c = fresh-lines (fresh-state (replicate {A = ℕ} 52236 0) (length-replicate {A = ℕ} 52236 0) (c .before .before .before .before .before .before .before .before .m7-fresh .ensures)) (c .before .each-line .ensures)
 
 pub answer-lines-spec : {M : Type 1} → statement M
 answer-lines-spec =

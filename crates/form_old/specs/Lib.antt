@@ -1,0 +1,4 @@
+pub mod Refusal
+pub mod Old
+pub mod OldCases
+pub mod OldLaws
