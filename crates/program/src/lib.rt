@@ -1,4 +1,6 @@
 // The program of 01, part 8: macros from a file, lines from standard input, lines that go out to standard output.
+#![tactic(auto)]
+
 mod parts;
 mod said;
 
@@ -11,32 +13,40 @@ ghost use Rattle.program.specs.Lines.{Put, Answered, LinesDone, FreshLines};
 ghost use Rattle.program.specs.Held.{Sound};
 ghost use Rattle.program.specs.Run.{Ran};
 
-use libc::STDOUT_FILENO;
 use line_answer::{Answer, answer_of};
 use parts::{Parts, read_parts};
 use program_in::{next_line, start};
 use program_out::put_text;
 use said::{answer_said, refusal_said};
+use std::io::{Read, Write};
+use std::rt::Files;
 
 // "Budget 10,000".
 const BUDGET: u32 = 10000;
 
-// The program, with the name of its macro file and a memory for the table: reads the file and answers the lines.
+// The program, with the name of its macro file and a memory for the table: reads the file and answers the lines of `input` on `output`.
 // "A refused file gives `! N 0` and nothing more": these first bytes of `said` are left for the caller to write.
-pub fn run(table: &mut [u8; 98304], said: &mut [u8; 1100], name: &[u8]) -> usize
+pub fn run<F: Files, R: Read, W: Write>(
+    files: &F,
+    input: &mut R,
+    output: &mut W,
+    table: &mut [u8; 98304],
+    said: &mut [u8; 1100],
+    name: &[u8],
+) -> usize
     requires { (table.old ≡ replicate 98304 0) × (1100 ≡ length said.old) }
     ensures { Within result said.new × Ran table.new (take result said.new) }
 {
-    let parts = read_parts(table, name);
+    let parts = read_parts(files, table, name);
     let Parts::Refused(number) = parts else {
-        answer_lines(table);
+        answer_lines(input, output, table);
         return 0;
     };
     refusal_said(number, 0, said)
 }
 
 // "State fresh". The line's memory has one byte more than a line may have, so that a longer one shows.
-fn answer_lines(table: &mut [u8; 98304])
+fn answer_lines<R: Read, W: Write>(input: &mut R, output: &mut W, table: &mut [u8; 98304])
     requires { SomeTable table.old }
     ensures { FreshLines table.old table.new }
 {
@@ -45,11 +55,15 @@ fn answer_lines(table: &mut [u8; 98304])
     let mut block: [u8; 65536] = [0; 65536];
     let mut line: [u8; 1055] = [0; 1055];
     let mut out: [u8; 65536] = [0; 65536];
-    each_line(table, &mut state, &mut block, &mut line, &mut out);
+    each_line(
+        input, output, table, &mut state, &mut block, &mut line, &mut out,
+    );
 }
 
 // The lines to the end of the input, numbered from 1. The trace's memory is lent to every line; nothing of it is said.
-fn each_line(
+fn each_line<R: Read, W: Write>(
+    input: &mut R,
+    output: &mut W,
     table: &mut [u8; 98304],
     state: &mut [u8; 52236],
     block: &mut [u8; 65536],
@@ -60,11 +74,12 @@ fn each_line(
     ensures { LinesDone table.old state.old block.old line.old out.old table.new state.new block.new line.new out.new }
 {
     let mut trace: [u8; 65536] = [0; 65536];
-    let mut reading = next_line(block, line, start());
+    let mut reading = next_line(input, block, line, start());
     let mut used = 0;
     let mut number: u64 = 1;
     while number < u64::MAX && reading.begun {
         used = answer_line(
+            output,
             table,
             state,
             line,
@@ -74,21 +89,22 @@ fn each_line(
             used,
             &mut trace,
         );
-        reading = next_line(block, line, reading);
+        reading = next_line(input, block, line, reading);
         number += 1;
     }
-    write_held(out, used);
+    write_held(output, out, used);
 }
 
-// Writes out what is held.
-fn write_held(out: &[u8], used: usize)
+// Writes out what is held. A write that fails is passed over.
+fn write_held<W: Write>(output: &mut W, out: &[u8], used: usize)
     requires { used ≤ length out.now }
 {
-    io::write_all(STDOUT_FILENO, &out[..used]);
+    let _ = output.write_all(&out[..used]);
 }
 
 // Feeds the line that is held, and puts what there is to say.
-fn answer_line(
+fn answer_line<W: Write>(
+    output: &mut W,
     table: &mut [u8; 98304],
     state: &mut [u8; 52236],
     line: &[u8],
@@ -105,7 +121,7 @@ fn answer_line(
 {
     let mut text: [u8; 1054] = [0; 1054];
     let answer = feed_line(table, state, &line[..held], &mut text, trace);
-    put_said(answer, &text, number, out, used)
+    put_said(output, answer, &text, number, out, used)
 }
 
 // Feeds a line with what is known to be a table and a state: what m7_feed answers, without its checks.
@@ -124,12 +140,19 @@ fn feed_line(
 }
 
 // Puts what there is to say to an answer.
-fn put_said(answer: Answer, text: &[u8], number: u64, out: &mut [u8; 65536], used: usize) -> usize
+fn put_said<W: Write>(
+    output: &mut W,
+    answer: Answer,
+    text: &[u8],
+    number: u64,
+    out: &mut [u8; 65536],
+    used: usize,
+) -> usize
     requires { (length text.now ≡ 1054) × (used ≤ 65536) }
     ensures put { Put answer text.now number out.old used out.new result }
     ensures upper_bound { result ≤ 65536 }
 {
     let mut said = [0u8; 1100];
     let n = answer_said(answer, text, number, &mut said);
-    put_text(out, used, &said[..n])
+    put_text(output, out, used, &said[..n])
 }

@@ -1,17 +1,16 @@
 -- How the parts of reading a line make the line.
-use Prim.Native.Nat.{ℕ, zero, suc, ◌+◌, ◌≤◌, ◌<◌, min}
+use Prim.Native.Nat.{ℕ, zero, suc, ◌+◌, ◌≤◌, ◌<◌}
 use mathlib.Core.Path.{◌≡◌, refl, sym, ap, subst, ◌∙◌}
 use mathlib.Core.Bool.{Bool, true, false, ◌||◌, true≢false}
 use mathlib.Core.List.{List, [], ◌∷◌, ◌++◌, append_assoc, append-nil}
 use native.Mathlib.Omega.{arith}
 use native.Mathlib.Numerals.{add-one}
-use borrow.Author.Tests.{eq-eqb, ne_eqb}
-use lib.Dec.{eqb}
-use lib.ListN.{length, take, drop, get_or, set, length-append, length-take, length-set}
-use lib.Seq.{slice-cons, take_all}
+use borrow.Author.Tests.{ne_eqb}
+use lib.ListN.{length, take, drop, get_or, set, length-append, length-take}
+use lib.Seq.{slice-cons}
 use Rattle.program_in.specs.declared.Reading.{Reading}
 use Rattle.program_in.specs.declared.Turn.{Turn}
-use Rattle.program_in.specs.Reading.{coming, Line, ahead, line_of, over, has_byte, LineRead}
+use Rattle.program_in.specs.Reading.{coming, ahead, line_of, over, has_byte, LineRead}
 use Rattle.program_in.specs.Turns.{NoFeed, Kept, Keeps, Stops, Part, Filled}
 use Rattle.program_in.specs.Turns.Stops.{fed, used}
 

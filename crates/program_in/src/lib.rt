@@ -1,13 +1,15 @@
-// The lines of standard input, by way of a block that the caller lends.
+// The lines of standard input, or of another reader, by way of a block that the caller lends.
+#![tactic(auto)]
+
 ghost use Rattle.std.specs.Prelude.{◌≡◌, true, false, ◌∷◌, [], ◌≤◌, ◌<◌, length};
 ghost use Rattle.program_in.specs.Reading.{LineRead};
 ghost use Rattle.program_in.specs.Turns.{Keeps, Part, Filled, Left};
 
-use libc::STDIN_FILENO;
+use std::io::Read;
 
 // Where the reading stands. Of the block the bytes from `at` to `size` are still to come; of the line `held` bytes are held.
 // The line has begun with its first byte or line feed.
-#[derive(Drop)]
+#[derive(Clone, Copy)]
 pub struct Reading {
     pub at: usize,
     pub size: usize,
@@ -16,7 +18,7 @@ pub struct Reading {
 }
 
 // A reading, and whether its line has ended: with its line feed, or with the input.
-#[derive(Drop)]
+#[derive(Clone, Copy)]
 struct Turn {
     reading: Reading,
     ended: bool,
@@ -36,14 +38,19 @@ pub fn start() -> Reading
 
 // Reads the next line. Of a longer one as many bytes are held as the memory has; none has begun where the input ends.
 // Nothing says that an input ends, so the turns are counted down.
-pub fn next_line(block: &mut [u8], line: &mut [u8], from: Reading) -> Reading
+pub fn next_line<R: Read>(
+    input: &mut R,
+    block: &mut [u8],
+    line: &mut [u8],
+    from: Reading,
+) -> Reading
     requires { from.size ≤ length block.old }
     ensures { LineRead from block.old line.old result block.new line.new }
 {
     let mut reading = between(from);
     let mut turns = u64::MAX;
     while 0 < turns {
-        let turn = one_turn(block, line, reading);
+        let turn = one_turn(input, block, line, reading);
         reading = turn.reading;
         turns = left(turns, turn.ended);
     }
@@ -76,11 +83,11 @@ fn between(from: Reading) -> Reading
 }
 
 // Takes what the block has of the line, which is read anew where nothing is to come. Where that gives nothing the input has ended.
-fn one_turn(block: &mut [u8], line: &mut [u8], from: Reading) -> Turn
+fn one_turn<R: Read>(input: &mut R, block: &mut [u8], line: &mut [u8], from: Reading) -> Turn
     requires { from.size ≤ length block.old }
     ensures { Part from block.old line.old result block.new line.new }
 {
-    let reading = fill(block, from);
+    let reading = fill(input, block, from);
     let at = reading.at;
     let size = reading.size;
     if at < size {
@@ -93,7 +100,7 @@ fn one_turn(block: &mut [u8], line: &mut [u8], from: Reading) -> Turn
 }
 
 // Reads the next block where nothing is to come.
-fn fill(block: &mut [u8], from: Reading) -> Reading
+fn fill<R: Read>(input: &mut R, block: &mut [u8], from: Reading) -> Reading
     requires { from.size ≤ length block.old }
     ensures { Filled from block.old result block.new }
 {
@@ -102,24 +109,33 @@ fn fill(block: &mut [u8], from: Reading) -> Reading
     if at < size {
         return from;
     }
-    next_block(block, from)
+    next_block(input, block, from)
 }
 
 // Reads once. A read that fails counts as the end.
-fn next_block(block: &mut [u8], from: Reading) -> Reading
+fn next_block<R: Read>(input: &mut R, block: &mut [u8], from: Reading) -> Reading
     requires { from.size ≤ from.at }
     ensures { Filled from block.old result block.new }
 {
     let held = from.held;
     let begun = from.begun;
-    let got = libc::read(STDIN_FILENO, block);
     let at = 0;
-    let size = io::count(got, block);
+    let size = read_once(input, block);
     Reading {
         at,
         size,
         held,
         begun,
+    }
+}
+
+// How many bytes one read gives, from the block's front: none where it fails.
+fn read_once<R: Read>(input: &mut R, block: &mut [u8]) -> usize
+    ensures { result ≤ length block.old }
+{
+    match input.read(block) {
+        Ok(n) => n,
+        Err(_) => 0,
     }
 }
 

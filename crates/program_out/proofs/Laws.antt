@@ -1,12 +1,11 @@
 -- What copying a text byte by byte makes.
-use Prim.Native.Nat.{ℕ, ◌+◌, ◌-◌, ◌≤◌, ◌<◌}
-use mathlib.Core.Path.{◌≡◌, refl, sym, ap, ◌∙◌}
-use mathlib.Core.List.{List, ◌++◌}
+use Prim.Native.Nat.{ℕ, ◌+◌, ◌≤◌, ◌<◌}
+use mathlib.Core.Path.{◌≡◌, refl}
+use mathlib.Core.List.{List}
 use native.Mathlib.Omega.{arith}
 use native.Mathlib.Numerals.{add-one}
 use borrow.Author.Tests.{le-leb, lt-leb}
-use lib.Dec.{leb}
-use lib.ListN.{length, take, drop, get_or, set}
+use lib.ListN.{length, take, get_or, set}
 use lib.Seq.{paste, paste-suc, length-paste, take-paste, take_all}
 use Rattle.program_out.specs.Writing.{appends, puts, Gives, Behind}
 

@@ -2,9 +2,10 @@
 ghost use Rattle.std.specs.Prelude.{◌≤◌, ◌<◌, length};
 
 use program_out::put_text;
+use std::io::Write;
 
 // Whether a text is hex, and how many bytes were decoded of it.
-#[derive(Drop)]
+#[derive(Clone, Copy)]
 pub(crate) struct Decoded {
     pub good: bool,
     pub size: usize,
@@ -56,29 +57,35 @@ fn joined(high: u8, low: u8) -> u8 {
 }
 
 // Appends the first bytes as hex.
-pub(crate) fn put_hex(out: &mut [u8], used: usize, bytes: &[u8], size: usize) -> usize
+pub(crate) fn put_hex<W: Write>(
+    output: &mut W,
+    out: &mut [u8],
+    used: usize,
+    bytes: &[u8],
+    size: usize,
+) -> usize
     requires { (used ≤ length out.old) × (size ≤ length bytes.now) }
     ensures { result ≤ length out.old }
 {
     if size < 1 {
-        return put_text(out, used, b"-");
+        return put_text(output, out, used, b"-");
     }
     let mut at = used;
     let mut i = 0;
     while i < size {
-        at = put_pair(out, at, bytes[i]);
+        at = put_pair(output, out, at, bytes[i]);
         i += 1;
     }
     at
 }
 
 // Appends the two digits of a byte.
-fn put_pair(out: &mut [u8], used: usize, b: u8) -> usize
+fn put_pair<W: Write>(output: &mut W, out: &mut [u8], used: usize, b: u8) -> usize
     requires { used ≤ length out.old }
     ensures { result ≤ length out.old }
 {
     let pair = [digit(b / 16), digit(b % 16)];
-    put_text(out, used, &pair)
+    put_text(output, out, used, &pair)
 }
 
 // A digit; there is none above 15.

@@ -5,9 +5,10 @@ use crate::hex::decode;
 use crate::reply::write_reply;
 use crate::words::command_of;
 use line_answer::Answer;
+use std::io::Write;
 
 // What is asked: which command, 0 for none, the budget, and how many bytes were decoded.
-#[derive(Drop)]
+#[derive(Clone, Copy)]
 struct Asked {
     which: u8,
     budget: u32,
@@ -15,7 +16,8 @@ struct Asked {
 }
 
 // Obeys a command, of which so many bytes are held, and writes its answer.
-pub(crate) fn obey(
+pub(crate) fn obey<W: Write>(
+    output: &mut W,
     table: &mut [u8; 98304],
     state: &mut [u8; 52236],
     command: &mut [u8],
@@ -38,7 +40,7 @@ pub(crate) fn obey(
         which,
         asked.budget,
     );
-    write_reply(&mut out, &text, which, answer);
+    write_reply(output, &mut out, &text, which, answer);
 }
 
 // Takes a command apart. Its hex is decoded in place, from the front. One that fills the memory may be longer, and is not obeyed.

@@ -13,7 +13,7 @@ const WRITE: u64 = 0x7772697465;
 const LENDS: u64 = 0x6c656e6473;
 
 // A command, 0 for none, the budget of `feed`, and the place behind them.
-#[derive(Drop)]
+#[derive(Clone, Copy)]
 pub(crate) struct Found {
     pub which: u8,
     pub budget: u32,
