@@ -9,8 +9,7 @@ use line_answer::{Answer, answer_of};
 
 // Feeds a line. The kind is 1 for a line that goes out, 2 withheld, 3 control; the length is that of the line that goes out, zeros stand
 // behind it. Under TRACE 1 a line that is taken writes its trace, with zeros behind it. A refusal leaves the memories as they were.
-#[unsafe(no_mangle)]
-pub extern "C" fn m7_feed(
+pub fn m7_feed(
     table: &mut [u8],
     state: &mut [u8],
     line: &[u8],
@@ -18,7 +17,7 @@ pub extern "C" fn m7_feed(
     output: &mut [u8],
     trace: &mut [u8],
 ) -> Answer
-    ensures { Feeds (record { feeding = record { sent = record { line = line.entry.now; budget = budget }; lent = record { table = table.entry.now; state = state.old; output = output.old; trace = trace.old }; left = record { table = table.exit.now; state = state.new; output = output.new; trace = trace.new } }; answer = result }) }
+    ensures { Feeds (record { feeding = record { sent = record { line = line.now; budget = budget }; lent = record { table = table.old; state = state.old; output = output.old; trace = trace.old }; left = record { table = table.new; state = state.new; output = output.new; trace = trace.new } }; answer = result }) }
 {
     let number = host_refusal(table, state, output, trace);
     if 0 < number {
@@ -30,7 +29,7 @@ pub extern "C" fn m7_feed(
 
 // Whether the memories have the sizes that the docs state.
 fn are_sized(table: &[u8], state: &[u8], output: &[u8], trace: &[u8]) -> bool
-    ensures { result ≡ sized_to_feed (record { table = table.entry.now; state = state.now; output = output.now; trace = trace.now }) }
+    ensures { result ≡ sized_to_feed (record { table = table.now; state = state.now; output = output.now; trace = trace.now }) }
 {
     if table.len() != TABLE_BYTES {
         return false;
@@ -62,7 +61,7 @@ fn first_due(sized: bool, table: bool, state: bool) -> u32
 
 // The number with which the memories are refused before a line is fed, or 0.
 fn host_refusal(table: &[u8], state: &[u8], output: &[u8], trace: &[u8]) -> u32
-    ensures { result ≡ host_refusal (record { table = table.entry.now; state = state.now; output = output.now; trace = trace.now }) }
+    ensures { result ≡ host_refusal (record { table = table.now; state = state.now; output = output.now; trace = trace.now }) }
 {
     let sized = are_sized(table, state, output, trace);
     let is_table = check_table::is_table(table);

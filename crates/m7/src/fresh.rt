@@ -6,8 +6,7 @@ use crate::answers::{refusal, taken};
 use line_answer::Answer;
 
 // Stores the fresh state.
-#[unsafe(no_mangle)]
-pub extern "C" fn m7_fresh(state: &mut [u8]) -> Answer
+pub fn m7_fresh(state: &mut [u8]) -> Answer
     ensures { Gives (freshens state.old) result state.new }
 {
     if state.len() != STATE_BYTES {

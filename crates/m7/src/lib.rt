@@ -1,5 +1,7 @@
 // The engine for the host: reading a macro file, also past its faults, measuring one, writing out a table, the fresh state, states of the old
-// size, feeding a line, and looking words up. Each exported function has a file of its own.
+// size, feeding a line, and looking words up. Each function that m7_c exports for C has a file of its own.
+#![tactic(auto)]
+
 mod answers;
 pub mod feed;
 pub mod fresh;

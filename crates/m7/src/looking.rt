@@ -7,8 +7,7 @@ use line_answer::Answer;
 use word_find::{Looked, look_up};
 
 // Looks up the words of a line that a word-pattern covers. The length is their number, the place that of the first; both are 0 if none is.
-#[unsafe(no_mangle)]
-pub extern "C" fn m7_words(line: &[u8], pattern: &[u8]) -> Answer
+pub fn m7_words(line: &[u8], pattern: &[u8]) -> Answer
     ensures { result ≡ looks_up line.now pattern.now }
 {
     let looked = look_up(line, pattern);

@@ -11,8 +11,7 @@ use read_plan::Numbers;
 use read_scan::file_number;
 
 // What a macro file will take. No memory is lent, and no table is made.
-#[unsafe(no_mangle)]
-pub extern "C" fn m7_measure(file: &[u8]) -> Plan
+pub fn m7_measure(file: &[u8]) -> Plan
     ensures { result ≡ plan_of file.now }
 {
     in_numbers(read_plan::measure(file))

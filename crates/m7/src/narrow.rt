@@ -8,8 +8,7 @@ use line_answer::Answer;
 
 // Stores the same state in the old size: 3, then 2 over the whole state, then 42, an entry over 50 bytes. A refusal leaves the memory as
 // it was.
-#[unsafe(no_mangle)]
-pub extern "C" fn m7_narrow(state: &[u8], old: &mut [u8]) -> Answer
+pub fn m7_narrow(state: &[u8], old: &mut [u8]) -> Answer
     ensures { Narrows state.now old.old result old.new }
 {
     if state.len() != STATE_BYTES {

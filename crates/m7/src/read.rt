@@ -12,8 +12,7 @@ use read_file::file::read_onto;
 use read_scan::file_number;
 
 // Reads a macro file as a new table, whatever the memory held. The length is the number of macros; a refusal leaves the memory as it was.
-#[unsafe(no_mangle)]
-pub extern "C" fn m7_read(file: &[u8], table: &mut [u8]) -> Answer
+pub fn m7_read(file: &[u8], table: &mut [u8]) -> Answer
     ensures { Gives (reads file.now table.old) result table.new }
 {
     if table.len() != TABLE_BYTES {

@@ -13,9 +13,8 @@ use read_past::mend::read_past;
 
 // Reads a macro file past its faults, whatever the memories held: the table of the macros kept, and the list of the faults. The length is
 // the number of macros kept; a refusal leaves the memories as they were.
-#[unsafe(no_mangle)]
-pub extern "C" fn m7_recover(file: &[u8], table: &mut [u8], faults: &mut [u8]) -> Answer
-    ensures { Returned (recovers file.now (record { table = table.entry.now; faults = faults.old })) result (record { table = table.exit.now; faults = faults.new }) }
+pub fn m7_recover(file: &[u8], table: &mut [u8], faults: &mut [u8]) -> Answer
+    ensures { Returned (recovers file.now (record { table = table.old; faults = faults.old })) result (record { table = table.new; faults = faults.new }) }
 {
     if table.len() != TABLE_BYTES {
         return refusal(3, 0);
@@ -37,7 +36,7 @@ fn recover_new(
     faults: &mut [u8],
 ) -> Answer
     requires { (made.old ≡ replicate table_bytes 0) × (listed.old ≡ replicate faults_bytes 0) × (length table.old ≡ table_bytes) × (length faults.old ≡ faults_bytes) }
-    ensures { Returned (recovers file.now (record { table = table.entry.now; faults = faults.old })) result (record { table = table.exit.now; faults = faults.new }) }
+    ensures { Returned (recovers file.now (record { table = table.old; faults = faults.old })) result (record { table = table.new; faults = faults.new }) }
 {
     let past = read_past(file, made, listed);
     match past {

@@ -8,8 +8,7 @@ use line_answer::Answer;
 
 // Stores the same state in the new size: 3, then 2. What is no old state is no state when widened, so the check of 2 is that of every
 // call. A refusal leaves the memory as it was.
-#[unsafe(no_mangle)]
-pub extern "C" fn m7_widen(old: &[u8], state: &mut [u8]) -> Answer
+pub fn m7_widen(old: &[u8], state: &mut [u8]) -> Answer
     ensures { Widens old.now state.old result state.new }
 {
     if old.len() != OLD_STATE_BYTES {

@@ -10,8 +10,7 @@ use line_answer::Answer;
 use write_file::{Answer as Writing, WritingFault};
 
 // Writes out a table. The length is the file's, zeros stand behind it; a refusal leaves the memory as it was.
-#[unsafe(no_mangle)]
-pub extern "C" fn m7_write(table: &[u8], file: &mut [u8]) -> Answer
+pub fn m7_write(table: &[u8], file: &mut [u8]) -> Answer
     ensures { Writes table.now file.old result file.new }
 {
     if table.len() != TABLE_BYTES {
