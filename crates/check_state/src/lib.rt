@@ -1,4 +1,6 @@
 // Whether bytes are a state (refusal 2).
+#![tactic(auto)]
+
 ghost use Rattle.std.specs.Prelude.{◌≡◌, length};
 ghost use Rattle.macros.specs.Bounds.{most_entries, most_entry_bytes};
 ghost use Rattle.form_state.specs.Form.{entry_count, stack_bytes, stacks_bytes};

@@ -47,11 +47,11 @@ one_more l i h g = drop-cons l i 0 h ∙ ap (λ (x : List ℕ). get_or l i 0 ∷
 module _ {S : Type 0} (step : S → ℕ → ℕ → Option S) (l : List ℕ) (s : S) (i : ℕ) where
   pub walk_on : (s' : S) → i + 1 < length l → step s (get_or l i 0) (get_or l (i + 1) 0) ≡ some s' → walk step s (drop i l) ≡ walk step s' (drop (i + 2) l)
   unfolding walk
-  walk_on s' h e = rw (two_more l i h, e)
+  walk_on s' h e = rw (two_more l i h, e, walk)
 
   pub walk_refused : i + 1 < length l → step s (get_or l i 0) (get_or l (i + 1) 0) ≡ none → walk step s (drop i l) ≡ none
   unfolding walk
-  walk_refused h e = rw (two_more l i h, e)
+  walk_refused h e = rw (two_more l i h, e, walk)
 
   pub walk_odd : i < length l → length l ≤ i + 1 → walk step s (drop i l) ≡ none
   unfolding walk

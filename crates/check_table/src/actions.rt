@@ -9,7 +9,7 @@ ghost use Rattle.form_table.specs.ActionWalk.ActionState.{action_at};
 ghost use Rattle.form_table.specs.ActionWalk.ActionSpot.{behind_action, low_due, high_due};
 ghost use Rattle.check_table.specs.ActionCode.{spot_of, state_of, next_of};
 
-#[derive(Drop)]
+#[derive(Clone, Copy)]
 pub enum ActionSpot {
     BehindAction(bool),
     TagDue,
@@ -19,13 +19,13 @@ pub enum ActionSpot {
     HighDue(u32, u16),
 }
 
-#[derive(Drop)]
+#[derive(Clone, Copy)]
 pub struct ActionState {
     pub spelled: u32,
     pub spot: ActionSpot,
 }
 
-#[derive(Drop)]
+#[derive(Clone, Copy)]
 pub enum ActionNext {
     At(ActionState),
     Refused,

@@ -1,4 +1,6 @@
 // 01, refusal 1: whether lent bytes are the form of an accepted table.
+#![tactic(auto)]
+
 ghost use Rattle.std.specs.Prelude.{◌≡◌, ◌≤◌, length};
 ghost use Rattle.form_table.specs.Check.{items_fit, slot_fits, checks};
 

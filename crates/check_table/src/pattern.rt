@@ -12,7 +12,7 @@ ghost use Rattle.form_table.specs.PatternWalk.PatternSpot.{behind_piece};
 ghost use Rattle.form_table.specs.PatternWalk.Joint.{loose};
 ghost use Rattle.check_table.specs.PatternCode.{joint_of, inside_of, spot_of, state_of, next_of, closed_joint, ended, Room};
 
-#[derive(Drop)]
+#[derive(Clone, Copy)]
 pub enum Joint {
     Loose,
     AfterStar,
@@ -27,14 +27,14 @@ const DASH: u8 = 3;
 
 const RANGE: u8 = 4;
 
-#[derive(Drop)]
+#[derive(Clone, Copy)]
 pub enum PatternSpot {
     BehindPiece(Joint),
     InClass(Joint, u8),
     InRange(Joint, u8),
 }
 
-#[derive(Drop)]
+#[derive(Clone, Copy)]
 pub struct PatternState {
     pub spelled: u32,
     pub tags: u8,
@@ -43,7 +43,7 @@ pub struct PatternState {
     pub spot: PatternSpot,
 }
 
-#[derive(Drop)]
+#[derive(Clone, Copy)]
 pub enum PatternNext {
     At(PatternState),
     Refused,

@@ -1,4 +1,6 @@
 // A number in four bytes, low byte first: read and stored in lent bytes. Whether bytes are all 0.
+#![tactic(auto)]
+
 ghost use Rattle.std.specs.Prelude.{◌+◌, ◌≤◌, ◌≡◌, ◌&&◌, length};
 ghost use Rattle.form_bytes.specs.Fours.{number_at, with_number};
 ghost use Rattle.form_bytes.specs.Zeros.{all_zero};

@@ -1,4 +1,6 @@
 // A pattern's element (01, part 2), for reader and matcher: its unit and its closure, and its item in the table's form.
+#![tactic(auto)]
+
 ghost use Rattle.std.specs.Prelude.{◌+◌, ◌≤◌, ◌<◌, ◌≡◌, [], ◌∷◌, length};
 ghost use Rattle.form_table.specs.Form.{closure_code};
 ghost use Rattle.form_items.specs.Items.{Wrote};
@@ -11,7 +13,7 @@ use form_items::codes::{
 use form_items::put_item;
 
 // What a closure may follow; `^` and `$`; and the braces, which have an item as these have. The members of a class stand behind its item.
-#[derive(Drop)]
+#[derive(Clone, Copy)]
 pub enum Unit {
     Literal(u8),
     Kind(u8),
@@ -26,7 +28,7 @@ pub enum Unit {
 }
 
 // No closure, `*` and `*-`.
-#[derive(Drop)]
+#[derive(Clone, Copy)]
 pub enum Closure {
     Once,
     OneOrMore,
@@ -34,14 +36,14 @@ pub enum Closure {
 }
 
 // A unit with its closure.
-#[derive(Drop)]
+#[derive(Clone, Copy)]
 pub struct Element {
     pub unit: Unit,
     pub closure: Closure,
 }
 
 // An item's two bytes.
-#[derive(Drop)]
+#[derive(Clone, Copy)]
 struct Item {
     code: u8,
     operand: u8,

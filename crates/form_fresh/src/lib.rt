@@ -1,4 +1,6 @@
 // The fresh state, into a state's memory.
+#![tactic(auto)]
+
 ghost use Rattle.std.specs.Prelude.{◌-◌, ◌≤◌, ◌≡◌, length, replicate};
 ghost use Rattle.lines.specs.State.{fresh};
 ghost use Rattle.form_state.specs.Form.{state_bytes, state_form};

@@ -1,4 +1,6 @@
 // Items of two bytes, a code of the table's form and an operand: storing one, and how many bytes an action's take; a number in two bytes; and storing zeros.
+#![tactic(auto)]
+
 pub mod codes;
 pub mod layout;
 

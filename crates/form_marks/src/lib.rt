@@ -1,4 +1,6 @@
 // Tests of a byte of a macro: which need a `\` where they stand, in the shortest spelling and written out.
+#![tactic(auto)]
+
 ghost use Rattle.std.specs.Prelude.{◌≡◌, [], ◌∷◌};
 ghost use Rattle.macros.specs.Macro.{within, among, is_range};
 ghost use Rattle.macros.specs.Read.{signs};

@@ -1,4 +1,6 @@
 // 02, N6: a state of the old size made one of the new size, and back.
+#![tactic(auto)]
+
 ghost use Rattle.std.specs.Prelude.{◌+◌, ◌≤◌, ◌≡◌, length};
 ghost use Rattle.macros.specs.Bounds.{most_entry_bytes, old_entry_bytes};
 ghost use Rattle.form_state.specs.Form.{state_bytes, entries_from};

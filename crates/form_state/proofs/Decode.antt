@@ -1,6 +1,6 @@
 -- A state from its bytes: bytes that pass the check are the form of the state that they decode to, and a form decodes to its state.
 use Prim.Native.Nat.{ℕ, zero, suc, ◌+◌, ◌-◌, ◌*◌, ◌≤◌}
-use mathlib.Core.Path.{◌≡◌, refl, sym, ap, ◌∙◌}
+use mathlib.Core.Path.{◌≡◌, refl, sym, ap, subst, ◌∙◌}
 use mathlib.Core.Bool.{Bool, true, false, not, ◌&&◌, ◌||◌, false≢true}
 use mathlib.Core.List.{List, [], ◌∷◌, ◌++◌, map, append_assoc}
 use native.Mathlib.Nat.{suc-sub-suc, sub-zero}
@@ -137,7 +137,7 @@ zeros [] e = refl
 zeros (b ∷ c) e =
     let none : b ≡ 0 = eqb-true b 0 (and_left (eqb b 0) (entry_check (b ∷ c)) e) in
     let rest : entry_check (b ∷ c) ≡ true = and_right (eqb b 0) (entry_check (b ∷ c)) e in
-    rw none (ap (λ (t : List ℕ). 0 ∷ t) (zeros c (rw none at rest)))
+    rw none (ap (λ (t : List ℕ). 0 ∷ t) (zeros c (subst (λ (x : ℕ). entry_check (x ∷ c) ≡ true) none rest)))
 
 tail_checks : (a : ℕ) (c : List ℕ) → entry_check (a ∷ c) ≡ true → entry_check c ≡ true
 unfolding entry_check

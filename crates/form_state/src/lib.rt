@@ -1,4 +1,6 @@
 // The state as bytes: what is read of the stacks and counters in one lent memory.
+#![tactic(auto)]
+
 pub mod layout;
 
 ghost use Rattle.std.specs.Prelude.{◌+◌, ◌-◌, ◌≤◌, ◌≡◌};

@@ -1,4 +1,6 @@
 // The six kinds of each byte.
+#![tactic(auto)]
+
 ghost use Rattle.std.specs.Prelude.{◌≡◌};
 ghost use Rattle.kinds.specs.Kind.{kind_of, kind_table};
 

@@ -1,4 +1,6 @@
 // What a call answers, in numbers.
+#![tactic(auto)]
+
 ghost use Rattle.std.specs.Prelude.{◌≡◌, ◌≤◌};
 ghost use Rattle.macros.specs.Bounds.{most_file_bytes, most_line_bytes, most_budget};
 ghost use Rattle.macros.specs.Refusals.{work_number, number, place};
@@ -10,7 +12,7 @@ use read_scan::{FileFault, file_number};
 use refusals::WorkFault;
 
 // Why a line is refused.
-#[derive(Drop)]
+#[derive(Clone, Copy)]
 pub enum Why {
     BudgetTooLarge,
     LineTooLong,
@@ -23,7 +25,7 @@ pub enum Why {
 }
 
 // A line's answer with the passes begun; one that goes out has its length too.
-#[derive(Drop)]
+#[derive(Clone, Copy)]
 pub enum Fed {
     Out(usize, usize),
     Withheld(usize),
@@ -33,7 +35,7 @@ pub enum Fed {
 
 // What a call answers: 0 or a refusal's number, its place, the passes begun, a line's kind, and a length.
 #[repr(C)]
-#[derive(Drop)]
+#[derive(Clone, Copy)]
 pub struct Answer {
     pub number: u32,
     pub place: u32,

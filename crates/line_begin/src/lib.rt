@@ -1,4 +1,6 @@
 // A pass of a macro, with how it begins (02, N2).
+#![tactic(auto)]
+
 ghost use Rattle.line_begin.specs.Beginning.{PrepareLent, MacroPrepares, PassLent, PassRuns};
 
 use pass_moment::Passed;

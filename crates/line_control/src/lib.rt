@@ -1,4 +1,6 @@
 // Control lines (01, part 6): what one orders.
+#![tactic(auto)]
+
 mod flags;
 
 ghost use Rattle.std.specs.Prelude.{◌≡◌, ◌≤◌, length};
@@ -17,14 +19,14 @@ use read_file::file::read_onto;
 use read_scan::FileFault;
 
 // Why a control line is refused: 23, or a fault in its macro with the place.
-#[derive(Drop)]
+#[derive(Clone, Copy)]
 pub enum Why {
     BadControl,
     InMacro(FileFault, usize),
 }
 
 // What a control line comes to.
-#[derive(Drop)]
+#[derive(Clone, Copy)]
 pub enum Order {
     Taken,
     Refused(Why),

@@ -1,4 +1,6 @@
 // The end of a line (01, part 6): its control line is carried out, and it is answered.
+#![tactic(auto)]
+
 mod answers;
 
 ghost use Rattle.std.specs.Prelude.{◌≡◌, length};

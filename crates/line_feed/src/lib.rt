@@ -1,4 +1,6 @@
 // Feeding a line (01, part 6): its tests, its passes and its end.
+#![tactic(auto)]
+
 mod slots;
 mod taking;
 

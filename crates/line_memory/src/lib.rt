@@ -1,4 +1,6 @@
 // The memories of a line: a text with zeros behind it. What a table's memory holds stands in specs/.
+#![tactic(auto)]
+
 ghost use Rattle.std.specs.Prelude.{◌≡◌, ◌++◌, ◌-◌, ◌≤◌, length, take, drop, replicate};
 ghost use Rattle.line_memory.specs.Memory.{padded, laid_if};
 

@@ -1,4 +1,6 @@
 // The passes of a line, from its start to its end (01, part 6).
+#![tactic(auto)]
+
 mod passes;
 
 ghost use Rattle.std.specs.Prelude.{◌≡◌};

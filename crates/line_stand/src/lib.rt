@@ -1,4 +1,6 @@
 // Where a line stands (01, part 6): what is due there, and what follows a pass.
+#![tactic(auto)]
+
 mod slots;
 
 ghost use Rattle.std.specs.Prelude.{◌≡◌, ◌≤◌, length, true};
@@ -15,7 +17,7 @@ use refusals::WorkFault;
 use slots::{close, open_below};
 
 // Why the table at work refuses a line: 31, a pass's fault, or 36.
-#[derive(Drop)]
+#[derive(Clone, Copy)]
 pub enum Why {
     BudgetUsedUp,
     AtWork(WorkFault),
@@ -23,7 +25,7 @@ pub enum Why {
 }
 
 // How a line ends: done, with its length and whether it had an occurrence; a control line, with its length; or refused. Last the passes begun.
-#[derive(Drop)]
+#[derive(Clone, Copy)]
 pub enum Ended {
     Done(usize, bool, usize),
     Control(usize, usize),
@@ -31,7 +33,7 @@ pub enum Ended {
 }
 
 // Where a line stands, before a pass or at its end: its length, whether it had an occurrence, how many of the oldest macros may be due, the passes begun, and the bytes of the trace.
-#[derive(Drop)]
+#[derive(Clone, Copy)]
 pub struct Stand {
     pub size: usize,
     pub occurred: bool,
@@ -41,14 +43,14 @@ pub struct Stand {
 }
 
 // What is due where a line stands: its end, or the pass of the macro with this number.
-#[derive(Drop)]
+#[derive(Clone, Copy)]
 pub enum Due {
     Over(Ended),
     Pass(usize),
 }
 
 // After a pass, or instead of it.
-#[derive(Drop)]
+#[derive(Clone, Copy)]
 pub enum Next {
     On(Stand),
     Over(Ended),

@@ -1,9 +1,11 @@
 // What refuses a line before its passes: 4, then 21, then 22 (01, part 6).
+#![tactic(auto)]
+
 ghost use Rattle.std.specs.Prelude.{◌≡◌};
 ghost use Rattle.line_test.specs.Test.{Tested, first_due, FoundBad, Firsts};
 
 // Why a line is refused before its passes.
-#[derive(Drop)]
+#[derive(Clone, Copy)]
 pub enum Why {
     BudgetTooLarge,
     LineTooLong,
@@ -11,7 +13,7 @@ pub enum Why {
 }
 
 // The first refusal that is due, or none: its passes begin.
-#[derive(Drop)]
+#[derive(Clone, Copy)]
 pub enum First {
     Refused(Why),
     Passes,

@@ -1,4 +1,6 @@
 // The lines of a pass in the memory of a trace (02, N1).
+#![tactic(auto)]
+
 ghost use Rattle.std.specs.Prelude.{◌≡◌, ◌+◌, ◌≤◌, ◌<◌, length};
 ghost use Rattle.macros.specs.Write.{digits};
 ghost use Rattle.line_trace.specs.Tracing.{Room, Puts, Lent, Asked, Traces};
@@ -7,7 +9,7 @@ ghost use Rattle.line_trace.specs.Tracing.{Room, Puts, Lent, Asked, Traces};
 const WORDS: usize = 27;
 
 // The bytes of the trace with these lines; or they do not fit.
-#[derive(Drop)]
+#[derive(Clone, Copy)]
 pub enum Traced {
     Fits(usize),
     TooLong,

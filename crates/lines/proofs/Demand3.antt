@@ -114,7 +114,7 @@ fed_line ms st sent = (history_of ms st sent, fed_holds ms st sent)
 pub lines : (ms : Table) (st : State) (xs : List Sent) → Lines ms st xs (feeds ms st xs)
 unfolding feeds
 lines ms st [] = tt
-lines ms st (x ∷ xs) = (fed_line ms st x, lines _ _ xs)
+lines ms st (x ∷ xs) = (fed_line ms st x, lines (feed ms st x).table (feed ms st x).state xs)
 
 -- THE LAW
 pub resumed : Resumed

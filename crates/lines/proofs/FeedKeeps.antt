@@ -88,7 +88,7 @@ feed_keeps ms st sent a i o =
 pub feeds_from : (ms : Table) (st : State) (xs : List Sent) → Accepted ms → InRange st → AllOf (λ (x : Sent). Octets x.line) xs → EachKept ms st xs (feeds ms st xs)
 unfolding feeds
 feeds_from ms st [] a i o = tt
-feeds_from ms st (x ∷ xs) a i o = let k = feed_keeps ms st x a i o.0 in (k, feeds_from _ _ xs k.table k.state o.1)
+feeds_from ms st (x ∷ xs) a i o = let k = feed_keeps ms st x a i o.0 in (k, feeds_from (feed ms st x).table (feed ms st x).state xs k.table k.state o.1)
 
 pub feeds_keep : FeedsKeep
 feeds_keep ms xs a o = feeds_from ms fresh xs a fresh_in_range o

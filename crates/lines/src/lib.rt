@@ -1,1 +1,2 @@
 // Definitions only: states, divisions, passes, lines and lists of lines. They stand in specs/.
+#![tactic(auto)]

@@ -16,7 +16,7 @@ use Rattle.macros.specs.Refusals.HostRefusal.{bad_memory, bad_state}
 use Rattle.macros.proofs.Tests.{and_left, and_right}
 use Rattle.form_table.proofs.Basics.{clash, and_both}
 use Rattle.lines.specs.State.{State}
-use Rattle.lines.specs.Feeding.{feeds}
+use Rattle.lines.specs.Feeding.{feed, feeds}
 use Rattle.lines.specs.Feeding.{Answer as Answered}
 use Rattle.m_widths.specs.Widths.{widened, narrowed, Short}
 use Rattle.m_widths.specs.Widened.{widened_all}
@@ -161,7 +161,7 @@ unfolding feeds
 all_fed ms st t b [] f h k y = tt
 all_fed ms st t b (c ∷ cs) f h k y =
     let r = k.2.fed y.0 ms (rw k.0 f) st (rw k.1 h) in
-    (r, all_fed _ _ c.feeding.left.table c.feeding.left.state cs r.table_holds r.state_holds k.3 y.1)
+    (r, all_fed (feed ms st c.feeding.sent).table (feed ms st c.feeding.sent).state c.feeding.left.table c.feeding.left.state cs r.table_holds r.state_holds k.3 y.1)
 
 pub old_and_new : OldAndNew
 old_and_new t old state b r ms st cs h =

@@ -1,1 +1,2 @@
 // Laws on the trace of a line (02, N1): no code.
+#![tactic(auto)]

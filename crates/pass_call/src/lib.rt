@@ -1,4 +1,6 @@
 // What a call changes (01, part 4): pointers, counters and entries. The answer hands on the size of the new line, which stays.
+#![tactic(auto)]
+
 mod setting;
 
 ghost use Rattle.std.specs.Prelude.{◌≡◌, ◌≤◌, ◌<◌};

@@ -1,4 +1,6 @@
 // Which bytes a line has, and whether a pattern must have one that is not among them, or that is not at a place.
+#![tactic(auto)]
+
 ghost use Rattle.std.specs.Prelude.{◌≡◌, ◌≤◌, length, set};
 ghost use Rattle.pass_lack.specs.Twos.{Exactly, LetterIn, Pairs};
 ghost use Rattle.pass_lack.specs.Lacking.{flags_of, Absent, SomeAbsent, differs_in};

@@ -1,4 +1,6 @@
 // The marks of failed pairs of a closure and a place: a bit for each, in rows of 132 bytes an item.
+#![tactic(auto)]
+
 ghost use Rattle.std.specs.Prelude.{◌≤◌, ◌≡◌, eqb, length};
 ghost use Rattle.pass_marks.specs.Marks.{mark, ByteThere, marked, cleared};
 

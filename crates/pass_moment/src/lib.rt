@@ -1,4 +1,6 @@
 // Moments of a pass (01, part 5): from place to place, and what it comes to.
+#![tactic(auto)]
+
 ghost use Rattle.std.specs.Prelude.{◌≤◌, ◌≡◌, length};
 ghost use Rattle.macros.specs.Bounds.{most_line_bytes};
 ghost use Rattle.pass_moment.specs.Moments.{Starts, moved_to, refused_at, after_of, passed_of, Copies, StepsOver};
@@ -6,14 +8,14 @@ ghost use Rattle.pass_moment.specs.Moments.{Starts, moved_to, refused_at, after_
 use refusals::{Outcome, WorkFault};
 
 // Whether there was an occurrence, and the bytes of the new line; or a refusal, with the bytes that the new line has by then.
-#[derive(Drop)]
+#[derive(Clone, Copy)]
 pub enum Passed {
     Over(bool, usize),
     Refused(WorkFault, usize),
 }
 
 // Whether a step of the pass was refused.
-#[derive(Drop)]
+#[derive(Clone, Copy)]
 pub enum Refusal {
     NotRefused,
     RefusedBy(WorkFault),
@@ -21,7 +23,7 @@ pub enum Refusal {
 
 // A moment of a pass: the place to be tried next, the end of the match just made, the bytes of the new line,
 // whether there was an occurrence, and whether a step was refused.
-#[derive(Drop)]
+#[derive(Clone, Copy)]
 pub struct Moment {
     pub place: usize,
     pub last: usize,

@@ -1,4 +1,6 @@
 // A pass (01, parts 3 and 5): one macro over one line.
+#![tactic(auto)]
+
 mod keeping;
 mod matcher;
 mod walking;
@@ -14,7 +16,7 @@ use pass_moment::Passed;
 use walking::{First, first_match, walk};
 
 // Where a match ends.
-#[derive(Drop)]
+#[derive(Clone, Copy)]
 pub(crate) enum Found {
     Matched(usize),
     NoMatch,

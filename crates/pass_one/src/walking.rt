@@ -13,7 +13,7 @@ use pass_moment::{Moment, Passed, after, answer, start, step_over};
 use pass_replace::occurrence;
 
 // The first match of a pass: where it begins and where it ends.
-#[derive(Drop)]
+#[derive(Clone, Copy)]
 pub(crate) enum First {
     At(usize, usize),
     Nowhere,

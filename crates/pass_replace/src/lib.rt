@@ -1,4 +1,6 @@
 // Replacing (01, part 4): what an occurrence inserts and changes; and what the calls before a pattern change (02, N2).
+#![tactic(auto)]
+
 mod actions;
 mod tags;
 

@@ -1,4 +1,6 @@
 // For what an action does: a text stored at a place, the text of a tag or of an entry, and whether a code is one of several.
+#![tactic(auto)]
+
 ghost use Rattle.std.specs.Prelude.{◌≡◌, ◌+◌, ◌≤◌, length};
 ghost use Rattle.std.proofs.Math.Seq.{paste};
 ghost use Rattle.macros.specs.Macro.{within};
@@ -26,14 +28,14 @@ pub fn is_within(a: u8, z: u8, b: u8) -> bool
 }
 
 // A part of the line: from a place up to another.
-#[derive(Drop)]
+#[derive(Clone, Copy)]
 pub struct Span {
     pub from: usize,
     pub to: usize,
 }
 
 // Whose text: a tag's, with its span of the line, or that of the current entry of a stack, by its letter.
-#[derive(Drop)]
+#[derive(Clone, Copy)]
 pub enum Text {
     Tag(Span),
     Entry(u8),

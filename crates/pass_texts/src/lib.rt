@@ -1,4 +1,6 @@
 // What an action inserts (01, part 4).
+#![tactic(auto)]
+
 ghost use Rattle.std.specs.Prelude.{◌≡◌, ◌+◌, ◌≤◌, ◌<◌, length};
 ghost use Rattle.std.proofs.Math.Seq.{slice};
 ghost use Rattle.macros.specs.Bounds.{most_counter};

@@ -1,4 +1,6 @@
 // A pattern's units: whether a copy stands at a place, and how wide it is. Everywhere at is the place of the element's item.
+#![tactic(auto)]
+
 ghost use Rattle.std.specs.Prelude.{◌≡◌, [], ◌∷◌, ◌+◌, ◌≤◌, ◌<◌, length, drop};
 ghost use Rattle.macros.specs.Macro.{within};
 ghost use Rattle.macros.specs.Write.{digits};
@@ -14,7 +16,7 @@ use form_state::{entry, value};
 use kinds::is_kind;
 
 // The place behind copies that must stand.
-#[derive(Drop)]
+#[derive(Clone, Copy)]
 pub enum Lead {
     After(usize),
     Nothing,

@@ -1,4 +1,6 @@
 // Single bytes of a macro file: breaks, letters and digits, and what an escape means.
+#![tactic(auto)]
+
 ghost use Rattle.std.specs.Prelude.{◌≡◌};
 ghost use Rattle.macros.specs.Macro.{ascii_lower, digit};
 ghost use Rattle.macros.specs.Read.{breaks, escaped};

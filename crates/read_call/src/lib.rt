@@ -1,4 +1,6 @@
 // Reads calls. What each answer says of the machine of the definitions stands in specs/.
+#![tactic(auto)]
+
 pub mod calls;
 
 use read_scan::FileFault;
@@ -9,7 +11,7 @@ pub(crate) const MOST_ENTRIES: u64 = 20;
 pub(crate) const MOST_COUNTER: u64 = 999_999_999;
 
 // The three places where a call other than a pattern's may stand.
-#[derive(Drop)]
+#[derive(Clone, Copy)]
 pub enum Site {
     BeforePattern,
     Replacement,
@@ -17,14 +19,14 @@ pub enum Site {
 }
 
 // A letter, its move's code, and the byte behind them with its place; or a refusal with its place.
-#[derive(Drop)]
+#[derive(Clone, Copy)]
 pub(crate) enum Name {
     Got(u8, u8, u8, usize),
     Refused(FileFault, usize),
 }
 
 // What the byte behind a call's letter asks for: a text; a number of at most so much, for the item of this code; the item of this code; nothing.
-#[derive(Drop)]
+#[derive(Clone, Copy)]
 pub(crate) enum Tail {
     Text,
     Set(u8, u64),

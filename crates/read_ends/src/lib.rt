@@ -1,4 +1,6 @@
 // How the parts of a macro end: what is refused, handed on, and what a refusal leaves.
+#![tactic(auto)]
+
 ghost use Rattle.std.specs.Prelude.{◌≡◌};
 ghost use Rattle.read_ends.specs.Ends.{next_end, left_by};
 
@@ -6,7 +8,7 @@ use form_items::clear;
 use read_scan::{FileFault, Next};
 
 // The place behind what was read, and the end of the items written; or a refusal with its place.
-#[derive(Drop)]
+#[derive(Clone, Copy)]
 pub enum Ended {
     Upto(usize, usize),
     Refused(FileFault, usize),

@@ -1,4 +1,6 @@
 // Lists the faults of a macro file (02, N11). What each answer says of the definitions stands in specs/.
+#![tactic(auto)]
+
 ghost use Rattle.std.specs.Prelude.{◌≡◌, ◌≤◌, ◌<◌, length};
 ghost use Rattle.macros.specs.Bounds.{most_file_bytes};
 ghost use Rattle.macros.specs.Macro.{within};
@@ -19,7 +21,7 @@ const NUMBER_BYTES: usize = 4;
 const FAULT_BYTES: usize = 8;
 
 // Reading goes on at a place, behind so many macros and so many faults; it ends with so many macros; or a refusal's number and place.
-#[derive(Drop)]
+#[derive(Clone, Copy)]
 pub enum Moment {
     On(usize, usize, usize),
     Ended(usize),

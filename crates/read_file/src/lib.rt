@@ -1,4 +1,6 @@
 // Reads macro files onto tables. What each answer says of the machine of the definitions stands in specs/.
+#![tactic(auto)]
+
 pub mod file;
 mod slots;
 
@@ -10,7 +12,7 @@ pub(crate) const MOST_MACROS: usize = 96;
 pub(crate) const SLOT_BYTES: usize = 1024;
 
 // What comes next in a file: a macro, with the place behind its `;`; the file's end; or a refusal with its place.
-#[derive(Drop)]
+#[derive(Clone, Copy)]
 pub enum Found {
     Macro(usize),
     End,
@@ -18,14 +20,14 @@ pub enum Found {
 }
 
 // The macros that the table has with all of a file's; or a refusal with its place, and the macros by then.
-#[derive(Drop)]
+#[derive(Clone, Copy)]
 pub(crate) enum Added {
     All(usize),
     Refused(FileFault, usize, usize),
 }
 
 // The macros that the table has with a file's; or the refusal with its place.
-#[derive(Drop)]
+#[derive(Clone, Copy)]
 pub enum Reading {
     Table(usize),
     Refused(FileFault, usize),

@@ -1,4 +1,6 @@
 // Reads one macro from where it begins to its `;`. What each answer says of the machine of the definitions stands in specs/.
+#![tactic(auto)]
+
 ghost use Rattle.std.specs.Prelude.{◌≡◌, ◌≤◌, ◌<◌, ◌*◌, ◌+◌, ◌-◌, length};
 ghost use Rattle.macros.specs.Bounds.{most_tags};
 ghost use Rattle.form_table.specs.Form.{slot_bytes, symbol_code};
@@ -15,7 +17,7 @@ use read_pattern::pattern::whole;
 use read_scan::{FileFault, MOST_MACRO_BYTES, Next};
 
 // What a slot's first bytes say: the symbol's code, the tags, and the bytes of the four parts.
-#[derive(Drop)]
+#[derive(Clone, Copy)]
 pub struct Head {
     pub symbol: u8,
     pub tags: usize,
@@ -26,7 +28,7 @@ pub struct Head {
 }
 
 // The place behind a macro's `;`, and its head; or a refusal with its place.
-#[derive(Drop)]
+#[derive(Clone, Copy)]
 pub enum Built {
     Made(usize, Head),
     Refused(FileFault, usize),

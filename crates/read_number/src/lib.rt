@@ -1,4 +1,6 @@
 // Numbers of a macro file: digits of any number, taken by their value.
+#![tactic(auto)]
+
 ghost use Rattle.std.specs.Prelude.{◌≡◌, true, ◌≤◌, ◌*◌, ◌+◌, ◌-◌};
 ghost use Rattle.macros.specs.Bounds.{most_counter};
 ghost use Rattle.macros.specs.Macro.{digit};
@@ -11,7 +13,7 @@ use read_scan::scan::next_byte;
 use read_scan::{FileFault, Next};
 
 // A number, at most 1,000,000,000, whether it has a digit, and the byte behind it with its place.
-#[derive(Drop)]
+#[derive(Clone, Copy)]
 pub enum Number {
     Got(u64, bool, u8, usize),
     Refused(FileFault, usize),

@@ -1,4 +1,6 @@
 // Reads a macro file past its faults (02, N11). What each answer says of the definitions stands in specs/.
+#![tactic(auto)]
+
 pub mod mend;
 
 // The memory of the faults: their count, then number and place of each.
@@ -10,7 +12,7 @@ pub(crate) const TABLE_BYTES: usize = 98304;
 pub(crate) const SLOT_BYTES: usize = 1024;
 
 // How many macros are kept; or a refusal's number and place.
-#[derive(Drop)]
+#[derive(Clone, Copy)]
 pub enum Past {
     Kept(usize),
     Refused(u32, usize),

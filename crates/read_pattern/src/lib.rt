@@ -1,4 +1,6 @@
 // Reads patterns. What each answer says of the machine of the definitions stands in specs/.
+#![tactic(auto)]
+
 pub mod pattern;
 
 use read_scan::FileFault;
@@ -7,7 +9,7 @@ use read_scan::FileFault;
 pub(crate) const MOST_TAGS: usize = 99;
 
 // How far a pattern is: its tags, whether it has an element, and the bytes written.
-#[derive(Drop)]
+#[derive(Clone, Copy)]
 pub(crate) struct PatternSoFar {
     pub(crate) tags: usize,
     pub(crate) some: bool,
@@ -15,7 +17,7 @@ pub(crate) struct PatternSoFar {
 }
 
 // What ends a run of elements, with its place: a right brace or the quote.
-#[derive(Drop)]
+#[derive(Clone, Copy)]
 pub(crate) enum Inside {
     Closed(usize, PatternSoFar),
     Quote(usize, PatternSoFar),
@@ -23,7 +25,7 @@ pub(crate) enum Inside {
 }
 
 // The place behind a pattern's closing quote, its tags, and the end of what is written.
-#[derive(Drop)]
+#[derive(Clone, Copy)]
 pub enum Whole {
     Pattern(usize, usize, usize),
     Refused(FileFault, usize),

@@ -1,4 +1,6 @@
 // What a macro file will take (02, N8): one macro at a time in a slot, no table is made.
+#![tactic(auto)]
+
 ghost use Rattle.std.specs.Prelude.{◌≡◌, ◌%◌, ◌≤◌, length, get_or};
 ghost use Rattle.macros.specs.Bounds.{most_file_bytes};
 ghost use Rattle.macros.specs.Macro.{pick};
@@ -20,7 +22,7 @@ use write_file::{Answer as Writing, WritingFault};
 
 // Macros, the most elements and the most tags of a macro, and the bytes of the file written out; or, in place of the bytes,
 // the refusal of writing out with its place; or the refusal of reading with its place.
-#[derive(Drop)]
+#[derive(Clone, Copy)]
 pub enum Numbers {
     Takes(usize, usize, usize, usize),
     Unwritten(usize, usize, usize, WritingFault, usize),

@@ -1,5 +1,7 @@
 // What every part of the macro-file reader is made of: the next byte of a macro.
 // Each answer is defined in specs/, from the file's bytes alone; there also stands what it says of the machine of the definitions.
+#![tactic(auto)]
+
 pub mod scan;
 
 ghost use Rattle.std.specs.Prelude.{◌≡◌};
@@ -10,7 +12,7 @@ ghost use Rattle.read_scan.specs.Scan.{fault_of};
 pub const MOST_MACRO_BYTES: usize = 512;
 
 // A refusal of the table writer, in the order of their numbers: 10 to 19.
-#[derive(Drop)]
+#[derive(Clone, Copy)]
 pub enum FileFault {
     FileTooLong,
     ZeroByte,
@@ -25,7 +27,7 @@ pub enum FileFault {
 }
 
 // A byte with its place; or a refusal with its place.
-#[derive(Drop)]
+#[derive(Clone, Copy)]
 pub enum Next {
     Byte(u8, usize),
     Refused(FileFault, usize),

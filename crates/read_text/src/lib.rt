@@ -1,4 +1,6 @@
 // Reads the text of a call. What each answer says of the machine of the definitions stands in specs/.
+#![tactic(auto)]
+
 ghost use Rattle.std.specs.Prelude.{◌≡◌, ◌≤◌, ◌<◌, ◌*◌, ◌+◌, ◌-◌, length};
 ghost use Rattle.read_scan.specs.Scan.{Reached, Here};
 ghost use Rattle.form_items.specs.Items.{Wrote};

@@ -1,7 +1,8 @@
 // What can be refused at work, and what an action comes to.
+#![tactic(auto)]
 
 // 32 to 35.
-#[derive(Drop)]
+#[derive(Clone, Copy)]
 pub enum WorkFault {
     NewLineTooLong,
     TagTooLong,
@@ -10,7 +11,7 @@ pub enum WorkFault {
 }
 
 // The bytes that the new line has then; or a refusal, with the bytes that it has by then.
-#[derive(Drop)]
+#[derive(Clone, Copy)]
 pub enum Outcome {
     Made(usize),
     Refused(WorkFault, usize),

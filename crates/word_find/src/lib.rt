@@ -1,4 +1,6 @@
 // Looking words up in a line (02, N5).
+#![tactic(auto)]
+
 mod cover;
 mod form;
 mod walk;
@@ -18,7 +20,7 @@ pub(crate) const DASH: u8 = b'-';
 pub(crate) const LETTER_OR_DIGIT: u8 = 2;
 
 // 21, 22 and 41; or how many words are covered, and the place of the first.
-#[derive(Drop)]
+#[derive(Clone, Copy)]
 pub enum Looked {
     LineTooLong,
     BadByte,

@@ -1,4 +1,6 @@
 // A replacement, the commands or the calls before a pattern written out, from their items.
+#![tactic(auto)]
+
 ghost use Rattle.std.specs.Prelude.{◌≡◌, [], ◌∷◌, ◌++◌, ◌≤◌, ltb, length, get_or};
 ghost use Rattle.macros.specs.Macro.{pick, among};
 ghost use Rattle.macros.specs.Write.{text_marks, byte, write_text};

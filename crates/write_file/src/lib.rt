@@ -1,4 +1,6 @@
 // Writing out (01, part 7): from a table in its byte form to the macro file.
+#![tactic(auto)]
+
 pub mod slots;
 
 ghost use Rattle.std.specs.Prelude.{◌≡◌, ◌++◌, ◌≤◌, ◌<◌, ◌-◌, length, get_or, take, replicate};
@@ -8,14 +10,14 @@ ghost use Rattle.write_file.specs.Slots.{padded};
 use slots::write_slots;
 
 // 18 and 10.
-#[derive(Drop)]
+#[derive(Clone, Copy)]
 pub enum WritingFault {
     MacroTooLong,
     FileTooLong,
 }
 
 // The file's length, or a refusal with its place.
-#[derive(Drop)]
+#[derive(Clone, Copy)]
 pub enum Answer {
     Written(usize),
     Refused(WritingFault, usize),

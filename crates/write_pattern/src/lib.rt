@@ -1,4 +1,6 @@
 // A pattern written out, from its items.
+#![tactic(auto)]
+
 ghost use Rattle.std.specs.Prelude.{◌≡◌, ◌∷◌, ◌%◌, ◌≤◌, ◌<◌, ltb, length};
 ghost use Rattle.macros.specs.Macro.{pick};
 ghost use Rattle.macros.specs.Write.{byte};

@@ -90,13 +90,13 @@ short_few (Four a b c d) = omega arith
 
 -- THE MARKS
 
-pub plain : (t : Bool) (b : ℕ) → not t ≡ true → b ∷ [] ≡ byte t b
+pub plain : (t : Bool) (b : ℕ) → t ≡ false → b ∷ [] ≡ byte t b
 unfolding byte
-plain t b n = ap (λ (w : Bool). byte w b) {y = t} (sym (not-true t n))
+plain t b n = ap (λ (w : Bool). byte w b) {y = t} (sym n)
 
-pub escaped : (t : Bool) (b : ℕ) {x : ℕ} → not t ≡ false → x ≡ escape_byte b → 92 ∷ x ∷ [] ≡ byte t b
+pub escaped : (t : Bool) (b : ℕ) {x : ℕ} → t ≡ true → x ≡ escape_byte b → 92 ∷ x ∷ [] ≡ byte t b
 unfolding byte
-escaped t b n f = ap (λ (y : ℕ). 92 ∷ y ∷ []) f ∙ ap (λ (w : Bool). byte w b) {y = t} (sym (not-false t n))
+escaped t b n f = ap (λ (y : ℕ). 92 ∷ y ∷ []) f ∙ ap (λ (w : Bool). byte w b) {y = t} (sym n)
 
 pub by_mark : (l : List ℕ) (b : ℕ) {t : Bool} {x : List ℕ} → x ≡ byte t b → t ≡ among l b → x ≡ byte (among l b) b
 by_mark l b e f = e ∙ ap (λ (w : Bool). byte w b) f

@@ -1,11 +1,13 @@
 // Bytes of a macro file that is written out: put into it up to its end, or counted.
 // A number of bytes past the file's end says that they do not all fit: it is handed on, and no more is put.
+#![tactic(auto)]
+
 ghost use Rattle.std.specs.Prelude.{◌≡◌, [], ◌∷◌, ◌++◌, ◌+◌, ◌≤◌, ◌<◌, length, take};
 ghost use Rattle.macros.specs.Write.{byte, digits};
 ghost use Rattle.write_put.specs.Puts.{short_text, Ends, Puts, Counts};
 
 // Up to four bytes.
-#[derive(Drop)]
+#[derive(Clone, Copy)]
 pub enum Short {
     Nothing,
     One(u8),

@@ -1,0 +1,7 @@
+use Rattle.macros.specs.Macro.{within}
+use borrow.Author.Rules.{rules}
+use Rattle.form_marks.proofs.is_within.Goals as goal
+
+pub returns : goal.returns
+unfolding within
+returns c = search rules

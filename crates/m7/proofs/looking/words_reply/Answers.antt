@@ -1,0 +1,7 @@
+use mathlib.Core.Path.{refl}
+use Rattle.line_answer.specs.Replies.{reply}
+use Rattle.m7.proofs.looking.words_reply.Goals as goal
+
+pub returns : goal.returns
+unfolding reply
+returns c = refl

@@ -1,0 +1,5 @@
+use mathlib.Core.Path.{refl}
+use Rattle.m7.proofs.measure.unread.Goals as goal
+
+pub returns : goal.returns
+returns c = refl

@@ -1,0 +1,17 @@
+use native.Mathlib.Omega.{arith}
+use Rattle.form_state.proofs.Held.{is_long_lem, entry_set}
+use Rattle.pass_call.proofs.Entries.{entry_laid}
+use Rattle.pass_call.proofs.setting.set_entry.Goals as goal
+
+pub copy-requires : goal.copy-requires
+copy-requires c = omega (arith, is_long_lem c.args.state.now c.requires.0, c.entry_at-at.ensures.0, c.requires.3)
+
+pub clear-requires : goal.clear-requires
+clear-requires c = omega (arith, is_long_lem c.args.state.now c.requires.0, c.entry_at-at.ensures.0, c.requires.3, c.copy.auto.out)
+
+pub returns : goal.returns
+returns c = λ w h.
+    let at = c.entry_at-at in
+    let b = c.args.state.now in
+    entry_set b c.clear.new.out c.args.i w h c.requires.1 c.args.text.now at.result (c.requires.2, c.requires.3) (at.ensures.1 w.state h)
+    (entry_laid b c.copy.new.out c.clear.new.out c.args.text.now at.result (omega (arith, is_long_lem b c.requires.0, at.ensures.0)) c.requires.3 c.copy.ensures c.clear.ensures)

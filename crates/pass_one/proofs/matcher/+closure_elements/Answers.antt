@@ -1,0 +1,144 @@
+use mathlib.Core.Path.{refl, sym, ◌∙◌}
+use native.Mathlib.Omega.{arith}
+use borrow.Author.Tests.{eqb-true}
+use lib.ListN.{length-set}
+use Rattle.pass_unit.proofs.ItemLaws.{piece_here}
+use Rattle.pass_one.proofs.TryLaws.{again_wide, read_inside, stands, element_here, tried_done, tried_nothing, tried_more, tried_ended, next_trying, next_inside, copied_marked, at_small, in_row, in_ends, place_small}
+use Rattle.pass_one.proofs.RowLaws.{row_small, start_place, start_small, copied_first, copied_none, upper_repeating, copied_upper, lower_repeating, copied_lower, count_inside}
+use mir.Val.{Fits}
+use mir.Syntax.{w16, w64}
+use Rattle.macros.specs.Bounds.{most_line_bytes}
+use Prim.Native.Nat.{ℕ, ◌+◌, ◌-◌, ◌*◌, ◌/◌, ◌≤◌}
+use Rattle.pass_one.proofs.matcher.+closure_elements.Goals as goal
+
+fit-part : (q x y : ℕ) → q + x * y ≤ most_line_bytes → Fits w64 (x * y)
+fit-part q x y l = omega arith
+
+fit-place : (x : ℕ) → x ≤ most_line_bytes → Fits w64 x
+fit-place x l = omega arith
+
+fit-cast : (x : ℕ) → x ≤ most_line_bytes → Fits w16 x
+fit-cast x l = omega arith
+
+pub closure-elements-requires : goal.closure-elements-requires
+closure-elements-requires t c = let i = next_inside _ _ _ c.requires.stands c.requires.behind in (omega arith, next_trying _ _ _ _ _ _ _ _ _ c.requires.given c.requires.noted c.requires.stands c.requires.behind (start_place c.args.items.now c.args.kinds.now c.args.state.now c.args.line.now c.args.at c.args.next c.args.w c.args.q c.args.most c.args.marks.now c.args.ends.now c.requires))
+
+pub closure-overflow_cast-ends : goal.closure-overflow_cast-ends
+closure-overflow_cast-ends t c = fit-cast _ (start_small c.args.items.now c.args.kinds.now c.args.state.now c.args.line.now c.args.at c.args.next c.args.w c.args.q c.args.most c.args.marks.now c.args.ends.now c.requires)
+
+pub closure-offset_bounds-ends-at : goal.closure-offset_bounds-ends-at
+closure-offset_bounds-ends-at t c = let z = at_small _ _ _ _ _ c.requires.given c.requires.stands in omega arith
+
+pub closure-bounds-ends-at : goal.closure-bounds-ends-at
+closure-bounds-ends-at t c = in_ends _ _ _ _ _ c.requires.given c.requires.stands _ c.elements.ensures.kept.noted.count
+
+pub closure-shape_of-marks-in-Matched : goal.closure-shape_of-marks-in-Matched
+closure-shape_of-marks-in-Matched t c = c.elements.ensures.kept.noted.size ∙ sym c.requires.noted.size
+
+pub closure-shape_of-ends-in-Matched : goal.closure-shape_of-ends-in-Matched
+closure-shape_of-ends-in-Matched t c = simp length-set (c.elements.ensures.kept.noted.count ∙ sym c.requires.noted.count)
+
+pub closure-returns-in-Matched : goal.closure-returns-in-Matched
+closure-returns-in-Matched t c = copied_first c.args.items.now c.args.kinds.now c.args.state.now c.args.line.now c.args.at c.args.next c.args.w c.args.q c.args.most c.args.marks.now c.args.ends.now c.requires c.if-most-eq0.true _ _ _ (in_ends _ _ _ _ _ c.requires.given c.requires.stands _ c.elements.ensures.kept.noted.count) (rw c.in-Matched.is at c.elements.ensures)
+
+pub closure-set_mark-requires : goal.closure-set_mark-requires
+closure-set_mark-requires t c = in_row _ _ _ _ _ c.requires.given c.requires.stands _ _ c.elements.ensures.kept.noted.size (start_place c.args.items.now c.args.kinds.now c.args.state.now c.args.line.now c.args.at c.args.next c.args.w c.args.q c.args.most c.args.marks.now c.args.ends.now c.requires)
+
+pub closure-shape_of-marks-then-most-eq0 : goal.closure-shape_of-marks-then-most-eq0
+closure-shape_of-marks-then-most-eq0 t c = c.set_mark.auto.marks ∙ c.elements.ensures.kept.noted.size ∙ sym c.requires.noted.size
+
+pub closure-shape_of-ends-then-most-eq0 : goal.closure-shape_of-ends-then-most-eq0
+closure-shape_of-ends-then-most-eq0 t c = c.elements.ensures.kept.noted.count ∙ sym c.requires.noted.count
+
+pub closure-returns-then-most-eq0 : goal.closure-returns-then-most-eq0
+closure-returns-then-most-eq0 t c = copied_none c.args.items.now c.args.kinds.now c.args.state.now c.args.line.now c.args.at c.args.next c.args.w c.args.q c.args.most c.args.marks.now c.args.ends.now c.requires c.if-most-eq0.true _ _ (rw c.in_default.is at c.elements.ensures) _ c.set_mark.ensures
+
+pub closure-overflow_sub-low : goal.closure-overflow_sub-low
+closure-overflow_sub-low t c = let n = c.if-most-eq0.false in omega arith
+
+pub closure-overflow_mul-r : goal.closure-overflow_mul-r
+closure-overflow_mul-r t c = fit-part _ _ _ (row_small c.args.items.now c.args.kinds.now c.args.state.now c.args.line.now c.args.at c.args.next c.args.w c.args.q c.args.most c.args.marks.now c.args.ends.now c.requires _ _ (omega arith) (let s = c.requires.some in omega arith))
+
+pub closure-overflow_add-r : goal.closure-overflow_add-r
+closure-overflow_add-r t c = fit-place _ (row_small c.args.items.now c.args.kinds.now c.args.state.now c.args.line.now c.args.at c.args.next c.args.w c.args.q c.args.most c.args.marks.now c.args.ends.now c.requires _ _ (omega arith) (let s = c.requires.some in omega arith))
+
+pub closure-closure-found-requires : goal.closure-closure-found-requires
+closure-closure-found-requires t c = let n = c.if-most-eq0.false in (omega arith, upper_repeating c.args.items.now c.args.kinds.now c.args.state.now c.args.line.now c.args.at c.args.next c.args.w c.args.q c.args.most c.args.marks.now c.args.ends.now c.requires (c.args.most - c.args.most / 2) (c.args.most / 2) (omega arith))
+
+pub closure-shape_of-marks-in-Matched-found : goal.closure-shape_of-marks-in-Matched-found
+closure-shape_of-marks-in-Matched-found t c = c.closure-found.ensures.kept.noted.size ∙ sym c.requires.noted.size
+
+pub closure-shape_of-ends-in-Matched-found : goal.closure-shape_of-ends-in-Matched-found
+closure-shape_of-ends-in-Matched-found t c = c.closure-found.ensures.kept.noted.count ∙ sym c.requires.noted.count
+
+pub closure-returns-in-Matched-found : goal.closure-returns-in-Matched-found
+closure-returns-in-Matched-found t c = copied_upper c.args.items.now c.args.kinds.now c.args.state.now c.args.line.now c.args.at c.args.next c.args.w c.args.q c.args.most c.args.marks.now c.args.ends.now c.requires (c.args.most - c.args.most / 2) (c.args.most / 2) (omega arith) _ _ _ _ c.in-Matched-found.is c.closure-found.ensures
+
+pub closure-closure-requires : goal.closure-closure-requires
+closure-closure-requires t c = let n = c.if-most-eq0.false in (omega arith, lower_repeating c.args.items.now c.args.kinds.now c.args.state.now c.args.line.now c.args.at c.args.next c.args.w c.args.q c.args.most c.args.marks.now c.args.ends.now c.requires (c.args.most - c.args.most / 2) (c.args.most / 2) (omega arith) (let n = c.if-most-eq0.false in omega arith) _ _ (rw c.in_default-found.is at c.closure-found.ensures))
+
+pub closure-shape_of-marks : goal.closure-shape_of-marks
+closure-shape_of-marks t c = c.closure.ensures.kept.noted.size ∙ sym c.requires.noted.size
+
+pub closure-shape_of-ends : goal.closure-shape_of-ends
+closure-shape_of-ends t c = c.closure.ensures.kept.noted.count ∙ sym c.requires.noted.count
+
+pub closure-returns : goal.closure-returns
+closure-returns t c = copied_lower c.args.items.now c.args.kinds.now c.args.state.now c.args.line.now c.args.at c.args.next c.args.w c.args.q c.args.most c.args.marks.now c.args.ends.now c.requires (c.args.most - c.args.most / 2) (c.args.most / 2) (omega arith) (let n = c.if-most-eq0.false in omega arith) _ _ (rw c.in_default-found.is at c.closure-found.ensures) _ _ _ c.closure.ensures
+
+pub elements-returns-then-at-items : goal.elements-returns-then-at-items
+elements-returns-then-at-items t c = tried_done c.args.items.now c.args.kinds.now c.args.state.now c.args.line.now c.args.at c.args.p c.args.marks.now c.args.ends.now c.requires c.if-at-items.true
+
+pub elements-element_at-e-requires : goal.elements-element_at-e-requires
+elements-element_at-e-requires t c = piece_here _ _ (stands _ _ _ _ _ _ _ _ c.requires c.if-at-items.false)
+
+pub elements-width_of-w-requires : goal.elements-width_of-w-requires
+elements-width_of-w-requires t c = (c.requires.given.state, (element_here _ _ _ _ _ _ _ _ c.requires c.if-at-items.false _ c.element_at-e.ensures).unit.letter)
+
+pub elements-lead_at-requires : goal.elements-lead_at-requires
+elements-lead_at-requires t c = record { copying = record { unit = (element_here _ _ _ _ _ _ _ _ c.requires c.if-at-items.false _ c.element_at-e.ensures).unit; table = c.requires.given.table; state = c.requires.given.state; place = c.requires.place }; wide = c.width_of-w.ensures }
+
+pub elements-returns-in_default : goal.elements-returns-in_default
+elements-returns-in_default t c = tried_nothing c.args.items.now c.args.state.now c.args.line.now c.args.at c.args.p c.if-at-items.false c.element_at-e.result c.width_of-w.result c.lead_at.result (record { is = element_here _ _ _ _ _ _ _ _ c.requires c.if-at-items.false _ c.element_at-e.ensures; wide = c.width_of-w.ensures; lead = c.lead_at.ensures }) c.args.marks.now c.args.ends.now c.requires.noted c.in_default.is
+
+pub elements-behind-next-requires : goal.elements-behind-next-requires
+elements-behind-next-requires t c = (element_here _ _ _ _ _ _ _ _ c.requires c.if-at-items.false _ c.element_at-e.ensures).unit
+
+pub elements-is_marked-requires : goal.elements-is_marked-requires
+elements-is_marked-requires t c = in_row _ _ _ _ _ c.requires.given (element_here _ _ _ _ _ _ _ _ c.requires c.if-at-items.false _ c.element_at-e.ensures).unit.stands _ _ c.requires.noted.size (read_inside c.args.items.now c.args.state.now c.args.line.now c.args.at c.args.p c.element_at-e.result c.width_of-w.result c.lead_at.result _ (record { is = element_here _ _ _ _ _ _ _ _ c.requires c.if-at-items.false _ c.element_at-e.ensures; wide = c.width_of-w.ensures; lead = c.lead_at.ensures }) c.requires.given.state c.requires.place c.in-After.is)
+
+pub elements-shape_of-marks-then-is_marked : goal.elements-shape_of-marks-then-is_marked
+elements-shape_of-marks-then-is_marked t c = refl
+
+pub elements-returns-then-is_marked : goal.elements-returns-then-is_marked
+elements-returns-then-is_marked t c = tried_more c.args.items.now c.args.state.now c.args.line.now c.args.at c.args.p c.if-at-items.false c.element_at-e.result c.width_of-w.result c.lead_at.result (record { is = element_here _ _ _ _ _ _ _ _ c.requires c.if-at-items.false _ c.element_at-e.ensures; wide = c.width_of-w.ensures; lead = c.lead_at.ensures }) _ c.in-After.is (sym c.may_repeat.ensures ∙ c.if-may_repeat.true) _ _ _ _ (copied_marked _ _ _ _ _ _ _ c.requires.noted (place_small _ _ _ _ _ c.requires.given (read_inside c.args.items.now c.args.state.now c.args.line.now c.args.at c.args.p c.element_at-e.result c.width_of-w.result c.lead_at.result _ (record { is = element_here _ _ _ _ _ _ _ _ c.requires c.if-at-items.false _ c.element_at-e.ensures; wide = c.width_of-w.ensures; lead = c.lead_at.ensures }) c.requires.given.state c.requires.place c.in-After.is)) (eqb-true _ _ (sym c.is_marked.ensures ∙ c.if-is_marked.true)))
+
+pub elements-most_copies-most-requires : goal.elements-most_copies-most-requires
+elements-most_copies-most-requires t c = record { given = c.requires.given; size = c.requires.noted.size; sound = c.requires.noted.sound; unit = (element_here _ _ _ _ _ _ _ _ c.requires c.if-at-items.false _ c.element_at-e.ensures).unit; wide = c.width_of-w.ensures; some = again_wide c.element_at-e.result.closure c.width_of-w.result (sym c.may_repeat.ensures ∙ c.if-may_repeat.true); place = (read_inside c.args.items.now c.args.state.now c.args.line.now c.args.at c.args.p c.element_at-e.result c.width_of-w.result c.lead_at.result _ (record { is = element_here _ _ _ _ _ _ _ _ c.requires c.if-at-items.false _ c.element_at-e.ensures; wide = c.width_of-w.ensures; lead = c.lead_at.ensures }) c.requires.given.state c.requires.place c.in-After.is) }
+
+pub elements-closure-requires : goal.elements-closure-requires
+elements-closure-requires t c = let k = c.most_copies-most.ensures.row.inside in let w = again_wide c.element_at-e.result.closure c.width_of-w.result (sym c.may_repeat.ensures ∙ c.if-may_repeat.true) in let l = count_inside _ _ _ _ w k in let s = c.requires.given.short in (omega arith, record { given = c.requires.given; noted = c.requires.noted; stands = (element_here _ _ _ _ _ _ _ _ c.requires c.if-at-items.false _ c.element_at-e.ensures).unit.stands; behind = c.behind-next.ensures; some = w; most = c.most_copies-most.ensures })
+
+pub elements-shape_of-marks-then-may_repeat : goal.elements-shape_of-marks-then-may_repeat
+elements-shape_of-marks-then-may_repeat t c = c.closure.ensures.kept.noted.size ∙ sym c.requires.noted.size
+
+pub elements-shape_of-ends-then-may_repeat : goal.elements-shape_of-ends-then-may_repeat
+elements-shape_of-ends-then-may_repeat t c = c.closure.ensures.kept.noted.count ∙ sym c.requires.noted.count
+
+pub elements-returns-then-may_repeat : goal.elements-returns-then-may_repeat
+elements-returns-then-may_repeat t c = tried_more c.args.items.now c.args.state.now c.args.line.now c.args.at c.args.p c.if-at-items.false c.element_at-e.result c.width_of-w.result c.lead_at.result (record { is = element_here _ _ _ _ _ _ _ _ c.requires c.if-at-items.false _ c.element_at-e.ensures; wide = c.width_of-w.ensures; lead = c.lead_at.ensures }) _ c.in-After.is (sym c.may_repeat.ensures ∙ c.if-may_repeat.true) _ _ _ _ c.closure.ensures
+
+pub elements-elements-found-requires : goal.elements-elements-found-requires
+elements-elements-found-requires t c = let i = next_inside _ _ _ (element_here _ _ _ _ _ _ _ _ c.requires c.if-at-items.false _ c.element_at-e.ensures).unit.stands c.behind-next.ensures in (omega arith, next_trying _ _ _ _ _ _ _ _ _ c.requires.given c.requires.noted (element_here _ _ _ _ _ _ _ _ c.requires c.if-at-items.false _ c.element_at-e.ensures).unit.stands c.behind-next.ensures (read_inside c.args.items.now c.args.state.now c.args.line.now c.args.at c.args.p c.element_at-e.result c.width_of-w.result c.lead_at.result _ (record { is = element_here _ _ _ _ _ _ _ _ c.requires c.if-at-items.false _ c.element_at-e.ensures; wide = c.width_of-w.ensures; lead = c.lead_at.ensures }) c.requires.given.state c.requires.place c.in-After.is))
+
+pub elements-ended-requires : goal.elements-ended-requires
+elements-ended-requires t c = let g = c.requires.given in let n = c.elements-found.ensures.kept.noted.count in let l = (read_inside c.args.items.now c.args.state.now c.args.line.now c.args.at c.args.p c.element_at-e.result c.width_of-w.result c.lead_at.result _ (record { is = element_here _ _ _ _ _ _ _ _ c.requires c.if-at-items.false _ c.element_at-e.ensures; wide = c.width_of-w.ensures; lead = c.lead_at.ensures }) c.requires.given.state c.requires.place c.in-After.is) in let h = g.short in (in_ends _ _ _ _ _ g (element_here _ _ _ _ _ _ _ _ c.requires c.if-at-items.false _ c.element_at-e.ensures).unit.stands _ n, n, omega arith)
+
+pub elements-shape_of-marks : goal.elements-shape_of-marks
+elements-shape_of-marks t c = c.elements-found.ensures.kept.noted.size ∙ sym c.requires.noted.size
+
+pub elements-shape_of-ends : goal.elements-shape_of-ends
+elements-shape_of-ends t c = c.ended.auto.ends ∙ c.elements-found.ensures.kept.noted.count ∙ sym c.requires.noted.count
+
+pub elements-returns : goal.elements-returns
+elements-returns t c = tried_ended c.args.items.now c.args.state.now c.args.line.now c.args.at c.args.p c.if-at-items.false c.element_at-e.result c.width_of-w.result c.lead_at.result (record { is = element_here _ _ _ _ _ _ _ _ c.requires c.if-at-items.false _ c.element_at-e.ensures; wide = c.width_of-w.ensures; lead = c.lead_at.ensures }) _ c.in-After.is (sym c.may_repeat.ensures ∙ c.if-may_repeat.false) _ c.behind-next.ensures _ _ _ _ (in_ends _ _ _ _ _ c.requires.given (element_here _ _ _ _ _ _ _ _ c.requires c.if-at-items.false _ c.element_at-e.ensures).unit.stands _ c.elements-found.ensures.kept.noted.count) (read_inside c.args.items.now c.args.state.now c.args.line.now c.args.at c.args.p c.element_at-e.result c.width_of-w.result c.lead_at.result _ (record { is = element_here _ _ _ _ _ _ _ _ c.requires c.if-at-items.false _ c.element_at-e.ensures; wide = c.width_of-w.ensures; lead = c.lead_at.ensures }) c.requires.given.state c.requires.place c.in-After.is) c.elements-found.ensures _ _ c.ended.ensures

@@ -1,0 +1,11 @@
+use borrow.Author.Tests.{le-leb, lt-leb}
+use Rattle.macros.specs.Macro.{within}
+use Rattle.pass_unit.proofs.in_range.Goals as goal
+
+pub returns-then-a-b : goal.returns-then-a-b
+unfolding within
+returns-then-a-b c = simp (le-leb _ _ c.if-a-b.true)
+
+pub returns : goal.returns
+unfolding within
+returns c = simp (lt-leb _ _ c.if-a-b.false)

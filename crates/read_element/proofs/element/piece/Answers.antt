@@ -1,0 +1,15 @@
+use mathlib.Core.Path.{◌∙◌}
+use Rattle.read_element.proofs.Elements.{piece_left}
+use Rattle.read_element.proofs.element.piece.Goals as goal
+
+pub one_piece-read-requires : goal.one_piece-read-requires
+one_piece-read-requires c = c.requires
+
+pub shape_of-out : goal.shape_of-out
+shape_of-out c = c.or_zeros.auto.out ∙ c.one_piece-read.auto.out
+
+pub returns : goal.returns
+returns c =
+    let zeros = c.or_zeros in
+    let items = c.one_piece-read in
+    rw zeros.ensures.0 (piece_left items.new.out items.result items.ensures zeros.ensures.1 items.auto.out)

@@ -1,0 +1,7 @@
+use mathlib.Core.Path.{refl}
+use Rattle.macros.specs.Macro.{within}
+use Rattle.read_fault.proofs.is_fault.Goals as goal
+
+pub returns : goal.returns
+unfolding within
+returns c = refl

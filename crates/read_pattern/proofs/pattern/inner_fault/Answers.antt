@@ -1,0 +1,12 @@
+use mathlib.Core.Path.{ap, sym}
+use Rattle.read_pattern.specs.Pattern.{inner_fault}
+use Rattle.read_pattern.proofs.pattern.inner_fault.Goals as goal
+
+pub returns-in-Closed : goal.returns-in-Closed
+returns-in-Closed c = ap inner_fault (sym c.in-Closed.is)
+
+pub returns-in-Quote : goal.returns-in-Quote
+returns-in-Quote c = ap inner_fault (sym c.in-Quote.is)
+
+pub returns-in-Refused : goal.returns-in-Refused
+returns-in-Refused c = ap inner_fault (sym c.in-Refused.is)

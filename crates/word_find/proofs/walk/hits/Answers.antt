@@ -1,0 +1,16 @@
+use mathlib.Core.Path.{sym, ◌∙◌}
+use Rattle.word_find.proofs.Walking.{hit_empty, hit_short, hit_yes, hit_no}
+use native.Mathlib.Omega.{arith}
+use Rattle.word_find.proofs.walk.hits.Goals as goal
+
+pub returns-then-run-lt1 : goal.returns-then-run-lt1
+returns-then-run-lt1 c = hit_empty c.args.pattern.now c.args.run.now c.if-run-lt1.true
+
+pub returns-then-run-count : goal.returns-then-run-count
+returns-then-run-count c = hit_short c.args.pattern.now c.args.run.now (omega arith) (omega (arith, c.if-run-count.true, c.requires.0))
+
+pub returns-then-is_covered : goal.returns-then-is_covered
+returns-then-is_covered c = hit_yes c.args.pattern.now c.args.run.now (omega arith) (sym c.is_covered.ensures ∙ c.if-is_covered.true)
+
+pub returns : goal.returns
+returns c = hit_no c.args.pattern.now c.args.run.now (omega arith) (sym c.is_covered.ensures ∙ c.if-is_covered.false)

@@ -1,0 +1,29 @@
+use mathlib.Core.Path.{refl}
+use native.Mathlib.Omega.{arith}
+use Rattle.write_file.proofs.Tabled.{table_length}
+use Rattle.write_file.proofs.Listed.{reach_none, reach_end, reach_all, here, reach_next, next_within, reach_stop}
+use Rattle.write_file.proofs.slots.write_slots.Goals as goal
+
+pub loop-k-init : goal.loop-k-init
+loop-k-init c = (omega arith, omega arith, refl, reach_none c.args.table.now c.args.file.now)
+
+pub bounds-table-a : goal.bounds-table-a
+bounds-table-a c = omega (arith, table_length c.args.table.now c.requires.1.0 c.requires.1.1)
+
+pub returns-then-table-a-eq0 : goal.returns-then-table-a-eq0
+returns-then-table-a-eq0 c = reach_end c.args.table.now c.loop-k.file c.loop-k.n c.loop-k.k c.loop-k.invariant.3 (omega arith) c.if-table-a-eq0.true
+
+pub slice_bounds-write_macro-end : goal.slice_bounds-write_macro-end
+slice_bounds-write_macro-end c = omega (arith, table_length c.args.table.now c.requires.1.0 c.requires.1.1)
+
+pub write_macro-answer-requires : goal.write_macro-answer-requires
+write_macro-answer-requires c = (omega arith, omega arith, (here c.args.table.now c.loop-k.file c.loop-k.n c.loop-k.k c.loop-k.invariant.3 c.if-table-a-eq0.false c.requires.1.0 c.requires.1.1).parts)
+
+pub returns-in_default : goal.returns-in_default
+returns-in_default c = reach_stop c.args.table.now c.loop-k.file c.loop-k.n c.loop-k.k c.loop-k.invariant.3 c.if-table-a-eq0.false c.write_macro-answer.ensures c.in_default.is
+
+pub loop-k-preserved : goal.loop-k-preserved
+loop-k-preserved c = (omega arith, next_within c.args.table.now c.loop-k.file c.loop-k.n c.loop-k.k c.loop-k.invariant.3 c.if-table-a-eq0.false c.write_macro-answer.ensures c.in-Written.is, omega arith, reach_next c.args.table.now c.loop-k.file c.loop-k.n c.loop-k.k c.loop-k.invariant.3 c.if-table-a-eq0.false c.write_macro-answer.ensures c.in-Written.is)
+
+pub returns : goal.returns
+returns c = reach_all c.args.table.now c.loop-k.file c.loop-k.n c.loop-k.k c.loop-k.invariant.3 (omega arith) (omega arith)

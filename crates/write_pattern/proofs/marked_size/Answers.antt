@@ -1,0 +1,12 @@
+use native.Mathlib.Omega.{arith}
+use mathlib.Core.Path.{refl}
+use Rattle.macros.specs.Write.{byte}
+use Rattle.write_pattern.proofs.marked_size.Goals as goal
+
+pub returns-then-mark : goal.returns-then-mark
+unfolding byte
+returns-then-mark c = (rw c.if-mark.true refl, omega arith)
+
+pub returns : goal.returns
+unfolding byte
+returns c = (rw c.if-mark.false refl, omega arith)
