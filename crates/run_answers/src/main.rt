@@ -2,11 +2,11 @@
 // from standard input, and an answer to each, which must be the Rust version's. `lends` asks for the refusals of the host, which that has not.
 #![tactic(auto)]
 
+mod command_words;
 mod hex;
 mod lends;
 mod reply;
 mod serve;
-mod words;
 
 ghost use Rattle.std.specs.Prelude.{◌<◌};
 

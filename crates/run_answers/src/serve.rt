@@ -1,9 +1,9 @@
 // The commands: each is taken apart, the engine called, and the answer put.
 ghost use Rattle.std.specs.Prelude.{◌≤◌, length};
 
+use crate::command_words::command_of;
 use crate::hex::decode;
 use crate::reply::write_reply;
-use crate::words::command_of;
 use line_answer::Answer;
 use std::io::Write;
 
