@@ -1,15 +1,11 @@
 -- The moments of a pass (01, part 5), as the code has them.
 -- That they are those of a pass of the definitions: `PassStarts`, `PassCopies`, `PassReplaces`, `PassGoesOn` (`pass_one: PassMoments`).
-use Rattle.std.specs.Prelude.{ℕ, ◌+◌, ◌≤◌, ◌<◌, ◌≡◌, Bool, true, false, List, ◌++◌, length, get_or, take, drop, set}
+use Rattle.std.specs.Prelude.{ℕ, ◌+◌, ◌≤◌, ◌<◌, ◌≡◌, Bool, true, false, List, ◌++◌, length, get_or, take, drop, set, Result, Ok, Err, Option, Some, None}
 use Rattle.macros.specs.Bounds.{most_line_bytes}
 use Rattle.refusals.specs.declared.WorkFault.{WorkFault}
 use Rattle.refusals.specs.declared.WorkFault.TheVariants.{NewLineTooLong}
-use Rattle.refusals.specs.declared.Outcome.{Outcome}
-use Rattle.refusals.specs.declared.Outcome.TheVariants.{Made, Refused as MadeRefused}
+use Rattle.refusals.specs.declared.WorkError.{WorkError}
 use Rattle.pass_moment.specs.declared.Passed.{Passed}
-use Rattle.pass_moment.specs.declared.Passed.TheVariants.{Over, Refused}
-use Rattle.pass_moment.specs.declared.Refusal.{Refusal}
-use Rattle.pass_moment.specs.declared.Refusal.TheVariants.{NotRefused, RefusedBy}
 use Rattle.pass_moment.specs.declared.Moment.{Moment}
 
 -- past every place, "from 0 to the line's length": as the place, the pass is over; as the end of the last match, there was no match yet
@@ -18,7 +14,7 @@ past_places = most_line_bytes + 1
 
 -- part 5: place p, before which there is no match; the new line has the bytes before it
 abbrev pub start_at : ℕ → Moment
-start_at p = record { place = p; last = past_places; size = p; occurred = false; refusal = NotRefused }
+start_at p = record { place = p; last = past_places; size = p; occurred = false; refusal = None }
 
 -- "At a place without a match the byte is copied.": those before p, and nothing else changes
 pub record Starts (t out out' : List ℕ) (p : ℕ) (r : Moment) : Type 0 where
@@ -31,20 +27,20 @@ moved_to a n = record { place = a.place + 1; last = a.last; size = n; occurred =
 
 -- "The table at work, at the first such step": no place is left, and the new line has k bytes; `occurred` is not read after a refusal
 abbrev pub refused_at : WorkFault → ℕ → Moment
-refused_at f k = record { place = past_places; last = past_places; size = k; occurred = true; refusal = RefusedBy f }
+refused_at f k = record { place = past_places; last = past_places; size = k; occurred = true; refusal = Some f }
 
 -- part 5: "A match .. makes the replacement and goes on at its end", which is q
-abbrev pub after_of : Outcome → ℕ → Moment
-after_of (Made k) q = record { place = q; last = q; size = k; occurred = true; refusal = NotRefused }
-after_of (MadeRefused f k) q = refused_at f k
+abbrev pub after_of : Result ℕ WorkError → ℕ → Moment
+after_of (Ok k) q = record { place = q; last = q; size = k; occurred = true; refusal = None }
+after_of (Err e) q = refused_at e.fault e.size
 
 -- part 6: what a pass says, "a pass with an occurrence" or without one, or its refusal
-abbrev pub answer_of : Refusal → Bool → ℕ → Passed
-answer_of NotRefused had n = Over had n
-answer_of (RefusedBy f) had n = Refused f n
+abbrev pub answer_of : Option WorkFault → Bool → ℕ → Result Passed WorkError
+answer_of None had n = Ok (record { occurred = had; size = n })
+answer_of (Some f) had n = Err (record { fault = f; size = n })
 
 -- part 6: what a moment past the last place says
-abbrev pub passed_of : Moment → Passed
+abbrev pub passed_of : Moment → Result Passed WorkError
 passed_of a = answer_of a.refusal a.occurred a.size
 
 -- part 5: "At a place without a match the byte is copied"; at the line's length there is none; 32: "the new line's 1,055th byte"

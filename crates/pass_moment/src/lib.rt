@@ -5,31 +5,24 @@ ghost use Rattle.std.specs.Prelude.{◌≤◌, ◌≡◌, length};
 ghost use Rattle.macros.specs.Bounds.{most_line_bytes};
 ghost use Rattle.pass_moment.specs.Moments.{Starts, moved_to, refused_at, after_of, passed_of, Copies, StepsOver};
 
-use refusals::{Outcome, WorkFault};
+use refusals::{WorkError, WorkFault};
 
-// Whether there was an occurrence, and the bytes of the new line; or a refusal, with the bytes that the new line has by then.
-#[derive(Clone, Copy)]
-pub enum Passed {
-    Over(bool, usize),
-    Refused(WorkFault, usize),
-}
-
-// Whether a step of the pass was refused.
-#[derive(Clone, Copy)]
-pub enum Refusal {
-    NotRefused,
-    RefusedBy(WorkFault),
+// What a pass without a refusal comes to: whether there was an occurrence, and the bytes of the new line.
+#[derive(Clone, Copy, Debug, PartialEq, Eq)]
+pub struct Passed {
+    pub occurred: bool,
+    pub size: usize,
 }
 
 // A moment of a pass: the place to be tried next, the end of the match just made, the bytes of the new line,
-// whether there was an occurrence, and whether a step was refused.
-#[derive(Clone, Copy)]
+// whether there was an occurrence, and what refused a step.
+#[derive(Clone, Copy, Debug, PartialEq, Eq)]
 pub struct Moment {
     pub place: usize,
     pub last: usize,
     pub size: usize,
     pub occurred: bool,
-    pub refusal: Refusal,
+    pub refusal: Option<WorkFault>,
 }
 
 // Place p, before which there is no match: the bytes before it are copied. 1,055 lies past every place: there was no match yet.
@@ -37,45 +30,41 @@ pub fn start(line: &[u8], p: usize, out: &mut [u8]) -> Moment
     requires { (p ≤ length line.now) × (p ≤ length out.old) }
     ensures { Starts line.now out.old out.new p result }
 {
-    let mut i = 0;
-    while i < p {
-        out[i] = line[i];
-        i += 1;
-    }
+    out[..p].copy_from_slice(&line[..p]);
     Moment {
         place: p,
         last: 1055,
         size: p,
         occurred: false,
-        refusal: Refusal::NotRefused,
+        refusal: None,
     }
 }
 
 // After a refusal no place is left: 1,055 lies past every place.
-fn refused(f: WorkFault, k: usize) -> Moment
-    ensures { result ≡ refused_at f k }
+fn refused(e: WorkError) -> Moment
+    ensures { result ≡ refused_at e.fault e.size }
 {
     Moment {
         place: 1055,
         last: 1055,
-        size: k,
+        size: e.size,
         occurred: true,
-        refusal: Refusal::RefusedBy(f),
+        refusal: Some(e.fault),
     }
 }
 
 // "A match .. goes on at its end".
-pub fn after(made: Outcome, end: usize) -> Moment
+pub fn after(made: Result<usize, WorkError>, end: usize) -> Moment
     ensures { result ≡ after_of made end }
 {
     match made {
-        Outcome::Refused(f, k) => refused(f, k),
-        Outcome::Made(k) => Moment {
+        Err(e) => refused(e),
+        Ok(k) => Moment {
             place: end,
             last: end,
             size: k,
             occurred: true,
-            refusal: Refusal::NotRefused,
+            refusal: None,
         },
     }
 }
@@ -85,13 +74,10 @@ fn moved(at: Moment, n: usize) -> Moment
     requires { at.place ≤ most_line_bytes }
     ensures { result ≡ moved_to at n }
 {
-    let refusal = at.refusal;
     Moment {
         place: at.place + 1,
-        last: at.last,
         size: n,
-        occurred: at.occurred,
-        refusal: refusal,
+        ..at
     }
 }
 
@@ -106,7 +92,10 @@ fn copy_byte(line: &[u8], at: Moment, out: &mut [u8]) -> Moment
         return moved(at, n);
     }
     if 1054 <= n {
-        return refused(WorkFault::NewLineTooLong, n);
+        return refused(WorkError {
+            fault: WorkFault::NewLineTooLong,
+            size: n,
+        });
     }
     out[n] = line[p];
     moved(at, n + 1)
@@ -126,12 +115,17 @@ pub fn step_over(line: &[u8], p: usize, at: Moment, out: &mut [u8]) -> Moment
 }
 
 // What the pass comes to, past the last place.
-pub fn answer(at: Moment) -> Passed
+pub fn answer(at: Moment) -> Result<Passed, WorkError>
     ensures { result ≡ passed_of at }
 {
-    let refusal = at.refusal;
+    let Moment {
+        occurred,
+        size,
+        refusal,
+        ..
+    } = at;
     match refusal {
-        Refusal::NotRefused => Passed::Over(at.occurred, at.size),
-        Refusal::RefusedBy(f) => Passed::Refused(f, at.size),
+        None => Ok(Passed { occurred, size }),
+        Some(fault) => Err(WorkError { fault, size }),
     }
 }
