@@ -1,9 +1,9 @@
 -- The bytes that count, from a place on.
 -- Assumes nothing.
 use mathlib.Core.Path.{◌≡◌, refl, ap, sym, ◌∙◌}
-use mathlib.Core.Bool.{Bool, true, false, not, ◌||◌}
+use mathlib.Core.Bool.{Bool, true, false, not}
 use mathlib.Core.List.{List, [], ◌∷◌}
-use Prim.Native.Nat.{ℕ, suc, ◌+◌, ◌-◌, ◌≤◌, ◌<◌, min}
+use Prim.Native.Nat.{ℕ, suc, ◌+◌, ◌-◌, ◌≤◌, ◌<◌}
 use native.Mathlib.Omega.{arith}
 use native.Mathlib.Numerals.{add-one}
 use lib.Dec.{eqb, ltb}
@@ -11,13 +11,12 @@ use lib.ListN.{length, get_or, take, drop, length-take, drop_of_length-le}
 use lib.Seq.{drop-cons, drop-drop, get_or-take}
 use borrow.Author.Tests.{ne_eqb, le-ltb, lt-ltb}
 use Rattle.macros.specs.Macro.{pick}
-use Rattle.read_scan.specs.Bytes.{Placed, with?, outside, up_to, seen, unended, byte_here, first, next_byte, spaceless, next_in_call}
+use Rattle.read_scan.specs.Bytes.{refused, Placed, with?, outside, up_to, seen, unended, byte_here, first, next_byte, spaceless, next_in_call}
 use Rattle.read_scan.specs.Bytes.Placed.{byte_at}
-use Rattle.read_scan.specs.Scan.{At, Here, Reached}
+use Rattle.read_scan.specs.Scan.{At, Reached}
 use Rattle.read_scan.specs.declared.FileFault.{FileFault}
 use Rattle.read_scan.specs.declared.FileFault.TheVariants.{Incomplete, MacroTooLong}
-use Rattle.read_scan.specs.declared.Next.{Next}
-use Rattle.read_scan.specs.declared.Next.TheVariants.{Byte, Refused as NoByte}
+use Rattle.std.specs.Prelude.{Ok}
 
 -- the bytes that count from p on, in a skip or not
 unfoldable pub seen_in : Bool → List ℕ → ℕ → ℕ → List Placed
@@ -55,32 +54,32 @@ module _ (s : List ℕ) (a p : ℕ) where
   unfolding seen_in up_to outside
   seen_end k h = rw (drop_of_length-le (take (a + 513) s) {i = p} (rw (length-take (a + 513) s) (omega arith))) refl
 
-  pub unended_late : p ≤ length s → p ≤ a + 513 → 512 < p - a → unended s a ≡ NoByte MacroTooLong (p - 1)
+  pub unended_late : p ≤ length s → p ≤ a + 513 → 512 < p - a → unended s a ≡ refused MacroTooLong (p - 1)
   unfolding unended pick
   unended_late l m h =
       let n : a + 512 ≡ p - 1 = omega arith in
       simp (lt-ltb 512 (length s - a) (omega arith), n)
 
-  pub unended_end : length s ≤ p → p ≤ length s → p - a ≤ 512 → unended s a ≡ NoByte Incomplete p
+  pub unended_end : length s ≤ p → p ≤ length s → p - a ≤ 512 → unended s a ≡ refused Incomplete p
   unfolding unended pick
   unended_end l m h =
       let n : length s ≡ p = omega arith in
       rw n (simp (le-ltb _ _ h))
 
   -- the byte at p itself
-  pub stays_late : p ≤ length s → p ≤ a + 513 → 512 < p - a → NoByte MacroTooLong (p - 1) ≡ byte_here s a p
+  pub stays_late : p ≤ length s → p ≤ a + 513 → 512 < p - a → refused MacroTooLong (p - 1) ≡ byte_here s a p
   unfolding byte_here up_to pick
   stays_late l m h =
       let e : length (take (a + 513) s) ≤ p = rw (length-take (a + 513) s) (omega arith) in
       rw (le-ltb p (length (take (a + 513) s)) e) (sym (unended_late l m h))
 
-  pub stays_end : length s ≤ p → p ≤ length s → p - a ≤ 512 → NoByte Incomplete p ≡ byte_here s a p
+  pub stays_end : length s ≤ p → p ≤ length s → p - a ≤ 512 → refused Incomplete p ≡ byte_here s a p
   unfolding byte_here up_to pick
   stays_end l m h =
       let e : length (take (a + 513) s) ≤ p = rw (length-take (a + 513) s) (omega arith) in
       rw (le-ltb p (length (take (a + 513) s)) e) (sym (unended_end l m h))
 
-  pub stays_here : p < length s → p - a ≤ 512 → a ≤ p → Byte (get_or s p 0) p ≡ byte_here s a p
+  pub stays_here : p < length s → p - a ≤ 512 → a ≤ p → Ok (get_or s p 0, p) ≡ byte_here s a p
   unfolding byte_here up_to pick
   stays_here l h m =
       let e : p < length (take (a + 513) s) = rw (length-take (a + 513) s) (omega arith) in
@@ -106,32 +105,33 @@ outside_rest (c ∷ cs) k p s {b} {q} {w} h e = by (eqb c 47) k refl refl (λ j.
         let j : w ≡ outside false (suc p) cs = cc in
         rw (i, add-one p, t) j
 
-unended_refuses : (s : List ℕ) (a b q : ℕ) → unended s a ≡ Byte b q → ⊥
+unended_refuses : (s : List ℕ) (a b q : ℕ) → unended s a ≡ Ok (b, q) → ⊥
 unfolding unended pick
 unended_refuses s a b q = by (ltb 512 (length s - a))
   where
-    by : (y : Bool) → pick y (NoByte MacroTooLong (a + 512)) (NoByte Incomplete (length s)) ≡ Byte b q → ⊥
+    by : (y : Bool) → pick y (refused MacroTooLong (a + 512)) (refused Incomplete (length s)) ≡ Ok (b, q) → ⊥
     by true e = let z : ◌≡◌ {A = ℕ} 0 1 = cc in omega arith
     by false e = let z : ◌≡◌ {A = ℕ} 0 1 = cc in omega arith
 
 -- what the next byte shows of the bytes that count
-pub seen_byte : (s : List ℕ) (a p b q : ℕ) → Byte b q ≡ next_byte s a p → seen s a p ≡ byte_at b q ∷ seen s a (q + 1)
+pub seen_byte : (s : List ℕ) (a p b q : ℕ) → Ok (b, q) ≡ next_byte s a p → seen s a p ≡ byte_at b q ∷ seen s a (q + 1)
 unfolding next_byte first seen
 seen_byte s a p b q e = by (seen s a p) refl e
   where
-    by : (xs : List Placed) → seen s a p ≡ xs → Byte b q ≡ first (unended s a) xs → seen s a p ≡ byte_at b q ∷ seen s a (q + 1)
+    by : (xs : List Placed) → seen s a p ≡ xs → Ok (b, q) ≡ first (unended s a) xs → seen s a p ≡ byte_at b q ∷ seen s a (q + 1)
     by [] f g = absurd (unended_refuses s a b q (sym g))
     by (byte_at c u ∷ w) f g =
-        let i : c ≡ b = cc in
-        let j : u ≡ q = cc in
+        let k : ◌≡◌ {A = ℕ × ℕ} (c, u) (b, q) = cc in
+        let i : c ≡ b = ap (λ (x : ℕ × ℕ). x.0) k in
+        let j : u ≡ q = ap (λ (x : ℕ × ℕ). x.1) k in
         let h : seen s a p ≡ byte_at b q ∷ w = rw (← i, ← j) f in
         rw (← outside_rest _ false p (up_to s a) refl h) h
 
-pub seen_none : (s : List ℕ) (a p : ℕ) (f : FileFault) (q : ℕ) → NoByte f q ≡ next_byte s a p → (seen s a p ≡ []) × (NoByte f q ≡ unended s a)
+pub seen_none : (s : List ℕ) (a p : ℕ) (f : FileFault) (q : ℕ) → refused f q ≡ next_byte s a p → (seen s a p ≡ []) × (refused f q ≡ unended s a)
 unfolding next_byte first
 seen_none s a p f q e = by (seen s a p) refl e
   where
-    by : (xs : List Placed) → seen s a p ≡ xs → NoByte f q ≡ first (unended s a) xs → (seen s a p ≡ []) × (NoByte f q ≡ unended s a)
+    by : (xs : List Placed) → seen s a p ≡ xs → refused f q ≡ first (unended s a) xs → (seen s a p ≡ []) × (refused f q ≡ unended s a)
     by [] i g = (i, g)
     by (byte_at c u ∷ w) i g = let z : ◌≡◌ {A = ℕ} 0 1 = cc in absurd (omega arith)
 
@@ -141,28 +141,28 @@ seen_start s a p = refl
 
 -- from p the reading came to v
 module _ (s : List ℕ) (a p v : ℕ) (k : Bool) (g : seen s a p ≡ seen_in k s a v) (z : Reached s a v) where
-  pub next_late : 512 < v - a → NoByte MacroTooLong (v - 1) ≡ next_byte s a p
+  pub next_late : 512 < v - a → refused MacroTooLong (v - 1) ≡ next_byte s a p
   unfolding next_byte first
   next_late h = rw (g ∙ seen_late s a v k (omega arith)) (sym (unended_late s a v z.1 z.2 h))
 
-  pub next_end_lem : length s ≤ v → v - a ≤ 512 → NoByte Incomplete v ≡ next_byte s a p
+  pub next_end_lem : length s ≤ v → v - a ≤ 512 → refused Incomplete v ≡ next_byte s a p
   unfolding next_byte first
   next_end_lem l h = rw (g ∙ seen_end s a v k l) (sym (unended_end s a v l z.1 h))
 
-pub next_here : (p : ℕ) {s : List ℕ} {a v b : ℕ} → seen s a p ≡ seen_in false s a v → At s a v b → (b ≡ 47 → ⊥) → Byte b v ≡ next_byte s a p
+pub next_here : (p : ℕ) {s : List ℕ} {a v b : ℕ} → seen s a p ≡ seen_in false s a v → At s a v b → (b ≡ 47 → ⊥) → Ok (b, v) ≡ next_byte s a p
 unfolding next_byte first
 next_here p g x e = rw (g ∙ seen_here x e) refl
 
 -- in a call: from p only skips and spaces up to v
 module _ (s : List ℕ) (a p v : ℕ) (g : spaceless (seen s a p) ≡ spaceless (seen s a v)) where
-  pub in_call_none : {f : FileFault} {q : ℕ} → NoByte f q ≡ next_byte s a v → NoByte f q ≡ next_in_call s a p
+  pub in_call_none : {f : FileFault} {q : ℕ} → refused f q ≡ next_byte s a v → refused f q ≡ next_in_call s a p
   unfolding next_in_call first spaceless
   in_call_none {f} {q} e =
       let h = seen_none s a v f q e in
       rw (g ∙ ap spaceless h.0) h.1
 
-  module _ {b q : ℕ} (e : Byte b q ≡ next_byte s a v) where
-    pub in_call_here : (b ≡ 32 → ⊥) → Byte b q ≡ next_in_call s a p
+  module _ {b q : ℕ} (e : Ok (b, q) ≡ next_byte s a v) where
+    pub in_call_here : (b ≡ 32 → ⊥) → Ok (b, q) ≡ next_in_call s a p
     unfolding next_in_call first spaceless with?
     in_call_here f = rw (g ∙ ap spaceless (seen_byte s a v b q e)) (simp (ne_eqb _ _ f))
 

@@ -22,13 +22,13 @@ use Rattle.macros.specs.ReadFile.Pending.{clear}
 use Rattle.macros.specs.ReadFile.Reader.{between, inside}
 use Rattle.macros.specs.ReadFile.Next.{go, refuse, refuse_before}
 use Rattle.macros.specs.ReadFile.Read.{refused_at as file_refused_at}
-use Rattle.read_scan.specs.Bytes.{seen, spaceless}
+use Rattle.read_scan.specs.Bytes.{Next as CodeNext, refused, seen, spaceless}
 use Rattle.read_scan.proofs.Bytes.{in_call_none, in_call_here, in_call_space}
 use Rattle.read_scan.specs.Scan.{MacroRead, at_symbol, noted, go_on, read_macro, after, run, At, Here, Reached, Passes, Calls, wrong_call}
-use Rattle.read_scan.specs.Scan.MacroRead.{refused_at, pattern_to, macro_to}
+use Rattle.read_scan.specs.Scan.MacroRead.{refused_at, macro_to}
 use Rattle.read_scan.specs.declared.FileFault.{FileFault}
-use Rattle.read_scan.specs.declared.Next.{Next as CodeNext}
-use Rattle.read_scan.specs.declared.Next.TheVariants.{Byte, Refused as NoByte}
+use Rattle.std.specs.Prelude.{Result, Ok, Err, IsErr, IsErrAnd}
+use Rattle.std.proofs.lemmas.Result.{err_from_is_err_and}
 
 pub read_go : (p : ℕ) (r r' : Reader) (b : ℕ) (bs : List ℕ) → step r b ≡ go r' → read_from p r (b ∷ bs) ≡ read_from (suc p) r' bs
 unfolding read_from_by
@@ -327,9 +327,9 @@ pub no_spaces : (s : List ℕ) (a p : ℕ) → Spaces s a p p
 no_spaces s a p = record { same = refl; comes = λ st pr i j. refl }
 
 module _ {s : List ℕ} {a p v : ℕ} (g : Spaces s a p v) (l : p ≤ v) {r : CodeNext} (z : Passes s a v r) where
-  pub calls_fault : {f : FileFault} {q : ℕ} → r ≡ NoByte f q → Calls s a p r
+  pub calls_fault : {f : FileFault} {q : ℕ} → r ≡ refused f q → Calls s a p r
   calls_fault {f} {q} e =
-      let h : Passes s a v (NoByte f q) = rw e at z in
+      let h : Passes s a v (refused f q) = rw e at z in
       rw e
       (record {
         exact = in_call_none s a p v g.same h.exact;
@@ -337,11 +337,11 @@ module _ {s : List ℕ} {a p v : ℕ} (g : Spaces s a p v) (l : p ≤ v) {r : Co
         answer = λ st pr i j. g.comes st pr i j ∙ h.answer st pr i;
       })
 
-  module _ {b q : ℕ} (e : r ≡ Byte b q) where
-    pub in_call : Passes s a v (Byte b q)
+  module _ {b q : ℕ} (e : r ≡ Ok (b, q)) where
+    pub in_call : Passes s a v (Ok (b, q))
     in_call = rw e at z
 
-    pub calls_byte_lem : (b ≡ 32 → ⊥) → Calls s a p (Byte b q)
+    pub calls_byte_lem : (b ≡ 32 → ⊥) → Calls s a p (Ok (b, q))
     calls_byte_lem f =
         record {
           exact = in_call_here s a p v g.same in_call.exact f;
@@ -355,3 +355,9 @@ module _ {s : List ℕ} {a p v : ℕ} (g : Spaces s a p v) (l : p ≤ v) {r : Co
           same = in_call_space s a p v g.same in_call.exact f;
           comes = λ st pr i j. g.comes st pr i j ∙ (in_call.answer st pr i ∙ here_on in_call.found.1 pr st st (noted_same st) (rw f j));
         }
+
+-- the error that `?` hands on
+pub handed_on : {T E : Type 0} {r : Result T E} {e : E} → IsErr r × IsErrAnd r (λ y. y ≡ e) → r ≡ Err e
+handed_on {r} h =
+    let x = err_from_is_err_and r h.1 in
+    x.1 ∙ ap Err x.2

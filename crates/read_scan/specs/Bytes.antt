@@ -2,9 +2,18 @@
 use Rattle.std.specs.Prelude.{ℕ, suc, ◌+◌, ◌-◌, Bool, true, false, not, ◌||◌, List, [], ◌∷◌, eqb, ltb, length, get_or, take, drop}
 use Rattle.macros.specs.Bounds.{most_macro_bytes}
 use Rattle.macros.specs.Macro.{pick}
+use Rattle.read_scan.specs.declared.FileFault.{FileFault}
 use Rattle.read_scan.specs.declared.FileFault.TheVariants.{Incomplete, MacroTooLong}
-use Rattle.read_scan.specs.declared.Next.{Next}
-use Rattle.read_scan.specs.declared.Next.TheVariants.{Byte, Refused}
+use Rattle.std.specs.Prelude.{Result, Ok, Err}
+use Rattle.read_scan.specs.declared.ReadError.{ReadError}
+
+-- a byte with its place, or a refusal with its place
+abbrev pub Next : Type 0
+Next = Result (ℕ × ℕ) ReadError
+
+-- the refusal f at place q
+abbrev pub refused : FileFault → ℕ → Next
+refused f q = Err (record { fault = f; place = q })
 
 -- a byte and its place
 pub data Placed : Type 0 where
@@ -31,16 +40,16 @@ seen s a p = outside false p (drop p (up_to s a))
 
 -- where no byte is left: 18 at the macro's 513th byte if the file has one, else 12 at the file's end
 unfoldable pub unended : List ℕ → ℕ → Next
-unended s a = pick (ltb most_macro_bytes (length s - a)) (Refused MacroTooLong (a + most_macro_bytes)) (Refused Incomplete (length s))
+unended s a = pick (ltb most_macro_bytes (length s - a)) (refused MacroTooLong (a + most_macro_bytes)) (refused Incomplete (length s))
 
 -- the byte at place p itself: in a class and behind `\` no skip begins
 unfoldable pub byte_here : List ℕ → ℕ → ℕ → Next
-byte_here s a p = pick (ltb p (length (up_to s a))) (Byte (get_or s p 0) p) (unended s a)
+byte_here s a p = pick (ltb p (length (up_to s a))) (Ok (get_or s p 0, p)) (unended s a)
 
 -- the first of some bytes; the refusal r where there is none
 unfoldable pub first : Next → List Placed → Next
 first r [] = r
-first r (byte_at b q ∷ xs) = Byte b q
+first r (byte_at b q ∷ xs) = Ok (b, q)
 
 -- the next byte from p on that stands in no skip, in the macro that began at a
 unfoldable pub next_byte : List ℕ → ℕ → ℕ → Next

@@ -14,12 +14,11 @@ use Rattle.macros.specs.ReadFile.Reader.{between, inside}
 use Rattle.macros.specs.ReadFile.Next.{go, refuse, refuse_before}
 use Rattle.macros.specs.ReadSoFar.Step.{on}
 use Rattle.macros.specs.ReadFile.Read.{refused_at as file_refused_at}
-use Rattle.read_scan.specs.Bytes.{byte_here, next_byte, next_in_call}
+use Rattle.read_scan.specs.Bytes.{Next, byte_here, next_byte, next_in_call}
 use Rattle.read_scan.specs.declared.FileFault.{FileFault}
 use Rattle.read_scan.specs.declared.FileFault.TheVariants.{FileTooLong, ZeroByte, Incomplete, BadClass, NoUnit}
 use Rattle.read_scan.specs.declared.FileFault.TheVariants.{BadBrace, BadCall, NoElement, MacroTooLong, TooManyMacros}
-use Rattle.read_scan.specs.declared.Next.{Next}
-use Rattle.read_scan.specs.declared.Next.TheVariants.{Byte, Refused}
+use Rattle.std.specs.Prelude.{Ok, Err}
 
 -- the refusal that each fault of the code is
 abbrev pub fault_of : FileFault → FileRefusal
@@ -125,13 +124,13 @@ pub record Here (s : List ℕ) (a p b : ℕ) : Type 0 where
 
 -- what the machine answers in the state st at the byte found, or the refusal found
 abbrev pub passed : List ℕ → ℕ → Prior → Part → Next → MacroRead
-passed s a pr st (Byte b q) = run s a pr false q st
-passed s a pr st (Refused f q) = refused_at (fault_of f) q
+passed s a pr st (Ok (b, q)) = run s a pr false q st
+passed s a pr st (Err e) = refused_at (fault_of e.fault) e.place
 
 -- where the byte behind skips stands
 abbrev pub Found : List ℕ → ℕ → ℕ → Next → Type 0
-Found s a p (Byte b q) = (p ≤ q) × Here s a q b
-Found s a p (Refused f q) = (q ≤ length s)
+Found s a p (Ok (b, q)) = (p ≤ q) × Here s a q b
+Found s a p (Err e) = (e.place ≤ length s)
 
 -- the next byte behind skips, as defined; and the machine comes to it in the state it had at p
 pub record Passes (s : List ℕ) (a p : ℕ) (r : Next) : Type 0 where
@@ -141,8 +140,8 @@ pub record Passes (s : List ℕ) (a p : ℕ) (r : Next) : Type 0 where
 
 -- that the byte stands at p itself
 abbrev pub FoundThere : List ℕ → ℕ → ℕ → Next → Type 0
-FoundThere s a p (Byte b q) = (q ≡ p) × At s a p b
-FoundThere s a p (Refused f q) = (q ≤ length s)
+FoundThere s a p (Ok (b, q)) = (q ≡ p) × At s a p b
+FoundThere s a p (Err e) = (e.place ≤ length s)
 
 -- the byte at p itself, as defined, in any state; a refusal is that of every state
 pub record Stays (s : List ℕ) (a p : ℕ) (r : Next) : Type 0 where
@@ -152,8 +151,8 @@ pub record Stays (s : List ℕ) (a p : ℕ) (r : Next) : Type 0 where
 
 -- where the byte behind skips and spaces stands
 abbrev pub FoundCall : List ℕ → ℕ → ℕ → Next → Type 0
-FoundCall s a p (Byte b q) = (p ≤ q) × Here s a q b × (b ≡ 32 → ⊥)
-FoundCall s a p (Refused f q) = (q ≤ length s)
+FoundCall s a p (Ok (b, q)) = (p ≤ q) × Here s a q b × (b ≡ 32 → ⊥)
+FoundCall s a p (Err e) = (e.place ≤ length s)
 
 -- the next byte behind skips and spaces, as defined; and the machine comes to it in the state it had at p, one that passes over spaces
 pub record Calls (s : List ℕ) (a p : ℕ) (r : Next) : Type 0 where

@@ -12,7 +12,7 @@ ghost use Rattle.read_scan.specs.Scan.{fault_of};
 pub const MOST_MACRO_BYTES: usize = 512;
 
 // A refusal of the table writer, in the order of their numbers: 10 to 19.
-#[derive(Clone, Copy)]
+#[derive(Clone, Copy, Debug, PartialEq, Eq)]
 pub enum FileFault {
     FileTooLong,
     ZeroByte,
@@ -26,27 +26,29 @@ pub enum FileFault {
     TooManyMacros,
 }
 
-// A byte with its place; or a refusal with its place.
-#[derive(Clone, Copy)]
-pub enum Next {
-    Byte(u8, usize),
-    Refused(FileFault, usize),
+// A refusal with its place.
+#[derive(Clone, Copy, Debug, PartialEq, Eq)]
+pub struct ReadError {
+    pub fault: FileFault,
+    pub place: usize,
 }
 
 // A refusal's number, 10 to 19.
-pub fn file_number(f: FileFault) -> u32
-    ensures { result ≡ file_number (fault_of f) }
-{
-    match f {
-        FileFault::FileTooLong => 10,
-        FileFault::ZeroByte => 11,
-        FileFault::Incomplete => 12,
-        FileFault::BadClass => 13,
-        FileFault::NoUnit => 14,
-        FileFault::BadBrace => 15,
-        FileFault::BadCall => 16,
-        FileFault::NoElement => 17,
-        FileFault::MacroTooLong => 18,
-        FileFault::TooManyMacros => 19,
+impl From<FileFault> for u32 {
+    ghost from_gives = { λ f n. n ≡ file_number (fault_of f) };
+
+    fn from(f: FileFault) -> u32 {
+        match f {
+            FileFault::FileTooLong => 10,
+            FileFault::ZeroByte => 11,
+            FileFault::Incomplete => 12,
+            FileFault::BadClass => 13,
+            FileFault::NoUnit => 14,
+            FileFault::BadBrace => 15,
+            FileFault::BadCall => 16,
+            FileFault::NoElement => 17,
+            FileFault::MacroTooLong => 18,
+            FileFault::TooManyMacros => 19,
+        }
     }
 }

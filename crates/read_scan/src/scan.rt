@@ -2,11 +2,11 @@
 ghost use Rattle.std.specs.Prelude.{◌≡◌};
 ghost use Rattle.read_scan.specs.Scan.{Reached, Passes, Stays, Calls, wrong_call, fault_of};
 
-use crate::{FileFault, MOST_MACRO_BYTES, Next};
+use crate::{FileFault, MOST_MACRO_BYTES, ReadError};
 use read_bytes::is_break;
 
 // The next byte that is in no skip, in the macro that began at a: 18 behind its 513th byte, 12 at the file's end.
-pub fn next_byte(s: &[u8], a: usize, first: usize) -> Next
+pub fn next_byte(s: &[u8], a: usize, first: usize) -> Result<(u8, usize), ReadError>
     requires { Reached s.now a first }
     ensures { Passes s.now a first result }
 {
@@ -14,7 +14,10 @@ pub fn next_byte(s: &[u8], a: usize, first: usize) -> Next
     let mut skip = false;
     while at < s.len() {
         if MOST_MACRO_BYTES < at - a {
-            return Next::Refused(FileFault::MacroTooLong, at - 1);
+            return Err(ReadError {
+                fault: FileFault::MacroTooLong,
+                place: at - 1,
+            });
         }
         let b = s[at];
         if b == b'/' {
@@ -22,44 +25,53 @@ pub fn next_byte(s: &[u8], a: usize, first: usize) -> Next
             at = at + 1;
         } else {
             if !skip {
-                return Next::Byte(b, at);
+                return Ok((b, at));
             }
             at = at + 1;
         }
     }
     if MOST_MACRO_BYTES < at - a {
-        return Next::Refused(FileFault::MacroTooLong, at - 1);
+        return Err(ReadError {
+            fault: FileFault::MacroTooLong,
+            place: at - 1,
+        });
     }
-    Next::Refused(FileFault::Incomplete, at)
+    Err(ReadError {
+        fault: FileFault::Incomplete,
+        place: at,
+    })
 }
 
 // The byte at a place where no skip can begin.
-pub fn any_byte(s: &[u8], a: usize, at: usize) -> Next
+pub fn any_byte(s: &[u8], a: usize, at: usize) -> Result<(u8, usize), ReadError>
     requires { Reached s.now a at }
     ensures { Stays s.now a at result }
 {
     if MOST_MACRO_BYTES < at - a {
-        return Next::Refused(FileFault::MacroTooLong, at - 1);
+        return Err(ReadError {
+            fault: FileFault::MacroTooLong,
+            place: at - 1,
+        });
     }
     if s.len() <= at {
-        return Next::Refused(FileFault::Incomplete, at);
+        return Err(ReadError {
+            fault: FileFault::Incomplete,
+            place: at,
+        });
     }
-    Next::Byte(s[at], at)
+    Ok((s[at], at))
 }
 
 // The next byte in a call: "Spaces in calls are ignored".
-pub fn call_byte(s: &[u8], a: usize, first: usize) -> Next
+pub fn call_byte(s: &[u8], a: usize, first: usize) -> Result<(u8, usize), ReadError>
     requires { Reached s.now a first }
     ensures { Calls s.now a first result }
 {
     let mut at = first;
     loop {
-        let next = next_byte(s, a, at);
-        let Next::Byte(b, q) = next else {
-            return next;
-        };
+        let (b, q) = next_byte(s, a, at)?;
         if b != b' ' {
-            return Next::Byte(b, q);
+            return Ok((b, q));
         }
         at = q + 1;
     }

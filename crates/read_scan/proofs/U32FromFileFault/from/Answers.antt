@@ -2,7 +2,7 @@ use mathlib.Core.Path.{ap, sym}
 use Rattle.read_scan.specs.Scan.{fault_of}
 use Rattle.read_scan.specs.declared.FileFault.{FileFault}
 use Rattle.macros.specs.Refusals.{file_number}
-use Rattle.read_scan.proofs.file_number.Goals as goal
+use Rattle.read_scan.proofs.U32FromFileFault.from.Goals as goal
 
 pub returns-in-FileTooLong : goal.returns-in-FileTooLong
 unfolding file_number
