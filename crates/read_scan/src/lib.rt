@@ -33,6 +33,15 @@ pub struct ReadError {
     pub place: usize,
 }
 
+impl FileFault {
+    // The refusal at a place.
+    pub fn at(self, place: usize) -> ReadError
+        ensures { result ≡ record { fault = self; place = place } }
+    {
+        ReadError { fault: self, place }
+    }
+}
+
 // A refusal's number, 10 to 19.
 impl From<FileFault> for u32 {
     ghost from_gives = { λ f n. n ≡ file_number (fault_of f) };

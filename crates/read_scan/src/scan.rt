@@ -10,36 +10,23 @@ pub fn next_byte(s: &[u8], a: usize, first: usize) -> Result<(u8, usize), ReadEr
     requires { Reached s.now a first }
     ensures { Passes s.now a first result }
 {
-    let mut at = first;
     let mut skip = false;
-    while at < s.len() {
+    for at in first..s.len() {
         if MOST_MACRO_BYTES < at - a {
-            return Err(ReadError {
-                fault: FileFault::MacroTooLong,
-                place: at - 1,
-            });
+            return Err(FileFault::MacroTooLong.at(at - 1));
         }
         let b = s[at];
         if b == b'/' {
             skip = !skip;
-            at = at + 1;
-        } else {
-            if !skip {
-                return Ok((b, at));
-            }
-            at = at + 1;
+        } else if !skip {
+            return Ok((b, at));
         }
     }
-    if MOST_MACRO_BYTES < at - a {
-        return Err(ReadError {
-            fault: FileFault::MacroTooLong,
-            place: at - 1,
-        });
+    let end = s.len();
+    if MOST_MACRO_BYTES < end - a {
+        return Err(FileFault::MacroTooLong.at(end - 1));
     }
-    Err(ReadError {
-        fault: FileFault::Incomplete,
-        place: at,
-    })
+    Err(FileFault::Incomplete.at(end))
 }
 
 // The byte at a place where no skip can begin.
@@ -48,16 +35,10 @@ pub fn any_byte(s: &[u8], a: usize, at: usize) -> Result<(u8, usize), ReadError>
     ensures { Stays s.now a at result }
 {
     if MOST_MACRO_BYTES < at - a {
-        return Err(ReadError {
-            fault: FileFault::MacroTooLong,
-            place: at - 1,
-        });
+        return Err(FileFault::MacroTooLong.at(at - 1));
     }
     if s.len() <= at {
-        return Err(ReadError {
-            fault: FileFault::Incomplete,
-            place: at,
-        });
+        return Err(FileFault::Incomplete.at(at));
     }
     Ok((s[at], at))
 }
