@@ -1,43 +1,46 @@
--- Whether a line holds byte 0 or line feed (22), byte by byte.
+-- Whether a line holds byte 0 or line feed (22), as a test of each byte.
 -- Assumes nothing.
-use Prim.Native.Nat.{ℕ, suc, ◌+◌, ◌≤◌, ◌<◌}
-use mathlib.Core.Path.{◌≡◌, refl, subst}
+use Prim.Native.Nat.{ℕ, zero, suc, ◌<◌}
+use mathlib.Core.Path.{◌≡◌, refl, ◌∙◌, sym}
 use mathlib.Core.Bool.{Bool, true, false, ◌||◌}
 use mathlib.Core.List.{List, [], ◌∷◌}
-use native.Mathlib.Numerals.{add-one}
 use native.Mathlib.Omega.{arith}
-use borrow.Author.Tests.{eq-eqb, ne_eqb}
 use lib.Dec.{eqb}
-use lib.ListN.{length, get_or, take, drop, drop_of_length-le}
-use lib.Seq.{drop-cons, take-suc, take_all}
+use lib.ListN.{get_or}
+use Rattle.std.proofs.Common.{Fits, w8}
+use Rattle.std.specs.List.{list_any}
 use Rattle.macros.specs.Formed.{Bytes}
 use Rattle.lines.specs.Feeding.{has_bad_byte}
-use Rattle.lines.proofs.KeepBytes.{bytes_append}
+use Rattle.line_test.specs.Test.{Tested}
 
-module _ (t : List ℕ) (i : ℕ) (h : i < length t) where
-  bad_cons : (x : Bool) → (eqb (get_or t i 0) 0 || eqb (get_or t i 0) 10) ≡ x → has_bad_byte (drop i t) ≡ elim x [ true ↦ true | false ↦ has_bad_byte (drop (suc i) t) ]
-  unfolding has_bad_byte
-  bad_cons x e = rw (drop-cons t i 0 h, has_bad_byte, e) refl
+abbrev pub bad : ℕ → Bool
+bad b = eqb b 0 || eqb b 10
 
-  or_right : (c : Bool) → (c || true) ≡ true
-  or_right true = refl
-  or_right false = refl
+or_cases : (c : Bool) {r s : Bool} → r ≡ s → (c || r) ≡ elim c [ true ↦ true | false ↦ s ]
+or_cases true e = refl
+or_cases false e = e
 
-  pub bad_zero : get_or t i 0 ≡ 0 → has_bad_byte (drop i t) ≡ true
-  bad_zero e = bad_cons true (rw (eq-eqb (get_or t i 0) 0 e) refl)
-
-  pub bad_feed : get_or t i 0 ≡ 10 → has_bad_byte (drop i t) ≡ true
-  bad_feed e = bad_cons true (rw (eq-eqb (get_or t i 0) 10 e) (or_right (eqb (get_or t i 0) 0)))
-
-  pub bad_next : (get_or t i 0 ≡ 0 → ⊥) → (get_or t i 0 ≡ 10 → ⊥) → has_bad_byte (drop i t) ≡ has_bad_byte (drop (i + 1) t)
-  bad_next f g = rw (add-one i) (bad_cons false (rw (ne_eqb (get_or t i 0) 0 f, ne_eqb (get_or t i 0) 10 g) refl))
-
-  pub bytes_next : Bytes (take i t) → get_or t i 0 ≤ 255 → (get_or t i 0 ≡ 0 → ⊥) → Bytes (take (i + 1) t)
-  bytes_next b l f = rw (add-one i, take-suc t i 0 h) (bytes_append (take i t) (get_or t i 0 ∷ []) b (omega arith, tt))
-
-pub bad_none : (t : List ℕ) (i : ℕ) → length t ≤ i → has_bad_byte (drop i t) ≡ false
+any_bad : (t : List ℕ) → list_any bad t ≡ has_bad_byte t
 unfolding has_bad_byte
-bad_none t i h = rw (drop_of_length-le t h) refl
+any_bad [] = refl
+any_bad (b ∷ t) = or_cases (bad b) (any_bad t)
 
-pub bytes_all : (t : List ℕ) (i : ℕ) → length t ≤ i → Bytes (take i t) → Bytes t
-bytes_all t i h b = subst Bytes (take_all i t h) b
+split : (a b r : Bool) → ((a || b) || r) ≡ false → (a ≡ false) × (r ≡ false)
+split false false r e = (refl, e)
+split false true r e = cc
+split true b r e = cc
+
+no_zero : (b : ℕ) → eqb b 0 ≡ false → 0 < b
+no_zero zero e = cc
+no_zero (suc b) e = omega arith
+
+bytes : (t : List ℕ) → ((i : ℕ) → Fits w8 (get_or t i 0)) → list_any bad t ≡ false → Bytes t
+bytes [] f e = tt
+bytes (b ∷ t) f e =
+    let s = split (eqb b 0) (eqb b 10) (list_any bad t) e in
+    let z = no_zero b s.0 in
+    let g = f 0 in
+    (omega arith, bytes t (λ i. f (suc i)) s.1)
+
+pub tested : (t : List ℕ) {r : Bool} → ((i : ℕ) → Fits w8 (get_or t i 0)) → r ≡ list_any bad t → Tested t r
+tested t f e = record { says = e ∙ any_bad t; bytes = λ g. bytes t f (sym e ∙ g) }
