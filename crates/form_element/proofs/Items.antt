@@ -6,7 +6,7 @@ use mathlib.Core.Bool.{true, false}
 use mathlib.Core.List.{List, [], ◌∷◌, ◌++◌}
 use native.Mathlib.Nat.{add-zero}
 use native.Mathlib.Omega.{arith}
-use lib.ListN.{length, get_or, drop, take, length-append, length-drop}
+use lib.ListN.{length, get_or, drop, length-append, length-drop}
 use lib.Seq.{get_or-drop}
 use Rattle.macros.specs.Macro.{PatternUnit, Closure, Piece, pick}
 use Rattle.macros.specs.Macro.Closure.{once, one_or_more, zero_or_more}
@@ -14,7 +14,7 @@ use Rattle.macros.specs.Macro.Mark.{stack, counter}
 use Rattle.macros.specs.Macro.PatternUnit.{literal, kind, class, call_of}
 use Rattle.macros.specs.Macro.Piece.{element, start, end, left, right}
 use Rattle.form_table.specs.Form.{closure_code, unit_code, unit_operand, piece_items}
-use Rattle.form_element.specs.Element.{element_of, code_unit, closure_of, unit_of, code_closure, closure_from, item_of, sign_at, unit_at, closure_at, SomePiece, AnyPiece}
+use Rattle.form_element.specs.Element.{element_of, code_unit, closure_of, code_closure, closure_from, item_of, sign_at, unit_at, closure_at, SomePiece, AnyPiece}
 use Rattle.form_element.specs.declared.Unit.{Unit as CodeUnit}
 use Rattle.form_element.specs.declared.Closure.{Closure as CodeClosure}
 

@@ -1,6 +1,6 @@
 -- An element as the code has it, the piece of a pattern that it stands for, and its item.
-use Rattle.std.specs.Prelude.{ℕ, ◌%◌, ◌≡◌, true, false, List, [], ◌∷◌, ◌++◌, eqb, ltb, drop, take}
-use Rattle.macros.specs.Macro.{Closure, Member, PatternUnit, Piece, pick}
+use Rattle.std.specs.Prelude.{ℕ, ◌%◌, ◌≡◌, true, false, List, [], ◌++◌, eqb, ltb, drop, take}
+use Rattle.macros.specs.Macro.{Closure, PatternUnit, Piece, pick}
 use Rattle.macros.specs.Macro.Closure.{once, one_or_more, zero_or_more}
 use Rattle.macros.specs.Macro.Mark.{stack, counter}
 use Rattle.macros.specs.Macro.PatternUnit.{literal, kind, class, call_of}

@@ -13,7 +13,7 @@ use form_items::codes::{
 use form_items::put_item;
 
 // What a closure may follow; `^` and `$`; and the braces, which have an item as these have. The members of a class stand behind its item.
-#[derive(Clone, Copy)]
+#[derive(Clone, Copy, Debug, PartialEq, Eq)]
 pub enum Unit {
     Literal(u8),
     Kind(u8),
@@ -28,7 +28,7 @@ pub enum Unit {
 }
 
 // No closure, `*` and `*-`.
-#[derive(Clone, Copy)]
+#[derive(Clone, Copy, Debug, PartialEq, Eq)]
 pub enum Closure {
     Once,
     OneOrMore,
@@ -36,55 +36,43 @@ pub enum Closure {
 }
 
 // A unit with its closure.
-#[derive(Clone, Copy)]
+#[derive(Clone, Copy, Debug, PartialEq, Eq)]
 pub struct Element {
     pub unit: Unit,
     pub closure: Closure,
 }
 
-// An item's two bytes.
-#[derive(Clone, Copy)]
-struct Item {
-    code: u8,
-    operand: u8,
-}
-
 // A closure's code.
-fn closure_code(c: Closure) -> u8
-    ensures { (result ≡ closure_code (closure_from c)) × (result ≤ 2) }
-{
-    match c {
-        Closure::Once => ONCE,
-        Closure::OneOrMore => ONE_OR_MORE,
-        Closure::ZeroOrMore => ZERO_OR_MORE,
+#[tactic(auto, unfolding(form_table::specs::Form::closure_code))]
+impl From<Closure> for u8 {
+    ghost from_gives = { λ c k. (k ≡ closure_code (closure_from c)) × (k ≤ 2) };
+
+    fn from(c: Closure) -> u8 {
+        match c {
+            Closure::Once => ONCE,
+            Closure::OneOrMore => ONE_OR_MORE,
+            Closure::ZeroOrMore => ZERO_OR_MORE,
+        }
     }
 }
 
-// The item of a code and an operand.
-fn item_with(code: u8, operand: u8) -> Item
-    ensures { (result.code ≡ code) × (result.operand ≡ operand) }
+// An element's item, a code and an operand. What has no closure has a code of its own.
+#[tactic(auto, unfolding(crate::specs::Element::item_of, form_table::specs::Form::piece_items, form_table::specs::Form::unit_code, form_table::specs::Form::unit_operand))]
+fn item_of(e: Element) -> (u8, u8)
+    ensures { result.0 ∷ result.1 ∷ [] ≡ item_of e }
 {
-    Item { code, operand }
-}
-
-// An element's item. What has no closure has a code of its own.
-fn item_of(e: Element) -> Item
-    ensures { result.code ∷ result.operand ∷ [] ≡ item_of e }
-{
-    let closure = e.closure;
-    let k = closure_code(closure);
-    let unit = e.unit;
-    match unit {
-        Unit::Literal(b) => item_with(LITERAL + k, b),
-        Unit::Kind(n) => item_with(KIND + k, n),
-        Unit::Class => item_with(CLASS + k, 0),
-        Unit::ClassNot => item_with(CLASS_NOT + k, 0),
-        Unit::StackCall(i) => item_with(STACK_CALL + k, i),
-        Unit::CounterCall(i) => item_with(COUNTER_CALL + k, i),
-        Unit::Start => item_with(START, 0),
-        Unit::End => item_with(END, 0),
-        Unit::Left => item_with(LEFT, 0),
-        Unit::Right => item_with(RIGHT, 0),
+    let k = u8::from(e.closure);
+    match e.unit {
+        Unit::Literal(b) => (LITERAL + k, b),
+        Unit::Kind(n) => (KIND + k, n),
+        Unit::Class => (CLASS + k, 0),
+        Unit::ClassNot => (CLASS_NOT + k, 0),
+        Unit::StackCall(i) => (STACK_CALL + k, i),
+        Unit::CounterCall(i) => (COUNTER_CALL + k, i),
+        Unit::Start => (START, 0),
+        Unit::End => (END, 0),
+        Unit::Left => (LEFT, 0),
+        Unit::Right => (RIGHT, 0),
     }
 }
 
@@ -93,65 +81,52 @@ pub fn put_element(out: &mut [u8], n: usize, e: Element)
     requires { n + 1 < length out.old }
     ensures { Wrote out.old out.new n (item_of e) }
 {
-    let i = item_of(e);
-    put_item(out, n, i.code, i.operand);
+    let (code, operand) = item_of(e);
+    put_item(out, n, code, operand);
 }
 
 // The unit of an item.
+#[tactic(auto, using(std::proofs::lemmas::Bool::Decides::nat_tests), unfolding(crate::specs::Element::unit_at, macros::specs::Macro::pick))]
 fn unit_of(code: u8, operand: u8) -> Unit
     ensures { result ≡ unit_at code operand }
 {
-    if code < LITERAL {
-        return sign_of(code);
+    match code {
+        0..LITERAL => sign_of(code),
+        LITERAL..KIND => Unit::Literal(operand),
+        KIND..STACK_CALL => Unit::Kind(operand),
+        STACK_CALL..COUNTER_CALL => Unit::StackCall(operand),
+        COUNTER_CALL..CLASS => Unit::CounterCall(operand),
+        CLASS..CLASS_NOT => Unit::Class,
+        _ => Unit::ClassNot,
     }
-    if code < KIND {
-        return Unit::Literal(operand);
-    }
-    if code < STACK_CALL {
-        return Unit::Kind(operand);
-    }
-    if code < COUNTER_CALL {
-        return Unit::StackCall(operand);
-    }
-    if code < CLASS {
-        return Unit::CounterCall(operand);
-    }
-    if code < CLASS_NOT {
-        return Unit::Class;
-    }
-    Unit::ClassNot
 }
 
 // The unit of an item that has no closure.
+#[tactic(auto, using(std::proofs::lemmas::Bool::Decides::nat_tests), unfolding(crate::specs::Element::sign_at, macros::specs::Macro::pick))]
 fn sign_of(code: u8) -> Unit
     ensures { result ≡ sign_at code }
 {
-    if code == START {
-        return Unit::Start;
+    match code {
+        START => Unit::Start,
+        END => Unit::End,
+        LEFT => Unit::Left,
+        _ => Unit::Right,
     }
-    if code == END {
-        return Unit::End;
-    }
-    if code == LEFT {
-        return Unit::Left;
-    }
-    Unit::Right
 }
 
 // The closure of an item.
+#[tactic(auto, using(std::proofs::lemmas::Bool::Decides::nat_tests), unfolding(crate::specs::Element::closure_at, macros::specs::Macro::pick))]
 fn closure_of(code: u8) -> Closure
     ensures { result ≡ closure_at code }
 {
     if code < LITERAL {
         return Closure::Once;
     }
-    if code % UNIT_STEP == ONE_OR_MORE {
-        return Closure::OneOrMore;
+    match code % UNIT_STEP {
+        ONE_OR_MORE => Closure::OneOrMore,
+        ZERO_OR_MORE => Closure::ZeroOrMore,
+        _ => Closure::Once,
     }
-    if code % UNIT_STEP == ZERO_OR_MORE {
-        return Closure::ZeroOrMore;
-    }
-    Closure::Once
 }
 
 // The element whose item stands at a place.
