@@ -1,37 +1,20 @@
-// How the parts of a macro end: what is refused, handed on, and what a refusal leaves.
+// How the parts of a macro end: what a refusal leaves.
 #![tactic(auto)]
 
 ghost use Rattle.std.specs.Prelude.{◌≡◌};
-ghost use Rattle.read_ends.specs.Ends.{next_end, left_by};
+ghost use Rattle.read_ends.specs.Ends.{left_by};
 
-use form_items::clear;
-use read_scan::{FileFault, Next};
+use read_scan::ReadError;
 
-// The place behind what was read, and the end of the items written; or a refusal with its place.
-#[derive(Clone, Copy)]
-pub enum Ended {
-    Upto(usize, usize),
-    Refused(FileFault, usize),
-}
-
-// A byte's refusal, as that of the part it belongs to. Callers hand on nothing else.
-pub fn next_end(n: Next) -> Ended
-    ensures { result ≡ next_end n }
-{
-    match n {
-        Next::Byte(_, q) => Ended::Refused(FileFault::Incomplete, q),
-        Next::Refused(f, q) => Ended::Refused(f, q),
-    }
-}
-
-// What was read; a refusal leaves zeros in the lent bytes.
-pub fn or_zeros(out: &mut [u8], read: Ended) -> Ended
+// What was read, the place behind it and the end of the items written; a refusal leaves zeros in the lent bytes.
+pub fn or_zeros(
+    out: &mut [u8],
+    read: Result<(usize, usize), ReadError>,
+) -> Result<(usize, usize), ReadError>
     ensures { (result ≡ read) × (out.new ≡ left_by out.old read) }
 {
-    let Ended::Upto(q, e) = read else {
-        let size = out.len();
-        clear(out, 0, size);
-        return read;
-    };
-    Ended::Upto(q, e)
+    if read.is_err() {
+        out.fill(0);
+    }
+    read
 }
