@@ -5,7 +5,6 @@ use mathlib.Core.Path.{◌≡◌, refl, sym, ap, ◌∙◌}
 use mathlib.Core.Bool.{Bool, true, false, false≢true, ◌&&◌, ◌||◌}
 use mathlib.Core.Logic.{◌⊎◌, inl, inr}
 use mathlib.Core.List.{List, [], ◌∷◌, ◌++◌}
-use native.Mathlib.Numerals.{add-one}
 use native.Mathlib.Omega.{arith}
 use native.Mathlib.Decide.{ℕ_discrete}
 use borrow.Author.Tests.{eqb-true, eqb-false, ne_eqb}
@@ -186,17 +185,6 @@ mark_zero marks at q = zero_bit (q % 8) (omega arith) (get_or marks (byte_of at 
         (λ x f g. omega arith)
 
 -- CLEARED
-
-clear_next : (marks : List ℕ) (i : ℕ) → i < length marks → set (cleared marks i) i 0 ≡ cleared marks (suc i)
-clear_next [] i h = absurd (omega arith)
-clear_next (x ∷ l) zero h = refl
-clear_next (x ∷ l) (suc i) h = ap (λ (t : List ℕ). 0 ∷ t) (clear_next l i (omega arith))
-
-pub clear_more : (marks now : List ℕ) (i : ℕ) → i < length marks → now ≡ cleared marks i → set now i 0 ≡ cleared marks (i + 1)
-clear_more marks now i h e = ap (λ (t : List ℕ). set t i 0) e ∙ clear_next marks i h ∙ ap (cleared marks) (sym (add-one i))
-
-pub clear_done : (marks now : List ℕ) (i n : ℕ) → i ≤ n → n ≤ i → now ≡ cleared marks i → now ≡ cleared marks n
-clear_done marks now i n h k e = let z : i ≡ n = omega arith in e ∙ ap (cleared marks) z
 
 in_zeros : (l : List ℕ) (n i : ℕ) → i < n → get_or (replicate n 0 ++ l) i 0 ≡ 0
 in_zeros l zero i h = absurd (omega arith)

@@ -9,7 +9,7 @@ use native.Mathlib.Omega.{arith}
 use native.Mathlib.Decide.{ℕ_discrete}
 use borrow.Author.Tests.{eqb-true, eqb-false}
 use lib.Dec.{eqb}
-use lib.ListN.{length, get_or, set, drop}
+use lib.ListN.{get_or, set}
 use lib.Seq.{get_or-set_same, get_or-set_other, get_or-drop}
 use Rattle.pass_marks.specs.Marks.{byte_of, mark, ByteThere, marked_if, marked, cleared}
 use Rattle.pass_marks.specs.Pairs.{IsPair, InSet, MarkGains, ClearLoses}

@@ -5,6 +5,7 @@ ghost use Rattle.std.specs.Prelude.{◌≤◌, ◌≡◌, eqb, length};
 ghost use Rattle.pass_marks.specs.Marks.{mark, ByteThere, marked, cleared};
 
 // Whether the pair was found to have failed.
+#[tactic(auto, unfolding(crate::specs::Marks::mark))]
 pub fn is_marked(marks: &[u8], at: usize, q: usize) -> bool
     requires { ByteThere marks.now at q }
     ensures { result ≡ eqb (mark marks.now at q) 1 }
@@ -24,7 +25,7 @@ pub fn set_mark(marks: &mut [u8], at: usize, q: usize)
     }
     let i = at * 66 + q / 8;
     let bit = (q % 8) as u8;
-    marks[i] = marks[i] + (1 << bit);
+    marks[i] += 1 << bit;
 }
 
 // No mark is set among the first n bytes.
@@ -32,9 +33,5 @@ pub fn clear(marks: &mut [u8], n: usize)
     requires { n ≤ length marks.old }
     ensures { marks.new ≡ cleared marks.old n }
 {
-    let mut i = 0;
-    while i < n {
-        marks[i] = 0;
-        i += 1;
-    }
+    marks[..n].fill(0);
 }
