@@ -1,40 +1,17 @@
 // The memories of a line: a text with zeros behind it. What a table's memory holds stands in specs/.
 #![tactic(auto)]
 
-ghost use Rattle.std.specs.Prelude.{◌≡◌, ◌++◌, ◌-◌, ◌≤◌, length, take, drop, replicate};
+ghost use Rattle.std.specs.Prelude.{◌≡◌, ◌≤◌, length};
 ghost use Rattle.line_memory.specs.Memory.{padded, laid_if};
-
-// The bytes of one memory over the first of another.
-fn copy_over(to: &mut [u8], from: &[u8])
-    requires { length from.now ≤ length to.old }
-    ensures { to.new ≡ from.now ++ drop (length from.now) to.old }
-{
-    let mut i = 0;
-    while i < from.len() {
-        to[i] = from[i];
-        i += 1;
-    }
-}
-
-// Zeros from a place on.
-fn clear(to: &mut [u8], at: usize)
-    requires { at ≤ length to.old }
-    ensures { to.new ≡ take at to.old ++ replicate (length to.old - at) 0 }
-{
-    let mut i = at;
-    while i < to.len() {
-        to[i] = 0;
-        i += 1;
-    }
-}
 
 // A text, and zeros behind it to the memory's end.
 pub fn lay_out(to: &mut [u8], text: &[u8])
     requires { length text.now ≤ length to.old }
     ensures { to.new ≡ padded text.now (length to.old) }
 {
-    copy_over(to, text);
-    clear(to, text.len());
+    let n = text.len();
+    to[..n].copy_from_slice(text);
+    to[n..].fill(0);
 }
 
 // The same if it is asked for, else nothing.
