@@ -10,13 +10,14 @@ use borrow.Author.Tests.{eq-eqb, ne_eqb, ltb-false, lt-ltb, le-ltb}
 use lib.Dec.{eqb, ltb}
 use lib.ListN.{length, drop, get_or, drop_of_length-le, length-drop, length-append}
 use lib.Seq.{drop-cons, drop-drop}
+use Rattle.std.specs.Prelude.{Option, Some, None}
+use Rattle.std.specs.List.{starts_with}
+use Rattle.std.specs.Option.{is_some}
 use Rattle.macros.specs.Macro.{pick}
 use Rattle.macros.specs.Write.{digits, digits_by}
 use Rattle.lines.specs.Matching.{byte_fits, begins}
 use Rattle.lines.specs.Choosing.{is_end}
 use Rattle.pass_unit.specs.Pieces.{led_to}
-use Rattle.pass_unit.specs.declared.Lead.{Lead}
-use Rattle.pass_unit.specs.declared.Lead.TheVariants.{After, Nothing}
 
 module _ (l : List ℕ) (p : ℕ) where
   pub here : p < length l → drop p l ≡ get_or l p 0 ∷ drop (p + 1) l
@@ -41,23 +42,16 @@ module _ (l : List ℕ) (p : ℕ) where
       go (yes e) = eq-eqb _ _ e ∙ sym (ap is_end (past (omega arith)))
       go (no n) = ne_eqb _ _ n ∙ sym (ap is_end (here (omega arith)))
 
--- a text from i on at p
-module _ (t l : List ℕ) (i p : ℕ) where
-  pub text_done : length t ≤ i → true ≡ begins (drop i t) (drop p l)
-  unfolding begins
-  text_done e = sym (ap (λ (x : List ℕ). begins x (drop p l)) (past t i e))
+if_same : (x y : Bool) → (elim x [ true ↦ y | false ↦ false ]) ≡ (x && y)
+if_same true y = refl
+if_same false y = refl
 
-  pub text_past : i < length t → length l ≤ p → false ≡ begins (drop i t) (drop p l)
-  unfolding begins
-  text_past a b = rw (here t i a, past l p b)
-
-  pub text_more : i < length t → p < length l → get_or t i 0 ≡ get_or l p 0 → begins (drop i t) (drop p l) ≡ begins (drop (i + 1) t) (drop (p + 1) l)
-  unfolding begins
-  text_more a b e = rw (here t i a, here l p b, begins, eq-eqb _ _ e)
-
-  pub text_differs : i < length t → p < length l → (get_or t i 0 ≡ get_or l p 0 → ⊥) → false ≡ begins (drop i t) (drop p l)
-  unfolding begins
-  text_differs a b e = rw (here t i a, here l p b, begins, ne_eqb _ _ e)
+-- whether a text stands at the head, as the library tests it
+pub prefix_is : (t s : List ℕ) → starts_with eqb s t ≡ begins t s
+unfolding begins
+prefix_is [] s = refl
+prefix_is (c ∷ t) [] = refl
+prefix_is (c ∷ t) (b ∷ s) = ap (λ (x : Bool). eqb c b && x) (prefix_is t s) ∙ sym (if_same (eqb c b) (begins t s))
 
 -- DIGITS
 
@@ -86,10 +80,6 @@ digits_last (suc n) h = rw (le-ltb (suc n) 10 h, digits_fuel n (suc n / 10) (suc
 pub digits_longer : (n : ℕ) → 10 ≤ n → length (digits n) ≡ length (digits (n / 10)) + 1
 digits_longer n h = ap length (digits_last n h) ∙ length-append (digits (n / 10)) ((48 + n % 10) ∷ [])
 
-if_same : (x y : Bool) → (elim x [ true ↦ y | false ↦ false ]) ≡ (x && y)
-if_same true y = refl
-if_same false y = refl
-
 and_same : (x y z : Bool) → (x && (y && z)) ≡ ((x && y) && z)
 and_same true y z = refl
 and_same false y z = refl
@@ -102,28 +92,33 @@ begins_both (x ∷ a) c (y ∷ s) = if_same (eqb x y) (begins (a ++ c) s) ∙ ap
 
 -- one digit at p
 module _ (n : ℕ) (l : List ℕ) (p : ℕ) where
-  pub digit_past : length l ≤ p → Nothing ≡ led_to (begins ((48 + n) ∷ []) (drop p l)) (p + 1)
+  pub digit_past : length l ≤ p → None ≡ led_to (begins ((48 + n) ∷ []) (drop p l)) (p + 1)
   unfolding begins led_to pick
   digit_past le = rw (past l p le)
 
-  pub digit_is : p < length l → get_or l p 0 ≡ 48 + n → After (p + 1) ≡ led_to (begins ((48 + n) ∷ []) (drop p l)) (p + 1)
+  pub digit_is : p < length l → get_or l p 0 ≡ 48 + n → Some (p + 1) ≡ led_to (begins ((48 + n) ∷ []) (drop p l)) (p + 1)
   unfolding begins led_to pick
   digit_is lt e = rw (here l p lt, begins, eq-eqb (48 + n) (get_or l p 0) (sym e))
 
-  pub digit_not : p < length l → (get_or l p 0 ≡ 48 + n → ⊥) → Nothing ≡ led_to (begins ((48 + n) ∷ []) (drop p l)) (p + 1)
+  pub digit_not : p < length l → (get_or l p 0 ≡ 48 + n → ⊥) → None ≡ led_to (begins ((48 + n) ∷ []) (drop p l)) (p + 1)
   unfolding begins led_to pick
   digit_not lt e = rw (here l p lt, begins, ne_eqb (48 + n) (get_or l p 0) (λ z. e (sym z)))
 
 -- what a lead says
-pub led_true : (b : Bool) (q k : ℕ) → After k ≡ led_to b q → (b ≡ true) × (k ≡ q)
+pub led_true : (b : Bool) (q k : ℕ) → Some k ≡ led_to b q → (b ≡ true) × (k ≡ q)
 unfolding led_to pick
 led_true true q k e = (refl, cc)
 led_true false q k e = absurd (let z : ◌≡◌ {A = ℕ} 0 1 = cc in omega arith)
 
-pub led_false : (b : Bool) (q : ℕ) → Nothing ≡ led_to b q → b ≡ false
+pub led_false : (b : Bool) (q : ℕ) → None ≡ led_to b q → b ≡ false
 unfolding led_to pick
 led_false true q e = absurd (let z : ◌≡◌ {A = ℕ} 0 1 = cc in omega arith)
 led_false false q e = refl
+
+pub lead_is : (b : Bool) (q : ℕ) → is_some (led_to b q) ≡ b
+unfolding led_to pick
+lead_is true q = refl
+lead_is false q = refl
 
 begins_inside : (cs s : List ℕ) → begins cs s ≡ true → length cs ≤ length s
 unfolding begins
@@ -136,14 +131,14 @@ begins_inside (c ∷ cs) (b ∷ bs) e = go (eqb c b) e (begins_inside cs bs)
     go false f ih = absurd (let z : ◌≡◌ {A = ℕ} 0 1 = cc in omega arith)
 
 module _ (n : ℕ) (l : List ℕ) (p : ℕ) where
-  pub number_few : n < 10 → (r : Lead) → r ≡ led_to (begins ((48 + n) ∷ []) (drop p l)) (p + 1) → r ≡ led_to (begins (digits n) (drop p l)) (p + length (digits n))
+  pub number_few : n < 10 → (r : Option ℕ) → r ≡ led_to (begins ((48 + n) ∷ []) (drop p l)) (p + 1) → r ≡ led_to (begins (digits n) (drop p l)) (p + length (digits n))
   number_few lt r e = rw (digits_few n lt) e
 
-  pub number_not : 10 ≤ n → Nothing ≡ led_to (begins (digits (n / 10)) (drop p l)) (p + length (digits (n / 10))) → Nothing ≡ led_to (begins (digits n) (drop p l)) (p + length (digits n))
+  pub number_not : 10 ≤ n → None ≡ led_to (begins (digits (n / 10)) (drop p l)) (p + length (digits (n / 10))) → None ≡ led_to (begins (digits n) (drop p l)) (p + length (digits n))
   unfolding led_to pick
   number_not le e = rw (digits_last n le, begins_both (digits (n / 10)) ((48 + n % 10) ∷ []) (drop p l), led_false (begins (digits (n / 10)) (drop p l)) (p + length (digits (n / 10))) e)
 
-  pub number_then : 10 ≤ n → (q : ℕ) → After q ≡ led_to (begins (digits (n / 10)) (drop p l)) (p + length (digits (n / 10))) → (r : Lead) → r ≡ led_to (begins ((48 + n % 10) ∷ []) (drop q l)) (q + 1)
+  pub number_then : 10 ≤ n → (q : ℕ) → Some q ≡ led_to (begins (digits (n / 10)) (drop p l)) (p + length (digits (n / 10))) → (r : Option ℕ) → r ≡ led_to (begins ((48 + n % 10) ∷ []) (drop q l)) (q + 1)
       → r ≡ led_to (begins (digits n) (drop p l)) (p + length (digits n))
   number_then le q e r f =
       let a = led_true _ _ _ e in
@@ -153,7 +148,7 @@ module _ (n : ℕ) (l : List ℕ) (p : ℕ) where
       ∙ ap (λ (b : Bool). led_to b (p + length (digits n)))
       (sym (ap (λ (x : List ℕ). begins x (drop p l)) (digits_last n le) ∙ begins_both (digits (n / 10)) ((48 + n % 10) ∷ []) (drop p l) ∙ rw (a.0, d)))
 
-  pub number_inside : (q : ℕ) → p ≤ length l → After q ≡ led_to (begins (digits n) (drop p l)) (p + length (digits n)) → q ≤ length l
+  pub number_inside : (q : ℕ) → p ≤ length l → Some q ≡ led_to (begins (digits n) (drop p l)) (p + length (digits n)) → q ≤ length l
   number_inside q le e =
       let a = led_true _ _ _ e in
       let b = begins_inside (digits n) (drop p l) a.0 in

@@ -1,8 +1,7 @@
 -- A piece as the code has it: a unit with a closure. A brace is an empty unit that fits everywhere, `^` and `$` are empty units.
-use Rattle.std.specs.Prelude.{ℕ, ◌+◌, ◌≤◌, ◌≡◌, Bool, true, false, List, [], ◌∷◌, ◌++◌, eqb, ltb, length, drop}
+use Rattle.std.specs.Prelude.{ℕ, ◌+◌, ◌≤◌, ◌≡◌, Bool, true, false, Option, Some, None, List, [], ◌∷◌, ◌++◌, eqb, ltb, length, drop}
 use Rattle.kinds.specs.Kind.{kind_of, kind_table}
 use Rattle.macros.specs.Macro.{Member, Piece, pick}
-use Rattle.macros.specs.Macro.Closure.{once}
 use Rattle.macros.specs.Macro.Mark.{stack, counter}
 use Rattle.macros.specs.Macro.PatternUnit.{literal, kind, class, call_of}
 use Rattle.macros.specs.Macro.Piece.{element, start, end, left, right}
@@ -19,8 +18,6 @@ use Rattle.form_element.specs.declared.Unit.{Unit as CodeUnit}
 use Rattle.form_element.specs.declared.Unit.TheVariants.{Literal, Kind, Class, ClassNot, StackCall, CounterCall, Start, End, Left, Right}
 use Rattle.form_element.specs.declared.Closure.{Closure as CodeClosure}
 use Rattle.form_element.specs.declared.Closure.TheVariants.{Once, OneOrMore, ZeroOrMore}
-use Rattle.pass_unit.specs.declared.Lead.{Lead}
-use Rattle.pass_unit.specs.declared.Lead.TheVariants.{After, Nothing}
 
 -- the members of a piece that is a class; another has none
 abbrev pub members_of : Piece → List Member
@@ -73,13 +70,13 @@ width_u st Left = 0
 width_u st Right = 0
 
 -- the place behind a copy that must stand at p, and behind the copies that a closure must have there
-unfoldable pub led_to : Bool → ℕ → Lead
-led_to fit q = pick fit (After q) Nothing
+unfoldable pub led_to : Bool → ℕ → Option ℕ
+led_to fit q = pick fit (Some q) None
 
-abbrev pub lead_of : CodeClosure → Bool → ℕ → ℕ → Lead
+abbrev pub lead_of : CodeClosure → Bool → ℕ → ℕ → Option ℕ
 lead_of Once fit w p = led_to fit (p + w)
 lead_of OneOrMore fit w p = led_to fit (p + w)
-lead_of ZeroOrMore fit w p = After p
+lead_of ZeroOrMore fit w p = Some p
 
 -- whether further copies can follow: "an empty entry counts once under `*` and no times under `*-`"
 abbrev pub again : CodeClosure → ℕ → Bool

@@ -15,21 +15,11 @@ use form_items::codes::{CLASS_END, SINGLE};
 use form_state::{entry, value};
 use kinds::is_kind;
 
-// The place behind copies that must stand.
-#[derive(Clone, Copy)]
-pub enum Lead {
-    After(usize),
-    Nothing,
-}
-
 // Whether b stands from a to z.
 fn in_range(a: u8, z: u8, b: u8) -> bool
     ensures { result ≡ within a z b }
 {
-    if a <= b {
-        return b <= z;
-    }
-    false
+    a <= b && b <= z
 }
 
 // Whether the member at a place is b, or a range with b.
@@ -38,9 +28,10 @@ fn has_byte(items: &[u8], i: usize, b: u8) -> bool
     ensures { OfFirst items.now i (λ m. result ≡ is_member (m ∷ []) b) }
 {
     if items[i] == SINGLE {
-        return b == items[i + 1];
+        b == items[i + 1]
+    } else {
+        in_range(items[i + 1], items[i + 3], b)
     }
-    in_range(items[i + 1], items[i + 3], b)
 }
 
 // The bytes of the items of the member at a place.
@@ -48,10 +39,7 @@ fn member_size(items: &[u8], i: usize) -> usize
     requires { FirstMember items.now i }
     ensures { OfFirst items.now i (λ m. result ≡ length (member_items m)) }
 {
-    if items[i] == SINGLE {
-        return 2;
-    }
-    4
+    if items[i] == SINGLE { 2 } else { 4 }
 }
 
 // Whether b is in the members whose items begin at a place.
@@ -86,8 +74,7 @@ pub fn behind(items: &[u8], at: usize, element: Element) -> usize
     requires { IsUnit items.now at element.unit }
     ensures { OfPiece items.now at (λ e. result ≡ at + length (piece_items e)) }
 {
-    let u = element.unit;
-    match u {
+    match element.unit {
         Unit::Class | Unit::ClassNot => members_end(items, at + 2),
         _ => at + 2,
     }
@@ -98,8 +85,7 @@ fn is_copy(items: &[u8], kinds: &[u8; 256], at: usize, element: Element, b: u8) 
     requires { OneByte items.now kinds.now at element.unit }
     ensures { OfPiece items.now at (λ e. result ≡ holds element.unit (members_of e) b) }
 {
-    let u = element.unit;
-    match u {
+    match element.unit {
         Unit::Literal(c) => c == b,
         Unit::Kind(n) => is_kind(kinds, b, n),
         Unit::Class => is_member(items, at + 2, b),
@@ -120,10 +106,7 @@ fn one_at(
     requires { OneByte items.now kinds.now at element.unit }
     ensures { OfPiece items.now at (λ e. result ≡ byte_fits (holds element.unit (members_of e)) (drop p line.now)) }
 {
-    if p < line.len() {
-        return is_copy(items, kinds, at, element, line[p]);
-    }
-    false
+    p < line.len() && is_copy(items, kinds, at, element, line[p])
 }
 
 // Whether a text stands in line from p on.
@@ -131,45 +114,30 @@ fn text_at(text: &[u8], line: &[u8], p: usize) -> bool
     requires { p ≤ length line.now }
     ensures { result ≡ begins text.now (drop p line.now) }
 {
-    let mut i = 0;
-    while i < text.len() {
-        if line.len() <= p + i {
-            return false;
-        }
-        if text[i] != line[p + i] {
-            return false;
-        }
-        i += 1;
-    }
-    true
+    line[p..].starts_with(text)
 }
 
-// The place behind a digit that stands at p.
-fn digit_at(n: u32, line: &[u8], p: usize) -> Lead
+// The place behind a digit that must stand at p.
+fn digit_at(n: u32, line: &[u8], p: usize) -> Option<usize>
     requires { (n < 10) × (p ≤ length line.now) }
     ensures { result ≡ led_to (begins ((48 + n) ∷ []) (drop p line.now)) (p + 1) }
 {
-    if line.len() <= p {
-        return Lead::Nothing;
+    let digit = b'0' + n as u8;
+    if p < line.len() && line[p] == digit {
+        return Some(p + 1);
     }
-    let digit = 48 + n as u8;
-    if line[p] == digit {
-        return Lead::After(p + 1);
-    }
-    Lead::Nothing
+    None
 }
 
-// The place behind the digits of n, the last one by itself.
-fn number_at(n: u32, line: &[u8], p: usize) -> Lead
+// The place behind the digits of n, which must stand at p: those before the last, and then the last.
+fn number_at(n: u32, line: &[u8], p: usize) -> Option<usize>
     requires { p ≤ length line.now }
     ensures { result ≡ led_to (begins (digits n) (drop p line.now)) (p + length (digits n)) }
 {
     if n < 10 {
         return digit_at(n, line, p);
     }
-    let Lead::After(q) = number_at(n / 10, line, p) else {
-        return Lead::Nothing;
-    };
+    let q = number_at(n / 10, line, p)?;
     digit_at(n % 10, line, q)
 }
 
@@ -178,10 +146,7 @@ fn has_number(n: u32, line: &[u8], p: usize) -> bool
     requires { p ≤ length line.now }
     ensures { result ≡ begins (digits n) (drop p line.now) }
 {
-    let Lead::After(_) = number_at(n, line, p) else {
-        return false;
-    };
-    true
+    number_at(n, line, p).is_some()
 }
 
 // How many digits n has.
@@ -191,7 +156,7 @@ fn number_width(n: u32) -> usize
     let mut w: usize = 1;
     let mut m = n;
     while 10 <= m {
-        m = m / 10;
+        m /= 10;
         w += 1;
     }
     w
@@ -210,8 +175,7 @@ pub fn copy_at(
     requires { Copying items.now kinds.now state.now line.now at element.unit p }
     ensures { OfPiece items.now at (λ e. OfState state.now (λ st. result ≡ fit_u st element.unit (members_of e) p (drop p line.now))) }
 {
-    let u = element.unit;
-    match u {
+    match element.unit {
         Unit::StackCall(i) => text_at(entry(state, i), line, p),
         Unit::CounterCall(i) => has_number(value(state, i), line, p),
         Unit::Start => p == 0,
@@ -226,8 +190,7 @@ pub fn width_of(state: &[u8], element: Element) -> usize
     requires { IsState state.now × Lettered element.unit }
     ensures { Wide state.now element.unit result }
 {
-    let u = element.unit;
-    match u {
+    match element.unit {
         Unit::StackCall(i) => entry(state, i).len(),
         Unit::CounterCall(i) => number_width(value(state, i)),
         Unit::Start | Unit::End | Unit::Left | Unit::Right => 0,
@@ -245,16 +208,15 @@ pub fn lead_at(
     element: Element,
     w: usize,
     p: usize,
-) -> Lead
+) -> Option<usize>
     requires { Leading items.now kinds.now state.now line.now at element.unit w p }
     ensures { OfPiece items.now at (λ e. OfState state.now (λ st. result ≡ lead_of element.closure (fit_u st element.unit (members_of e) p (drop p line.now)) w p)) }
 {
-    let c = element.closure;
-    if let Closure::ZeroOrMore = c {
-        return Lead::After(p);
+    if let Closure::ZeroOrMore = element.closure {
+        return Some(p);
     }
     if copy_at(items, kinds, state, line, at, element, p) {
-        return Lead::After(p + w);
+        return Some(p + w);
     }
-    Lead::Nothing
+    None
 }

@@ -1,4 +1,4 @@
-use mathlib.Core.Path.{sym, ◌∙◌}
+use mathlib.Core.Path.{◌∙◌}
 use native.Mathlib.Omega.{arith}
 use Prim.Native.Nat.{◌/◌}
 use Rattle.pass_unit.proofs.TextLaws.{number_few, number_not, number_then, number_inside}
@@ -7,14 +7,11 @@ use Rattle.pass_unit.proofs.+number_at.Goals as goal
 pub returns-then-n-lt10 : goal.returns-then-n-lt10
 returns-then-n-lt10 t c = number_few c.args.n c.args.line.now c.args.p c.if-n-lt10.true _ c.digit_at.ensures
 
-pub number_at-requires : goal.number_at-requires
-number_at-requires t c = (omega arith, c.requires)
-
-pub returns-in_default : goal.returns-in_default
-returns-in_default t c = number_not c.args.n c.args.line.now c.args.p c.if-n-lt10.false (sym c.in_default.is ∙ c.number_at.ensures)
+pub returns-in_err-q : goal.returns-in_err-q
+returns-in_err-q t c = c.from_residual.ensures ∙ number_not c.args.n c.args.line.now c.args.p c.if-n-lt10.false (c.in_err-q.ensures)
 
 pub digit_at-requires-2 : goal.digit_at-requires-2
-digit_at-requires-2 t c = (omega arith, number_inside (c.args.n / 10) c.args.line.now c.args.p _ c.requires (sym c.in-After.is ∙ c.number_at.ensures))
+digit_at-requires-2 t c = (omega arith, number_inside (c.args.n / 10) c.args.line.now c.args.p _ c.requires (c.in_ok-q.ensures))
 
 pub returns : goal.returns
-returns t c = number_then c.args.n c.args.line.now c.args.p c.if-n-lt10.false _ (sym c.in-After.is ∙ c.number_at.ensures) _ c.digit_at-2.ensures
+returns t c = number_then c.args.n c.args.line.now c.args.p c.if-n-lt10.false _ (c.in_ok-q.ensures) _ c.digit_at-2.ensures

@@ -1,6 +1,5 @@
 use Prim.Native.Nat.{ℕ}
 use mathlib.Core.Path.{◌≡◌, refl, ◌∙◌}
-use mathlib.Core.Bool.{true}
 use mathlib.Core.List.{List, [], ◌∷◌}
 use types.Run.{OneOf, miss}
 use denote.Enum.Declared.{tag_of}
@@ -27,33 +26,6 @@ by_byte End h st ms p s = absurd (miss (0 ∷ 1 ∷ 2 ∷ 3 ∷ []) 7 tt h)
 by_byte Left h st ms p s = absurd (miss (0 ∷ 1 ∷ 2 ∷ 3 ∷ []) 8 tt h)
 by_byte Right h st ms p s = absurd (miss (0 ∷ 1 ∷ 2 ∷ 3 ∷ []) 9 tt h)
 
-brace-fits : (u : CodeUnit) → OneOf (8 ∷ 9 ∷ []) (tag_of the_type u) → (st : State) (ms : List Member) (p : ℕ) (s : List ℕ) → true ≡ fit_u st u ms p s
-brace-fits (Literal c) h st ms p s = absurd (miss (8 ∷ 9 ∷ []) 0 tt h)
-brace-fits (Kind n) h st ms p s = absurd (miss (8 ∷ 9 ∷ []) 1 tt h)
-brace-fits Class h st ms p s = absurd (miss (8 ∷ 9 ∷ []) 2 tt h)
-brace-fits ClassNot h st ms p s = absurd (miss (8 ∷ 9 ∷ []) 3 tt h)
-brace-fits (StackCall i) h st ms p s = absurd (miss (8 ∷ 9 ∷ []) 4 tt h)
-brace-fits (CounterCall i) h st ms p s = absurd (miss (8 ∷ 9 ∷ []) 5 tt h)
-brace-fits Start h st ms p s = absurd (miss (8 ∷ 9 ∷ []) 6 tt h)
-brace-fits End h st ms p s = absurd (miss (8 ∷ 9 ∷ []) 7 tt h)
-brace-fits Left h st ms p s = refl
-brace-fits Right h st ms p s = refl
-
-pub entry-requires : goal.entry-requires
-entry-requires c = (c.requires.state, rw c.in-StackCall.is at c.requires.unit.letter)
-
-pub text_at-requires : goal.text_at-requires
-text_at-requires c = c.requires.place
-
-pub value-requires : goal.value-requires
-value-requires c = (c.requires.state, rw c.in-CounterCall.is at c.requires.unit.letter)
-
-pub has_number-requires : goal.has_number-requires
-has_number-requires c = c.requires.place
-
-pub one_at-requires : goal.one_at-requires
-one_at-requires c = record { unit = c.requires.unit; table = c.requires.table }
-
 pub returns-in-StackCall : goal.returns-in-StackCall
 unfolding fits contents
 returns-in-StackCall c = λ e es r st h. c.text_at.ensures ∙ rw (c.entry.ensures st h, c.in-StackCall.is)
@@ -62,14 +34,8 @@ pub returns-in-CounterCall : goal.returns-in-CounterCall
 unfolding fits contents
 returns-in-CounterCall c = λ e es r st h. c.has_number.ensures ∙ rw (c.value.ensures st h, c.in-CounterCall.is)
 
-pub returns-in-Start : goal.returns-in-Start
-returns-in-Start c = λ e es r st h. rw c.in-Start.is
-
 pub returns-in-End : goal.returns-in-End
 returns-in-End c = λ e es r st h. rw c.in-End.is (end_at _ _ c.requires.place)
-
-pub returns-in-Left : goal.returns-in-Left
-returns-in-Left c = λ e es r st h. brace-fits c.args.element.unit c.in-Left.in-Left-own.keys5 st (members_of e) _ _
 
 pub returns-in_default : goal.returns-in_default
 returns-in_default c = λ e es r st h. c.one_at.ensures e es r ∙ by_byte c.args.element.unit c.in_default.in_default-own.keys6 st (members_of e) _ _

@@ -6,9 +6,6 @@ use Rattle.pass_unit.proofs.has_byte.Goals as goal
 pub bounds-items-i : goal.bounds-items-i
 bounds-items-i c = let l = first_inside _ _ c.requires in omega arith
 
-pub overflow_add-result : goal.overflow_add-result
-overflow_add-result c = let l = first_inside _ _ c.requires in omega arith
-
 pub bounds-items-i-then-items-i-eq-SINGLE : goal.bounds-items-i-then-items-i-eq-SINGLE
 bounds-items-i-then-items-i-eq-SINGLE c = let l = first_inside _ _ c.requires in omega arith
 
@@ -18,14 +15,14 @@ returns-then-items-i-eq-SINGLE c = λ m ms r h. (at_single_lem c.args.items.now 
 pub overflow_add-i : goal.overflow_add-i
 overflow_add-i c = let l = first_inside _ _ c.requires in let k = (at_range_lem c.args.items.now c.args.i 0 c.if-items-i-eq-SINGLE.false c.requires.member c.requires.members c.requires.behind c.requires.is).1 in omega arith
 
-pub bounds-items-i-2 : goal.bounds-items-i-2
-bounds-items-i-2 c = let l = first_inside _ _ c.requires in let k = (at_range_lem c.args.items.now c.args.i 0 c.if-items-i-eq-SINGLE.false c.requires.member c.requires.members c.requires.behind c.requires.is).1 in omega arith
+pub bounds-items-i-else-items-i-eq-SINGLE : goal.bounds-items-i-else-items-i-eq-SINGLE
+bounds-items-i-else-items-i-eq-SINGLE c = let l = first_inside _ _ c.requires in let k = (at_range_lem c.args.items.now c.args.i 0 c.if-items-i-eq-SINGLE.false c.requires.member c.requires.members c.requires.behind c.requires.is).1 in omega arith
 
-pub overflow_add-i-2 : goal.overflow_add-i-2
-overflow_add-i-2 c = let l = first_inside _ _ c.requires in let k = (at_range_lem c.args.items.now c.args.i 0 c.if-items-i-eq-SINGLE.false c.requires.member c.requires.members c.requires.behind c.requires.is).1 in omega arith
+pub overflow_add-i-else-items-i-eq-SINGLE : goal.overflow_add-i-else-items-i-eq-SINGLE
+overflow_add-i-else-items-i-eq-SINGLE c = let l = first_inside _ _ c.requires in let k = (at_range_lem c.args.items.now c.args.i 0 c.if-items-i-eq-SINGLE.false c.requires.member c.requires.members c.requires.behind c.requires.is).1 in omega arith
 
-pub bounds-items-i-3 : goal.bounds-items-i-3
-bounds-items-i-3 c = let l = first_inside _ _ c.requires in let k = (at_range_lem c.args.items.now c.args.i 0 c.if-items-i-eq-SINGLE.false c.requires.member c.requires.members c.requires.behind c.requires.is).1 in omega arith
+pub bounds-items-i-else-items-i-eq-SINGLE-2 : goal.bounds-items-i-else-items-i-eq-SINGLE-2
+bounds-items-i-else-items-i-eq-SINGLE-2 c = let l = first_inside _ _ c.requires in let k = (at_range_lem c.args.items.now c.args.i 0 c.if-items-i-eq-SINGLE.false c.requires.member c.requires.members c.requires.behind c.requires.is).1 in omega arith
 
-pub returns : goal.returns
-returns c = λ m ms r h. c.in_range.ensures ∙ (at_range_lem c.args.items.now c.args.i c.args.b c.if-items-i-eq-SINGLE.false m ms r h).0
+pub returns-else-items-i-eq-SINGLE : goal.returns-else-items-i-eq-SINGLE
+returns-else-items-i-eq-SINGLE c = λ m ms r h. c.in_range.ensures ∙ (at_range_lem c.args.items.now c.args.i c.args.b c.if-items-i-eq-SINGLE.false m ms r h).0

@@ -1,9 +1,7 @@
-use mathlib.Core.Path.{sym, ◌∙◌}
-use Rattle.pass_unit.proofs.TextLaws.{led_true, led_false}
+use mathlib.Core.Path.{ap, ◌∙◌}
+use Rattle.std.specs.Option.{is_some}
+use Rattle.pass_unit.proofs.TextLaws.{lead_is}
 use Rattle.pass_unit.proofs.has_number.Goals as goal
 
-pub returns-in_default : goal.returns-in_default
-returns-in_default c = sym (led_false _ _ (sym c.in_default.is ∙ c.number_at.ensures))
-
 pub returns : goal.returns
-returns c = sym (led_true _ _ _ (sym c.in-After.is ∙ c.number_at.ensures)).0
+returns c = c.is_some.ensures ∙ ap is_some c.number_at.ensures ∙ lead_is _ _

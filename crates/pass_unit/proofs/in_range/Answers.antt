@@ -6,6 +6,6 @@ pub returns-then-a-b : goal.returns-then-a-b
 unfolding within
 returns-then-a-b c = simp (le-leb _ _ c.if-a-b.true)
 
-pub returns : goal.returns
+pub returns-else-a-b : goal.returns-else-a-b
 unfolding within
-returns c = simp (lt-leb _ _ c.if-a-b.false)
+returns-else-a-b c = simp (lt-leb _ _ c.if-a-b.false)

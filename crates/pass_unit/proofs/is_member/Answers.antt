@@ -1,10 +1,6 @@
-use mathlib.Core.Path.{refl}
 use native.Mathlib.Omega.{arith}
-use Rattle.pass_unit.proofs.ItemLaws.{walked_start, walked_inside, walked_first, step_inside, found_here, not_here, not_found}
+use Rattle.pass_unit.proofs.ItemLaws.{walked_inside, walked_first, step_inside, found_here, not_here, not_found}
 use Rattle.pass_unit.proofs.is_member.Goals as goal
-
-pub loop-i-init : goal.loop-i-init
-loop-i-init c = walked_start _ _ _ c.requires (λ ms. refl)
 
 pub bounds-items-i : goal.bounds-items-i
 bounds-items-i c = let l = walked_inside _ _ _ _ c.loop-i.invariant in omega arith

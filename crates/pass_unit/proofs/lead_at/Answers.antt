@@ -5,13 +5,13 @@ use Prim.Native.Nat.{ℕ, ◌+◌}
 use native.Mathlib.Omega.{arith}
 use types.Run.{OneOf, miss}
 use denote.Enum.Declared.{tag_of}
+use Rattle.std.specs.Prelude.{Some, None}
 use Rattle.macros.specs.Macro.{pick}
 use Rattle.pass_unit.specs.Pieces.{led_to, lead_of}
 use Rattle.pass_unit.proofs.CopyFits.{copy_inside}
 use Rattle.form_element.specs.contracts.Closure.{the_type}
 use Rattle.form_element.specs.declared.Closure.{Closure as CodeClosure}
 use Rattle.form_element.specs.declared.Closure.TheVariants.{Once, OneOrMore, ZeroOrMore}
-use Rattle.pass_unit.specs.declared.Lead.TheVariants.{After, Nothing}
 use borrow.Enum.Refused.{opened}
 use Rattle.pass_unit.proofs.lead_at.Goals as goal
 
@@ -20,19 +20,13 @@ lead-needed Once h f w p = refl
 lead-needed OneOrMore h f w p = refl
 lead-needed ZeroOrMore h f w p = absurd (miss (0 ∷ 1 ∷ []) 2 tt h)
 
-led-yes : (f : Bool) (q : ℕ) → f ≡ true → After q ≡ led_to f q
+led-yes : (f : Bool) (q : ℕ) → f ≡ true → Some q ≡ led_to f q
 unfolding led_to pick
 led-yes f q e = rw e
 
-led-no : (f : Bool) (q : ℕ) → f ≡ false → Nothing ≡ led_to f q
+led-no : (f : Bool) (q : ℕ) → f ≡ false → None ≡ led_to f q
 unfolding led_to pick
 led-no f q e = rw e
-
-pub returns-in-ZeroOrMore : goal.returns-in-ZeroOrMore
-returns-in-ZeroOrMore c = λ e es r st h. rw c.in-ZeroOrMore.is
-
-pub copy_at-requires : goal.copy_at-requires
-copy_at-requires c = c.requires.copying
 
 pub overflow_add-result : goal.overflow_add-result
 overflow_add-result c = let l = copy_inside c.args.items.now c.args.state.now c.args.line.now c.args.at c.args.element.unit c.args.w c.args.p _ c.requires.copying.unit.stands c.requires.copying.state c.requires.copying.place c.requires.wide c.copy_at.ensures c.if-copy_at.true in omega arith

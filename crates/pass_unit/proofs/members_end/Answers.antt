@@ -1,10 +1,6 @@
-use mathlib.Core.Path.{refl}
 use native.Mathlib.Omega.{arith}
-use Rattle.pass_unit.proofs.ItemLaws.{walked_start, walked_inside, walked_first, step_inside, members_on, members_ended}
+use Rattle.pass_unit.proofs.ItemLaws.{walked_inside, walked_first, step_inside, members_on, members_ended}
 use Rattle.pass_unit.proofs.members_end.Goals as goal
-
-pub loop-i-init : goal.loop-i-init
-loop-i-init c = walked_start _ _ _ c.requires (λ ms. refl)
 
 pub bounds-items-i : goal.bounds-items-i
 bounds-items-i c = let l = walked_inside _ _ _ _ c.loop-i.invariant in omega arith
@@ -20,9 +16,6 @@ loop-i-smaller c = let l = step_inside _ _ _ _ c.loop-i.invariant c.loop-i-test.
 
 pub loop-i-preserved : goal.loop-i-preserved
 loop-i-preserved c = members_on _ _ _ c.loop-i.invariant c.loop-i-test.true _ c.member_size-i.ensures
-
-pub overflow_add-result : goal.overflow_add-result
-overflow_add-result c = let l = walked_inside _ _ _ _ c.loop-i.invariant in omega arith
 
 pub returns : goal.returns
 returns c = members_ended _ _ _ c.loop-i.invariant c.loop-i-test.false
