@@ -1,53 +1,90 @@
 // Lists the faults of a macro file (02, N11). What each answer says of the definitions stands in specs/.
 #![tactic(auto)]
 
-ghost use Rattle.std.specs.Prelude.{◌≡◌, ◌≤◌, ◌<◌, length};
+ghost use Rattle.std.specs.Prelude.{◌≡◌, ◌==◌, ◌≤◌, ◌<◌, length, position};
 ghost use Rattle.macros.specs.Bounds.{most_file_bytes};
-ghost use Rattle.macros.specs.Macro.{within};
 ghost use Rattle.faults.specs.Refusal.{most_faults};
+ghost use Rattle.faults.specs.Recover.{is_fault};
 ghost use Rattle.form_faults.specs.Form.{faults_bytes};
-ghost use Rattle.read_fault.specs.Noting.{behind_or_zero, resumes_at, Lists, Notes};
+ghost use Rattle.read_scan.specs.Scan.{fault_of};
+ghost use Rattle.read_fault.specs.Noting.{behind_or_none, past_number, past_error, Lists, Notes};
 
 use form_bytes::put_number;
+use read_scan::{FileFault, ReadError};
 
-// The faults that are listed, and the number of one more.
+// The faults that are listed.
 const MOST_FAULTS: usize = 256;
-
-const TOO_MANY_FAULTS: u32 = 61;
 
 // The bytes of a number, and of a fault: its number and its place.
 const NUMBER_BYTES: usize = 4;
 
 const FAULT_BYTES: usize = 8;
 
-// Reading goes on at a place, behind so many macros and so many faults; it ends with so many macros; or a refusal's number and place.
-#[derive(Clone, Copy)]
-pub enum Moment {
-    On(usize, usize, usize),
-    Ended(usize),
-    Refused(u32, usize),
+// What refuses a file that is read past its faults: what refuses it as before, or one fault too many.
+#[derive(Clone, Copy, Debug, PartialEq, Eq)]
+pub enum PastFault {
+    InFile(FileFault),
+    TooManyFaults,
 }
 
-// The place behind the first `;` at or after q, wherever it stands; 0 if there is none.
-fn behind(s: &[u8], q: usize) -> usize
-    requires { q ≤ length s.now }
-    ensures { result ≡ behind_or_zero s.now q }
-{
-    let mut i = q;
-    while i < s.len() {
-        if s[i] == b';' {
-            return i + 1;
+impl From<PastFault> for u32 {
+    ghost from_gives = { λ f n. n ≡ past_number f };
+
+    fn from(f: PastFault) -> u32 {
+        match f {
+            PastFault::InFile(f) => u32::from(f),
+            PastFault::TooManyFaults => 61,
         }
-        i = i + 1;
     }
-    0
 }
 
-// Whether a refusal's number is that of a fault.
-fn is_fault(number: u32) -> bool
-    ensures { result ≡ within 12 18 number }
+// Such a refusal with its place.
+#[derive(Clone, Copy, Debug, PartialEq, Eq)]
+pub struct PastError {
+    pub fault: PastFault,
+    pub place: usize,
+}
+
+impl From<ReadError> for PastError {
+    ghost from_gives = { λ e p. p ≡ past_error e };
+
+    fn from(e: ReadError) -> PastError {
+        PastError {
+            fault: PastFault::InFile(e.fault),
+            place: e.place,
+        }
+    }
+}
+
+// How far reading is: at a place, behind so many macros kept and so many faults listed.
+#[derive(Clone, Copy, Debug, PartialEq, Eq)]
+pub struct Progress {
+    pub at: usize,
+    pub macros: usize,
+    pub faults: usize,
+}
+
+// The bytes before the first `;`.
+fn before_semicolon(s: &[u8]) -> Option<usize>
+    ensures { result ≡ position (λ b. b == 59) s.now }
 {
-    (12 <= number) & (number <= 18)
+    s.iter().position(|b| *b == b';')
+}
+
+// The place behind the first `;` at or after q, wherever it stands.
+fn behind(s: &[u8], q: usize) -> Option<usize>
+    requires { q ≤ length s.now }
+    ensures { result ≡ behind_or_none s.now q }
+{
+    let k = before_semicolon(&s[q..])?;
+    Some(q + k + 1)
+}
+
+// Whether a refusal is a fault.
+fn is_fault(f: FileFault) -> bool
+    ensures { result ≡ is_fault (fault_of f) }
+{
+    (12..=18).contains(&u32::from(f))
 }
 
 // Lists a fault behind k others: their count, and its number and place.
@@ -61,28 +98,30 @@ fn put_fault(faults: &mut [u8], k: usize, number: u32, q: usize)
     put_number(faults, 0, (k + 1) as u32);
 }
 
-// Where reading goes on, if anywhere.
-fn resume(next: usize, n: usize, k: usize) -> Moment
-    ensures { result ≡ resumes_at next n k }
+// A refusal: a fault is listed, unless it is one too many, and reading goes on if a `;` follows.
+pub fn note(
+    s: &[u8],
+    faults: &mut [u8],
+    error: ReadError,
+    so_far: Progress,
+) -> Result<Option<Progress>, PastError>
+    requires { (length faults.old ≡ faults_bytes) × (error.place ≤ length s.now) × (length s.now ≤ most_file_bytes) }
+    ensures { Notes s.now faults.old faults.new error so_far.macros so_far.faults result }
 {
-    if next < 1 {
-        return Moment::Ended(n);
+    if !is_fault(error.fault) {
+        return Err(PastError::from(error));
     }
-    Moment::On(next, n, k)
-}
-
-// A refusal at q, behind n macros kept and k faults listed: a fault is listed, unless it is one too many, and reading goes on.
-pub fn note(s: &[u8], faults: &mut [u8], number: u32, q: usize, n: usize, k: usize) -> Moment
-    requires { (length faults.old ≡ faults_bytes) × (q ≤ length s.now) × (length s.now ≤ most_file_bytes) }
-    ensures { Notes s.now faults.old faults.new number q n k result }
-{
-    if !is_fault(number) {
-        return Moment::Refused(number, q);
+    if MOST_FAULTS <= so_far.faults {
+        return Err(PastError {
+            fault: PastFault::TooManyFaults,
+            place: 0,
+        });
     }
-    if MOST_FAULTS <= k {
-        return Moment::Refused(TOO_MANY_FAULTS, 0);
-    }
-    put_fault(faults, k, number, q);
-    let next = behind(s, q);
-    resume(next, n, k + 1)
+    put_fault(faults, so_far.faults, u32::from(error.fault), error.place);
+    let next = behind(s, error.place);
+    Ok(next.map(|at| Progress {
+        at,
+        macros: so_far.macros,
+        faults: so_far.faults + 1,
+    }))
 }

@@ -1,22 +1,15 @@
-use mathlib.Core.Path.{◌∙◌, refl, sym}
-use native.Mathlib.Omega.{arith}
+use Rattle.std.proofs.Common.{sym, refl, rules, ◌≡◌, ◌+◌}
+use Rattle.read_fault.specs.Noting.{resumes_at}
 use Rattle.read_fault.specs.Noting.Notes.{listed, one_too_many, unlisted}
 use Rattle.read_fault.proofs.note.Goals as goal
 
 pub returns-then-not-is_fault : goal.returns-then-not-is_fault
-returns-then-not-is_fault c = unlisted (sym c.is_fault.ensures ∙ c.if-not-is_fault.true) refl
+returns-then-not-is_fault c = rw c.from.ensures (unlisted (sym c.if-not-is_fault.ensures) refl)
 
-pub returns-then-k-ge-MOST_FAULTS : goal.returns-then-k-ge-MOST_FAULTS
-returns-then-k-ge-MOST_FAULTS c = one_too_many (sym c.is_fault.ensures ∙ c.if-not-is_fault.false) c.if-k-ge-MOST_FAULTS.true refl
-
-pub put_fault-requires : goal.put_fault-requires
-put_fault-requires c = (c.requires.0, c.if-k-ge-MOST_FAULTS.false, omega (arith, c.requires.1, c.requires.2))
-
-pub behind-next-requires : goal.behind-next-requires
-behind-next-requires c = c.requires.1
-
-pub overflow_add-k : goal.overflow_add-k
-overflow_add-k c = omega (arith, c.if-k-ge-MOST_FAULTS.false)
+pub returns-then-so_far-ge-MOST_FAULTS : goal.returns-then-so_far-ge-MOST_FAULTS
+returns-then-so_far-ge-MOST_FAULTS c = one_too_many (sym c.if-not-is_fault.ensures) c.if-so_far-ge-MOST_FAULTS.true refl
 
 pub returns : goal.returns
-returns c = rw (c.resume.ensures, c.behind-next.ensures) (listed (sym c.is_fault.ensures ∙ c.if-not-is_fault.false) c.if-k-ge-MOST_FAULTS.false c.put_fault.ensures)
+returns c =
+    let e : c.map.result ≡ resumes_at c.behind-next.result c.args.so_far.macros (c.args.so_far.faults + 1) = search rules in
+    rw (e, c.behind-next.ensures) (listed (sym c.if-not-is_fault.ensures) c.if-so_far-ge-MOST_FAULTS.false (rw c.from-2.ensures at c.put_fault.ensures))
