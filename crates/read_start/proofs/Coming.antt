@@ -1,18 +1,17 @@
 -- The laws of specs/NextLaw, proved; and the next macro by the macro's own machine.
 -- Assumes nothing.
 use mathlib.Core.Path.{◌≡◌, refl, ap, sym, ◌∙◌}
-use mathlib.Core.Bool.{Bool, true, false, not, ◌&&◌}
+use mathlib.Core.Bool.{Bool, true, false, not}
 use mathlib.Core.List.{List, [], ◌∷◌}
-use Prim.Native.Nat.{ℕ, suc, ◌+◌, ◌-◌, ◌≤◌, ◌<◌}
+use Prim.Native.Nat.{ℕ, suc, ◌+◌, ◌-◌, ◌≤◌}
 use native.Mathlib.Omega.{arith}
 use native.Mathlib.Numerals.{add-one}
-use lib.Dec.{eqb, ltb}
 use lib.ListN.{length, drop, length-drop}
 use lib.Seq.{drop-drop}
 use Rattle.macros.specs.Refusals.{FileRefusal}
-use Rattle.macros.specs.Refusals.FileRefusal.{incomplete, macro_too_long}
-use Rattle.macros.specs.Macro.{Mark, Macro, pick}
-use Rattle.macros.specs.Read.{Part, Step, Pending, Prior, Reader, Next, step, further, outside, outside_fresh, first_call, no_calls, read_from, at_end, count, taken, skips, part_byte, macro_of}
+use Rattle.macros.specs.Refusals.FileRefusal.{macro_too_long}
+use Rattle.macros.specs.Macro.{Macro, pick}
+use Rattle.macros.specs.Read.{Part, Step, Pending, Prior, Reader, Next, step, further, outside, outside_fresh, first_call, no_calls, read_from, at_end, count, taken, part_byte, macro_of}
 use Rattle.macros.specs.Read.{step_by, read_from_by}
 use Rattle.macros.specs.ReadSoFar.Joinable.{nothing}
 use Rattle.macros.specs.ReadSoFar.Part.{calls, pattern, pattern_escape, opened, members, members_escape, pattern_call, pattern_called, await_symbol, await_quote, replacement, replacement_escape, tag_number, calling, call_text, call_text_escape, commands}

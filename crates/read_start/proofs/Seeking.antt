@@ -3,7 +3,10 @@
 use mathlib.Core.Path.{◌≡◌, refl, ap, sym, ◌∙◌}
 use mathlib.Core.Bool.{Bool, true, false, not, ◌&&◌, ◌||◌, and-false, true≢false}
 use mathlib.Core.List.{List, [], ◌∷◌}
-use mathlib.Core.Option.{some}
+use mathlib.Core.Option.{Option as OptionOf, none, some}
+use Rattle.std.specs.Prelude.{Option, Some, None, Ok, Err, cond}
+use Rattle.std.specs.List.{position, position_from}
+use Rattle.std.proofs.lemmas.Iterator.Adapters.{position_from-zero}
 use Prim.Native.Nat.{ℕ, suc, ◌+◌, ◌-◌, ◌≤◌, ◌<◌}
 use native.Mathlib.Omega.{arith}
 use native.Mathlib.Numerals.{add-one}
@@ -21,12 +24,12 @@ use Rattle.macros.specs.ReadSoFar.Phase.{begun}
 use Rattle.macros.specs.ReadSoFar.Part.{pattern, calling}
 use Rattle.macros.specs.ReadFile.Pending.{clear, at_mark}
 use Rattle.macros.specs.ReadFile.Reader.{between, inside}
-use Rattle.macros.specs.ReadFile.Next.{go, refuse, refuse_before}
+use Rattle.macros.specs.ReadFile.Next.{go, refuse}
 use Rattle.form_table.proofs.Basics.{and_left, and_right}
 use Rattle.read_call.specs.Call.{mark_of}
 use Rattle.read_start.specs.Next.{ends_at, next_by, next_from}
-use Rattle.read_start.specs.Start.{first_part, started, comes, started_behind, over, opens, is_mark, opens_call, turned, pending_of, Seeks, ZeroAt}
-use Rattle.read_start.specs.declared.Seek.TheVariants.{Start, Done, Skipping}
+use Rattle.read_start.specs.Start.{first_part, started, comes, started_behind, over, opens, is_mark, opens_call, turned, pending_of, Seeks}
+use Rattle.read_scan.specs.declared.FileFault.TheVariants.{Incomplete}
 use Rattle.read_scan.proofs.Laws.{run_now}
 use Rattle.read_start.proofs.Coming.{next_go, next_refuse, next_before, next_after}
 
@@ -200,7 +203,7 @@ module _ {s : List ℕ} {p at : ℕ} {k : Bool} {l a : ℕ} (g : Sought s p at k
         onto = λ ms. g.onto ms ∙ c ms;
       })
 
-  pub seek_quote : opens (get_or s at 0) k ≡ true → Seeks s p (Start at (at + 1))
+  pub seek_quote : opens (get_or s at 0) k ≡ true → Seeks s p (Ok (Some (at, at + 1)))
   seek_quote e = (omega (arith, g.begun, g.behind), omega arith, omega arith, λ ms. g.onto ms ∙ rw skip (quote_begins s at ms (pending_of l (at - a)) h byte (opening l (at - a) ms)))
     where
       skip : k ≡ false
@@ -209,7 +212,7 @@ module _ {s : List ℕ} {p at : ℕ} {k : Bool} {l a : ℕ} (g : Sought s p at k
       byte : get_or s at 0 ≡ 39
       byte = eqb-true (get_or s at 0) 39 (and_right (not k) (eqb (get_or s at 0) 39) e)
 
-  pub seek_call : opens_call (get_or s at 0) k l ≡ true → Seeks s p (Start a (at + 1))
+  pub seek_call : opens_call (get_or s at 0) k l ≡ true → Seeks s p (Ok (Some (a, at + 1)))
   seek_call e = (g.begun, omega arith, omega arith, λ ms. g.onto ms ∙ rw (skip, pending) (call_begins s a ms at (mark_of (eqb l 35)) its.0 h byte part))
     where
       skip : k ≡ false
@@ -234,36 +237,36 @@ module _ {s : List ℕ} {p at : ℕ} {k : Bool} {l a : ℕ} (g : Sought s p at k
       part = rw its.1 (mark_part l mark)
 
 module _ {s : List ℕ} {p at : ℕ} {k : Bool} {l a : ℕ} (g : Sought s p at k l a) (h : length s ≤ at) where
-  pub seek_done : k ≡ false → Seeks s p Done
+  pub seek_done : k ≡ false → Seeks s p (Ok None)
   unfolding next_by ends_at pick
   seek_done e ms = g.onto ms ∙ rw (e, drop_of_length-le s {i = at} h) refl
 
-  pub seek_skipping : k ≡ true → Seeks s p Skipping
+  pub seek_skipping : k ≡ true → Seeks s p (Err (record { fault = Incomplete; place = length s }))
   unfolding next_by ends_at pick
-  seek_skipping e ms = let i : at ≡ length s = omega (arith, g.there) in g.onto ms ∙ rw (e, drop_of_length-le s {i = at} h, i) refl
+  seek_skipping e = (refl, refl, λ ms. let i : at ≡ length s = omega (arith, g.there) in g.onto ms ∙ rw (e, drop_of_length-le s {i = at} h, i) refl)
 
 -- THE FIRST BYTE 0
 
-zero_step : (p b : ℕ) (bs : List ℕ) → (b ≡ 0 → ⊥) → first_zero p (b ∷ bs) ≡ first_zero (suc p) bs
-unfolding first_zero pick
-zero_step p b bs e = simp (ne_eqb _ _ e)
+-- the place that the search gives, as the machine's
+abbrev as_place : Option ℕ → OptionOf ℕ
+as_place None = none
+as_place (Some z) = some z
 
-zero_here : (p b : ℕ) (bs : List ℕ) → b ≡ 0 → first_zero p (b ∷ bs) ≡ some p
-unfolding first_zero pick
-zero_here p b bs e = simp e
+zero_pick : (y : Bool) (i : ℕ) (r : Option ℕ) → as_place (cond y (Some i) r) ≡ pick y (some i) (as_place r)
+unfolding pick
+zero_pick true i r = refl
+zero_pick false i r = refl
 
-module _ (s : List ℕ) (i : ℕ) (g : first_zero 0 s ≡ first_zero i (drop i s)) where
-  pub zero_on : i < length s → (get_or s i 0 ≡ 0 → ⊥) → first_zero 0 s ≡ first_zero (i + 1) (drop (i + 1) s)
-  zero_on h e =
-      let x : first_zero i (drop i s) ≡ first_zero (suc i) (drop (suc i) s) = rw (drop-cons s i 0 h) (zero_step i (get_or s i 0) (drop (suc i) s) e) in
-      g ∙ rw add-one x
+zero_from : (i : ℕ) (s : List ℕ) → first_zero i s ≡ as_place (position_from (λ b. eqb b 0) i s)
+unfolding first_zero
+zero_from i [] = refl
+zero_from i (b ∷ bs) = rw (zero_from (suc i) bs, zero_pick (eqb b 0) i (position_from (λ x. eqb x 0) (i + 1) bs), add-one) refl
 
-  pub zero_at : i < length s → get_or s i 0 ≡ 0 → ZeroAt s i
-  zero_at h e =
-      let x : first_zero i (drop i s) ≡ some i = rw (drop-cons s i 0 h) (zero_here i (get_or s i 0) (drop (suc i) s) e) in
-      record { within = omega arith; found = λ l. g ∙ x; missing = λ l. absurd (omega arith) }
+zero_place : (s : List ℕ) {r : Option ℕ} → r ≡ position (λ b. eqb b 0) s → first_zero 0 s ≡ as_place r
+zero_place s e = rw e (zero_from 0 s ∙ ap as_place (sym (position_from-zero (λ b. eqb b 0) s)))
 
-  pub zero_none : length s ≤ i → i ≤ length s → ZeroAt s i
-  unfolding first_zero
-  zero_none h l =
-      record { within = l; found = λ j. absurd (omega arith); missing = λ j. g ∙ rw (drop_of_length-le s {i = i} h) refl }
+pub zero_at : (s : List ℕ) {r : Option ℕ} {z : ℕ} → r ≡ position (λ b. eqb b 0) s → r ≡ Some z → first_zero 0 s ≡ some z
+zero_at s e f = zero_place s e ∙ ap as_place f
+
+pub zero_none : (s : List ℕ) {r : Option ℕ} → r ≡ position (λ b. eqb b 0) s → r ≡ None → first_zero 0 s ≡ none
+zero_none s e f = zero_place s e ∙ ap as_place f

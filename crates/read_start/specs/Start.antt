@@ -1,5 +1,6 @@
 -- What refuses a file as a whole, and where its macros begin: what looking for them says of the machine.
 use Rattle.std.specs.Prelude.{ℕ, ◌+◌, ◌-◌, ◌≤◌, ◌<◌, ◌≡◌, Bool, false, not, ◌&&◌, ◌||◌, List, [], eqb, ltb, length, get_or}
+use Rattle.std.specs.Prelude.{Option, Some, None, Result, Ok, Err}
 use Rattle.std.proofs.Math.Option.{none, some}
 use Rattle.macros.specs.Bounds.{most_file_bytes, most_macros, most_macro_bytes}
 use Rattle.macros.specs.Refusals.FileRefusal.{incomplete, macro_too_long, too_many_macros}
@@ -14,27 +15,18 @@ use Rattle.macros.specs.ReadFile.Pending.{clear, at_mark}
 use Rattle.read_scan.specs.Scan.{MacroRead, run}
 use Rattle.read_scan.specs.Scan.MacroRead.{refused_at as none_at, pattern_to, macro_to}
 use Rattle.read_call.specs.Call.{mark_of}
-use Rattle.read_scan.specs.declared.FileFault.TheVariants.{FileTooLong, ZeroByte}
+use Rattle.read_scan.specs.declared.FileFault.TheVariants.{FileTooLong, ZeroByte, Incomplete}
+use Rattle.read_scan.specs.declared.ReadError.{ReadError}
 use Rattle.read_start.specs.Next.{Coming, next_from}
 use Rattle.read_start.specs.Next.Coming.{macro_to as next_to, refused_at as next_refused_at, no_more}
-use Rattle.read_start.specs.declared.Seek.{Seek}
-use Rattle.read_start.specs.declared.Seek.TheVariants.{Start, Done, Skipping}
-use Rattle.read_start.specs.declared.FileTest.{FileTest}
-use Rattle.read_start.specs.declared.FileTest.TheVariants.{Plain, Refused as NotPlain}
 
 -- A WHOLE FILE
 
--- the place of the first byte 0, or the size
-pub record ZeroAt (s : List ℕ) (z : ℕ) : Type 0 where
-  pub within : z ≤ length s
-  pub found : z < length s → first_zero 0 s ≡ some z
-  pub missing : length s ≤ z → first_zero 0 s ≡ none
-
 -- what refuses a file before its macros are read: "10 .., then 11 .., over the whole file first"
-pub data WholeFile (s : List ℕ) : FileTest → Type 0 where
-  plain : length s ≤ most_file_bytes → first_zero 0 s ≡ none → WholeFile s Plain
-  long : most_file_bytes < length s → WholeFile s (NotPlain FileTooLong most_file_bytes)
-  zeroed : (q : ℕ) → length s ≤ most_file_bytes → first_zero 0 s ≡ some q → WholeFile s (NotPlain ZeroByte q)
+pub data WholeFile (s : List ℕ) : Result (Unit {0}) ReadError → Type 0 where
+  plain : length s ≤ most_file_bytes → first_zero 0 s ≡ none → WholeFile s (Ok tt)
+  long : most_file_bytes < length s → WholeFile s (Err (record { fault = FileTooLong; place = most_file_bytes }))
+  zeroed : (q : ℕ) → length s ≤ most_file_bytes → first_zero 0 s ≡ some q → WholeFile s (Err (record { fault = ZeroByte; place = q }))
 
 -- WHERE A MACRO BEGINS
 
@@ -84,8 +76,9 @@ comes (macro_to q m) = next_to q m
 unfoldable pub started_behind : List ℕ → (a p : ℕ) → List Macro → Coming
 started_behind s a p ms = pick (ltb (length ms) most_macros) (comes (started s a p (no_calls ms))) (next_refused_at too_many_macros a)
 
--- what looking for the next macro from p on says: it begins at a, and reading it goes on at v
-abbrev pub Seeks : List ℕ → ℕ → Seek → Type 0
-Seeks s p (Start a v) = (p ≤ a) × (a < v) × (v ≤ length s) × ((ms : List Macro) → next_from s p ms ≡ started_behind s a v ms)
-Seeks s p Done = (ms : List Macro) → next_from s p ms ≡ no_more
-Seeks s p Skipping = (ms : List Macro) → next_from s p ms ≡ next_refused_at incomplete (length s)
+-- what looking for the next macro from p on says: it begins at a, and reading it goes on at v; or the file ends, in a skip or not
+abbrev pub Seeks : List ℕ → ℕ → Result (Option (ℕ × ℕ)) ReadError → Type 0
+Seeks s p (Ok (Some (a, v))) = (p ≤ a) × (a < v) × (v ≤ length s) × ((ms : List Macro) → next_from s p ms ≡ started_behind s a v ms)
+Seeks s p (Ok None) = (ms : List Macro) → next_from s p ms ≡ no_more
+Seeks s p (Err e) =
+    (e.fault ≡ Incomplete) × (e.place ≡ length s) × ((ms : List Macro) → next_from s p ms ≡ next_refused_at incomplete (length s))
