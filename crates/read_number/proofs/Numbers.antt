@@ -15,15 +15,15 @@ use Rattle.macros.specs.Read.{part_byte_by}
 use Rattle.macros.specs.ReadSoFar.Step.{on}
 use Rattle.macros.specs.ReadSoFar.Part.{tag_number, calling}
 use Rattle.macros.specs.ReadSoFar.Phase.{equals, increment, divisor, begun, tagged}
-use Rattle.read_scan.specs.Bytes.{Placed, with?, seen, next_byte, spaceless}
+use Rattle.std.specs.Prelude.{Result, Ok, Err, Some, None, IfSome, is_some, unwrap_or}
+use Rattle.std.specs.Prelude.{Option as Maybe}
+use Rattle.read_scan.specs.Bytes.{Next, refused, Placed, with?, seen, next_byte, spaceless}
 use Rattle.read_scan.specs.Bytes.Placed.{byte_at}
 use Rattle.read_scan.specs.Scan.{MacroRead, noted, run, Passes}
-use Rattle.read_number.specs.Number.{Eats, most, number_fault, counting, leading, behind, value_from, any?, numbered, number_from, Kept, Digits, Behind, Counts}
+use Rattle.read_number.specs.Number.{Eats, most, number_fault, counting, leading, behind, value_from, any?, if_digit, numbered, number_from, Kept, Digits, Behind, Counts}
 use Rattle.read_scan.specs.declared.FileFault.{FileFault}
-use Rattle.read_scan.specs.declared.Next.{Next}
-use Rattle.read_scan.specs.declared.Next.TheVariants.{Byte, Refused as NoByte}
+use Rattle.read_scan.specs.declared.ReadError.{ReadError}
 use Rattle.read_number.specs.declared.Number.{Number}
-use Rattle.read_number.specs.declared.Number.TheVariants.{Got, Refused as NoNumber}
 use Rattle.read_scan.proofs.Bytes.{seen_byte, seen_none}
 use Rattle.read_scan.proofs.Laws.{here_on}
 
@@ -45,10 +45,10 @@ most_next v d = by (ltb v 1000000000) refl
         let h : 1000000000 ≤ v = ltb-false v 1000000000 e in
         rw (most_high v h) (most_high (1000000000 * 10 + d) (omega arith) ∙ sym (most_high (v * 10 + d) (omega arith)))
 
-kept_next : (o : Option ℕ) (n b : ℕ) (m : Bool) → Kept o n m → Kept (some (and_digit o b)) (most (n * 10 + (b - 48))) true
+kept_next : (o : Option ℕ) (x : Maybe ℕ) (b : ℕ) → Kept o x → Kept (some (and_digit o b)) (Some (most (unwrap_or x 0 * 10 + (b - 48))))
 unfolding and_digit
-kept_next none n b m k = (ap most (omega (arith, k.0)), refl)
-kept_next (some v) n b m k = (rw k.0 (most_next v (b - 48)), refl)
+kept_next none x b k = rw k refl
+kept_next (some v) x b k = rw k (ap Some (most_next v (b - 48)))
 
 and_left : (x y : Bool) → (x && y) ≡ true → x ≡ true
 and_left true y e = refl
@@ -125,18 +125,18 @@ unfolding counting spaceless with? pick
 counting_space sp b q xs e f = rw (e, f) refl
 
 -- the digits from p up to v: what the machine does, and what they leave to be counted
-pub record Sofar (s : List ℕ) (a p : ℕ) (sp : Bool) (v n : ℕ) (m : Bool) : Type 0 where
-  pub machine : Digits s a p sp v n m
+pub record Sofar (s : List ℕ) (a p : ℕ) (sp : Bool) (v : ℕ) (x : Maybe ℕ) : Type 0 where
+  pub machine : Digits s a p sp v x
   pub value : ℕ
-  pub kept : n ≡ most value
+  pub kept : unwrap_or x 0 ≡ most value
   pub folded : value_from 0 (leading (counting sp (seen s a p))) ≡ value_from value (leading (counting sp (seen s a v)))
-  pub told : any? (leading (counting sp (seen s a p))) ≡ (m || any? (leading (counting sp (seen s a v))))
+  pub told : any? (leading (counting sp (seen s a p))) ≡ (is_some x || any? (leading (counting sp (seen s a v))))
   pub rest : behind (counting sp (seen s a p)) ≡ behind (counting sp (seen s a v))
 
-pub digits_none : (s : List ℕ) (a p : ℕ) (sp : Bool) → Sofar s a p sp p 0 false
+pub digits_none : (s : List ℕ) (a p : ℕ) (sp : Bool) → Sofar s a p sp p None
 digits_none s a p sp =
     record {
-      machine = record { value = none; kept = (refl, refl); answer = λ F x pr. refl };
+      machine = record { value = none; kept = refl; answer = λ F x pr. refl };
       value = 0;
       kept = sym (most_low 0 (omega arith));
       folded = refl;
@@ -144,26 +144,33 @@ digits_none s a p sp =
       rest = refl;
     }
 
+low : {B : ℕ} (x : Maybe ℕ) → IfSome x (λ n. n ≤ B) → unwrap_or x 0 ≤ B
+low None h = omega arith
+low (Some n) h = h
+
+if_digit_same : (x : Maybe ℕ) → if_digit (is_some x) (unwrap_or x 0) ≡ x
+if_digit_same None = refl
+if_digit_same (Some n) = refl
+
 -- the digits up to v, and the next byte from there on
-module _ {s : List ℕ} {a p : ℕ} {sp : Bool} {v n : ℕ} {m : Bool} (g : Sofar s a p sp v n m) (l : p ≤ v) {r : Next} (z : Passes s a v r) where
-  number_none : {f : FileFault} {q : ℕ} → NoByte f q ≡ next_byte s a v → NoNumber f q ≡ number_from s a p sp
+module _ {s : List ℕ} {a p : ℕ} {sp : Bool} {v : ℕ} {x : Maybe ℕ} (g : Sofar s a p sp v x) (l : p ≤ v) {r : Next} (z : Passes s a v r) where
+  number_none : {f : FileFault} {q : ℕ} → refused f q ≡ next_byte s a v → Err (record { fault = f; place = q }) ≡ number_from s a p sp
   unfolding number_from numbered behind
   number_none {f} {q} e =
       let h = seen_none s a v f q e in
       rw (g.rest, h.0, counting_none sp) (ap number_fault h.1)
 
-  pub counts_fault : {f : FileFault} {q : ℕ} {o : Number} → r ≡ NoByte f q → o ≡ number_fault r → Counts s a p sp o
-  counts_fault {f} {q} e i =
-      let h : Passes s a v (NoByte f q) = rw e at z in
-      rw (i ∙ ap number_fault e)
-      (h.found, λ F x pr. g.machine.answer F x pr ∙ h.answer _ pr (x.skipping g.machine.value), number_none h.exact)
+  pub counts_fault : {f : FileFault} {q : ℕ} → r ≡ refused f q → Counts s a p sp (Err (record { fault = f; place = q }))
+  counts_fault {f} {q} e =
+      let h : Passes s a v (refused f q) = rw e at z in
+      (h.found, λ F y pr. g.machine.answer F y pr ∙ h.answer _ pr (y.skipping g.machine.value), number_none h.exact)
 
-  module _ {b q : ℕ} (e : r ≡ Byte b q) where
-    pub byte_found : Passes s a v (Byte b q)
+  module _ {b q : ℕ} (e : r ≡ Ok (b, q)) where
+    pub byte_found : Passes s a v (Ok (b, q))
     byte_found = rw e at z
 
     there : (F : Option ℕ → Part) → Eats sp F → (pr : Prior) → run s a pr false p (F none) ≡ run s a pr false q (F g.machine.value)
-    there F x pr = g.machine.answer F x pr ∙ byte_found.answer _ pr (x.skipping g.machine.value)
+    there F y pr = g.machine.answer F y pr ∙ byte_found.answer _ pr (y.skipping g.machine.value)
 
     -- the bytes that are left to be counted
     at_byte_lem : (sp ≡ true → b ≡ 32 → ⊥) → counting sp (seen s a v) ≡ byte_at b q ∷ counting sp (seen s a (q + 1))
@@ -172,16 +179,16 @@ module _ {s : List ℕ} {a p : ℕ} {sp : Bool} {v n : ℕ} {m : Bool} (g : Sofa
     at_space : sp ≡ true → b ≡ 32 → counting sp (seen s a v) ≡ counting sp (seen s a (q + 1))
     at_space h f = ap (counting sp) (seen_byte s a v b q byte_found.exact) ∙ counting_space sp b q _ h f
 
-    number_end_lem : Behind sp b → Got n m b q ≡ number_from s a p sp
+    number_end_lem : Behind sp b → Ok (record { value = x; behind = b; place = q }) ≡ number_from s a p sp
     unfolding number_from numbered behind leading value_from any? pick
     number_end_lem i =
         let c = at_byte_lem i.1 in
-        let x : behind (counting sp (seen s a p)) ≡ byte_at b q ∷ counting sp (seen s a (q + 1)) = g.rest ∙ rw (c, i.0) refl in
+        let k : behind (counting sp (seen s a p)) ≡ byte_at b q ∷ counting sp (seen s a (q + 1)) = g.rest ∙ rw (c, i.0) refl in
         let y : value_from 0 (leading (counting sp (seen s a p))) ≡ g.value = g.folded ∙ rw (c, i.0) refl in
-        let w : any? (leading (counting sp (seen s a p))) ≡ m = g.told ∙ rw (c, i.0) (or-false m) in
-        rw (x, y, w) (ap (λ (k : ℕ). Got k m b q) g.kept)
+        let w : any? (leading (counting sp (seen s a p))) ≡ is_some x = g.told ∙ rw (c, i.0) (or-false (is_some x)) in
+        rw (k, y, w) (ap (λ (o : Maybe ℕ). Ok (record { value = o; behind = b; place = q })) (sym (if_digit_same x) ∙ ap (if_digit (is_some x)) g.kept))
 
-    pub counts_end : n ≤ 1000000000 → Behind sp b → Counts s a p sp (Got n m b q)
+    pub counts_end : IfSome x (λ n. n ≤ 1000000000) → Behind sp b → Counts s a p sp (Ok (record { value = x; behind = b; place = q }))
     counts_end h i = (
       omega (arith, byte_found.found.0),
       byte_found.found.1,
@@ -191,13 +198,13 @@ module _ {s : List ℕ} {a p : ℕ} {sp : Bool} {v n : ℕ} {m : Bool} (g : Sofa
       number_end_lem i,
     )
 
-    pub digits_space : b ≡ 32 → sp ≡ true → Sofar s a p sp (q + 1) n m
+    pub digits_space : b ≡ 32 → sp ≡ true → Sofar s a p sp (q + 1) x
     digits_space f h =
         record {
           machine = record {
             value = g.machine.value;
             kept = g.machine.kept;
-            answer = λ F x pr. there F x pr ∙ here_on byte_found.found.1 pr _ _ (x.within _ _) (rw f (x.spaces g.machine.value h));
+            answer = λ F y pr. there F y pr ∙ here_on byte_found.found.1 pr _ _ (y.within _ _) (rw f (y.spaces g.machine.value h));
           };
           value = g.value;
           kept = g.kept;
@@ -206,19 +213,19 @@ module _ {s : List ℕ} {a p : ℕ} {sp : Bool} {v n : ℕ} {m : Bool} (g : Sofa
           rest = g.rest ∙ rw (at_space h f) refl;
         }
 
-    pub digits_next : (w : ℕ) → digit b ≡ true → w ≡ most (n * 10 + (b - 48)) → Sofar s a p sp (q + 1) w true
+    pub digits_next : (w : ℕ) → digit b ≡ true → w ≡ most (unwrap_or x 0 * 10 + (b - 48)) → Sofar s a p sp (q + 1) (Some w)
     unfolding behind leading value_from any? pick
     digits_next w f h =
         let c = at_byte_lem (λ i j. omega (arith, digit_low f)) in
         record {
           machine = record {
             value = some (and_digit g.machine.value b);
-            kept = rw h (kept_next g.machine.value n b m g.machine.kept);
-            answer = λ F x pr. there F x pr ∙ here_on byte_found.found.1 pr _ _ (x.within _ _) (x.digits g.machine.value b f);
+            kept = rw h (kept_next g.machine.value x b g.machine.kept);
+            answer = λ F y pr. there F y pr ∙ here_on byte_found.found.1 pr _ _ (y.within _ _) (y.digits g.machine.value b f);
           };
           value = g.value * 10 + (b - 48);
           kept = h ∙ rw g.kept (most_next g.value (b - 48));
           folded = g.folded ∙ rw (c, f) refl;
-          told = g.told ∙ rw (c, f) (or-true m);
+          told = g.told ∙ rw (c, f) (or-true (is_some x));
           rest = g.rest ∙ rw (c, f) refl;
         }
