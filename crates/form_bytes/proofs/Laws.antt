@@ -1,11 +1,12 @@
--- The four bytes of a number, there and back, and stored one by one.
+-- The four bytes of a number, there and back, and stored.
 -- Assumes nothing.
-use mathlib.Core.Path.{◌≡◌, sym, ◌∙◌}
-use mathlib.Core.List.{List, [], ◌∷◌, ◌++◌, append_assoc}
-use Prim.Native.Nat.{ℕ, suc, ◌+◌, ◌*◌, ◌/◌, ◌%◌, ◌≤◌, ◌<◌}
+use mathlib.Core.Path.{◌≡◌}
+use mathlib.Core.List.{List, [], ◌∷◌, ◌++◌}
+use Prim.Native.Nat.{ℕ, ◌+◌, ◌*◌, ◌/◌, ◌%◌, ◌≤◌, ◌<◌}
 use native.Mathlib.Omega.{arith}
-use lib.ListN.{length, drop, take, set, length-set, take-append-drop}
-use lib.Seq.{drop-set-lt, take-suc-set}
+use lib.ListN.{drop, take}
+use lib.Seq.{drop-drop}
+use borrow.Rule.Slice.PartMut.{put_mid}
 use Rattle.form_bytes.specs.Fours.{four}
 
 -- the number of its four bytes
@@ -25,22 +26,8 @@ four_back a b c d h₁ h₂ h₃ =
     let e₄ : n / 16777216 ≡ d = omega arith in
     rw (e₁, e₂, e₃, e₄)
 
-stored : (a : List ℕ) (i j x : ℕ) → j ≡ suc i → i < length a → take j (set a i x) ≡ take i a ++ (x ∷ [])
-stored a i j x e h = rw e (take-suc-set a i x h)
-
--- four bytes, stored one by one
-pub set_four : (a : List ℕ) (n x y z u : ℕ) → n + 4 ≤ length a
-    → set (set (set (set a n x) (n + 1) y) (n + 2) z) (n + 3) u ≡ take n a ++ ((x ∷ y ∷ z ∷ u ∷ []) ++ drop (n + 4) a)
-set_four a n x y z u h =
-    let b : List ℕ = set a n x in
-    let c : List ℕ = set b (n + 1) y in
-    let d : List ℕ = set c (n + 2) z in
-    let e : List ℕ = set d (n + 3) u in
-    let first : take (n + 1) b ≡ take n a ++ (x ∷ []) = stored a n (n + 1) x (omega arith) (omega arith) in
-    let second : take (n + 2) c ≡ take (n + 1) b ++ (y ∷ []) = stored b (n + 1) (n + 2) y (omega arith) (simp length-set (omega arith)) in
-    let third : take (n + 3) d ≡ take (n + 2) c ++ (z ∷ []) = stored c (n + 2) (n + 3) z (omega arith) (simp length-set (omega arith)) in
-    let fourth : take (n + 4) e ≡ take (n + 3) d ++ (u ∷ []) = stored d (n + 3) (n + 4) u (omega arith) (simp length-set (omega arith)) in
-    let rest : drop (n + 4) e ≡ drop (n + 4) a =
-    drop-set-lt (n + 4) d (n + 3) u (omega arith) ∙ (drop-set-lt (n + 4) c (n + 2) z (omega arith)
-    ∙ (drop-set-lt (n + 4) b (n + 1) y (omega arith) ∙ drop-set-lt (n + 4) a n x (omega arith))) in
-    sym (take-append-drop (n + 4) e) ∙ rw (fourth, third, second, first, rest) (simp append_assoc)
+-- the four bytes, put in at a place
+pub put_four : (out ys : List ℕ) (at k n : ℕ) → k ≡ 4 → n < 4294967296 → ys ≡ n % 256 ∷ n / 256 % 256 ∷ n / 65536 % 256 ∷ n / 16777216 % 256 ∷ []
+    → put_mid at k out ys ≡ take at out ++ (four n ++ drop (at + 4) out)
+unfolding four
+put_four out ys at k n f h e = let last : n / 16777216 % 256 ≡ n / 16777216 = omega arith in rw (f, e, last, drop-drop 4 at out)

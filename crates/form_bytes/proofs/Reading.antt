@@ -1,11 +1,11 @@
 -- A number is read where its four bytes stand.
 -- Assumes nothing.
-use Prim.Native.Nat.{ℕ, ◌+◌, ◌≤◌, ◌<◌}
+use Prim.Native.Nat.{ℕ, ◌+◌, ◌<◌}
 use mathlib.Core.Path.{◌≡◌, refl, sym, ap, ◌∙◌}
 use mathlib.Core.List.{List, ◌++◌}
 use native.Mathlib.Nat.{add-zero}
 use native.Mathlib.Omega.{arith}
-use lib.ListN.{length, get_or, take, drop}
+use lib.ListN.{get_or, take, drop}
 use lib.Seq.{drop_at, get_or-take, get_or-drop, take_at, length-take-le}
 use Rattle.form_bytes.specs.Fours.{four, number_at, with_number}
 use Rattle.form_bytes.specs.FoursLaws.{NumberReads, StoredReads}

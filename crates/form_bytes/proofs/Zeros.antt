@@ -1,16 +1,17 @@
 -- One byte more to the test for zeros. Assumes nothing.
-use Prim.Native.Nat.{ℕ, ◌+◌, ◌*◌, ◌-◌, ◌≤◌, ◌<◌}
+use Prim.Native.Nat.{ℕ, ◌+◌, ◌*◌, ◌-◌, ◌≤◌}
 use mathlib.Core.Path.{◌≡◌, refl, sym, ap, ◌∙◌}
 use mathlib.Core.Bool.{Bool, true, false, ◌&&◌}
-use mathlib.Core.List.{List, [], ◌∷◌, ◌++◌}
-use native.Mathlib.Numerals.{add-one}
+use mathlib.Core.List.{List, [], ◌∷◌, ◌++◌, map}
+use Rattle.std.specs.List.{zip}
+use Rattle.std.proofs.lemmas.List.{map_push}
 use native.Mathlib.Omega.{arith}
 use native.Mathlib.Decide.{ℕ_discrete}
 use borrow.Author.Tests.{ne_eqb}
 use lib.Bits.{bit_or, or_add_and, and_le_l, and_le_r}
 use lib.Dec.{eqb}
-use lib.ListN.{length, take, drop, get_or, length-drop, take-append-drop}
-use lib.Seq.{take-suc, take_all, drop-drop, length-take-le}
+use lib.ListN.{length, take, drop, length-drop, take-append-drop}
+use lib.Seq.{take_all, drop-drop, length-take-le}
 use Rattle.form_bytes.specs.Zeros.{all_zero}
 
 -- two numbers are zero exactly if their union is
@@ -32,12 +33,9 @@ more [] x = last (eqb x 0)
     last false = refl
 more (y ∷ ys) x = ap (λ (t : Bool). eqb y 0 && t) (more ys x) ∙ and_swap (eqb y 0) (all_zero ys) (eqb x 0)
 
-one_more : (s : List ℕ) (i : ℕ) → i < length s → all_zero (take (i + 1) s) ≡ all_zero (take i s) && eqb (get_or s i 0) 0
-one_more s i h = rw (add-one, take-suc s i 0) (more (take i s) (get_or s i 0))
-
-pub zero_next : (s : List ℕ) (i a : ℕ) → i < length s → eqb a 0 ≡ all_zero (take i s) → eqb (bit_or a (get_or s i 0)) 0 ≡ all_zero (take (i + 1) s)
-zero_next s i a h e =
-    both a (get_or s i 0) (ℕ_discrete a 0) (ℕ_discrete (get_or s i 0) 0) ∙ ap (λ (t : Bool). t && eqb (get_or s i 0) 0) e ∙ sym (one_more s i h)
+-- one byte more to the union of those before it
+pub zero_more : (s : List ℕ) (x a : ℕ) → eqb a 0 ≡ all_zero s → eqb (bit_or a x) 0 ≡ all_zero (s ++ (x ∷ []))
+zero_more s x a e = both a x (ℕ_discrete a 0) (ℕ_discrete x 0) ∙ ap (λ (t : Bool). t && eqb x 0) e ∙ sym (more s x)
 
 -- FOUR PARTS
 
@@ -55,29 +53,37 @@ across false y u v = refl
 both_of : (a b : ℕ) → eqb (bit_or a b) 0 ≡ eqb a 0 && eqb b 0
 both_of a b = both a b (ℕ_discrete a 0) (ℕ_discrete b 0)
 
-two_more : (a b : List ℕ) (i : ℕ) → i < length a → i < length b
-    → (all_zero (take i a) && all_zero (take i b)) && eqb (bit_or (get_or a i 0) (get_or b i 0)) 0 ≡ all_zero (take (i + 1) a) && all_zero (take (i + 1) b)
-two_more a b i h k =
-    ap (λ (t : Bool). (all_zero (take i a) && all_zero (take i b)) && t) (both_of (get_or a i 0) (get_or b i 0))
-    ∙ across (all_zero (take i a)) (all_zero (take i b)) (eqb (get_or a i 0) 0) (eqb (get_or b i 0) 0)
-    ∙ sym (rw (one_more a i h, one_more b i k) refl)
+-- the union of a byte of each part
+abbrev pub union : (ℕ × ℕ) × (ℕ × ℕ) → ℕ
+union p = bit_or (bit_or p.0.0 p.0.1) (bit_or p.1.0 p.1.1)
 
-module _ (a b c d : List ℕ) (i n : ℕ) (h : i < length a) (k : i < length b) (l : i < length c) (m : i < length d) where
-  pub four_next : eqb n 0 ≡ four_zero (take i a) (take i b) (take i c) (take i d)
-      → eqb (bit_or n (bit_or (bit_or (get_or a i 0) (get_or b i 0)) (bit_or (get_or c i 0) (get_or d i 0)))) 0
-      ≡ four_zero (take (i + 1) a) (take (i + 1) b) (take (i + 1) c) (take (i + 1) d)
-  four_next e =
-      let first = bit_or (get_or a i 0) (get_or b i 0) in
-      let second = bit_or (get_or c i 0) (get_or d i 0) in
-      both_of n (bit_or first second)
-      ∙ ap (λ (t : Bool). t && eqb (bit_or first second) 0) e
-      ∙ ap (λ (t : Bool). four_zero (take i a) (take i b) (take i c) (take i d) && t) (both_of first second)
-      ∙ across (all_zero (take i a) && all_zero (take i b)) (all_zero (take i c) && all_zero (take i d)) (eqb first 0) (eqb second 0)
-      ∙ rw (two_more a b i h k, two_more c d i l m) refl
+pub union_more : (l : List ((ℕ × ℕ) × (ℕ × ℕ))) (p : (ℕ × ℕ) × (ℕ × ℕ)) (a : ℕ) → eqb a 0 ≡ all_zero (map union l)
+    → eqb (bit_or a (bit_or (bit_or p.0.0 p.0.1) (bit_or p.1.0 p.1.1))) 0 ≡ all_zero (map union (l ++ (p ∷ [])))
+union_more l p a e = zero_more (map union l) (union p) a e ∙ ap all_zero (sym (map_push union l p))
 
-pub four_all : (a b c d : List ℕ) (i : ℕ) → length b ≡ length a → length c ≡ length a → length d ≡ length a → length a ≤ i
-    → four_zero (take i a) (take i b) (take i c) (take i d) ≡ four_zero a b c d
-four_all a b c d i e f g h = rw (take_all i a h, take_all i b (omega arith), take_all i c (omega arith), take_all i d (omega arith)) refl
+none_zero : (l : List ℕ) → length l ≡ 0 → all_zero l ≡ true
+unfolding all_zero
+none_zero [] e = refl
+none_zero (x ∷ l) e = absurd (omega arith)
+
+-- the four parts side by side
+pub four_all : (a b c d : List ℕ) → length b ≡ length a → length c ≡ length a → length d ≡ length a
+    → all_zero (map union (zip (zip a b) (zip c d))) ≡ four_zero a b c d
+unfolding all_zero
+four_all [] b c d e f g = rw (none_zero b e, none_zero c f, none_zero d g) refl
+four_all (w ∷ a) [] c d e f g = absurd (omega arith)
+four_all (w ∷ a) (x ∷ b) [] d e f g = absurd (omega arith)
+four_all (w ∷ a) (x ∷ b) (y ∷ c) [] e f g = absurd (omega arith)
+four_all (w ∷ a) (x ∷ b) (y ∷ c) (z ∷ d) e f g =
+    rw (
+      both_of (bit_or w x) (bit_or y z),
+      both_of w x,
+      both_of y z,
+      four_all a b c d (omega arith) (omega arith) (omega arith),
+      across (eqb w 0 && eqb x 0) (eqb y 0 && eqb z 0) (all_zero a && all_zero b) (all_zero c && all_zero d),
+      across (eqb w 0) (eqb x 0) (all_zero a) (all_zero b),
+      across (eqb y 0) (eqb z 0) (all_zero c) (all_zero d),
+    ) refl
 
 -- A LIST IN PARTS
 

@@ -6,8 +6,10 @@ use Prim.Native.Nat.{ℕ, ◌+◌, ◌-◌, ◌≤◌, ◌<◌}
 use native.Mathlib.Omega.{arith}
 use native.Mathlib.Nat.{add_assoc, add-zero}
 use native.Mathlib.Numerals.{add-one}
-use lib.ListN.{length, drop, take, set, replicate, length-append, length-replicate, replicate-append-replicate, take-append-drop}
+use lib.ListN.{length, drop, take, set, replicate, length-append, length-drop, length-replicate, take-append-drop}
 use lib.Seq.{drop-drop, drop-set-lt, drop_at, take_at, take-suc-set, take-take, take-append-le, take-add, take_all, length-take-le}
+use borrow.Rule.Slice.PartMut.{put_mid}
+use Rattle.std.proofs.lemmas.Slice.{take-put_mid, drop-put_mid}
 use Rattle.form_items.specs.Items.{Wrote}
 
 -- what is kept from one place on is kept from every later place on
@@ -37,10 +39,20 @@ wrote_more {a} {b} {c} {l} {m} {n} x y =
 pub wrote_behind : {a b c l m : List ℕ} {n k : ℕ} → Wrote a b n l → k ≡ n + length l → Wrote b c k m → Wrote a c n (l ++ m)
 wrote_behind x e y = wrote_more x (rw e at y)
 
-pub wrote_zero : {a b : List ℕ} {n : ℕ} (i : ℕ) → Wrote a b n (replicate i 0) → n + i < length b → Wrote a (set b (n + i) 0) n (replicate (i + 1) 0)
-wrote_zero {a} {b} {n} i w l =
-    let e : n + i ≡ n + length {A = ℕ} (replicate i 0) = omega (arith, length-replicate {A = ℕ} i 0) in
-    rw (← replicate-append-replicate {A = ℕ} i 1 0) (wrote_behind w e (wrote_one b (n + i) 0 l))
+-- the bytes from one place on are those of l, as after a fill or a copy into a part
+pub wrote_mid : (a ys l : List ℕ) (n k : ℕ) → ys ≡ l → length l ≡ k → n + k ≤ length a → Wrote a (put_mid n k a ys) n l
+wrote_mid a ys l n k e f h =
+    let g : length ys ≡ length l = ap length e in
+    record {
+      written = take-put_mid n k a ys (n + length l) (omega arith) (omega arith) ∙ ap (λ (z : List ℕ). take n a ++ z) e;
+      kept = drop-put_mid n k a ys (n + length l) (omega arith) (omega arith) (omega arith);
+    }
+
+-- a part filled with one byte
+pub wrote_fill : (a ys : List ℕ) (n k m x : ℕ) → m ≡ k → n + k ≤ length a → ys ≡ replicate (length (take m (drop n a))) x → Wrote a (put_mid n m a ys) n (replicate k x)
+wrote_fill a ys n k m x e h f =
+    let g : length (take m (drop n a)) ≡ k = length-take-le m (drop n a) (simp length-drop (omega arith)) ∙ e in
+    wrote_mid a ys (replicate k x) n m (rw g at f) (length-replicate k x ∙ sym e) (omega arith)
 
 -- the bytes, whole
 pub wrote_is : {a b l : List ℕ} {n : ℕ} → Wrote a b n l → b ≡ take n a ++ (l ++ drop (n + length l) a)

@@ -23,18 +23,15 @@ pub fn action_size(t: &[u8]) -> usize
     requires { Held t.now }
     ensures { result ≡ action_size t.now }
 {
-    let code = t[0];
-    if code < 64 {
-        return 2;
+    match t[0] {
+        ..64 => 2,
+        64..72 => 4,
+        72..80 => {
+            let size = t[3] as usize;
+            4 + size + size % 2
+        }
+        _ => 6,
     }
-    if code < 72 {
-        return 4;
-    }
-    if code < 80 {
-        let size = t[3] as usize;
-        return 4 + size + size % 2;
-    }
-    6
 }
 
 // The number in two bytes, low byte first.
@@ -42,9 +39,7 @@ pub fn two_at(s: &[u8], p: usize) -> usize
     requires { p + 1 < length s.now }
     ensures { (result ≡ two_at s.now p) × (result ≤ 65535) }
 {
-    let low = s[p] as usize;
-    let high = s[p + 1] as usize;
-    low + 256 * high
+    u16::from_le_bytes([s[p], s[p + 1]]) as usize
 }
 
 // Zeros in k bytes, from place n on.
@@ -52,9 +47,5 @@ pub fn clear(out: &mut [u8], n: usize, k: usize)
     requires { n + k ≤ length out.old }
     ensures { Wrote out.old out.new n (replicate k 0) }
 {
-    let mut i = 0;
-    while i < k {
-        out[n + i] = 0;
-        i = i + 1;
-    }
+    out[n..n + k].fill(0);
 }

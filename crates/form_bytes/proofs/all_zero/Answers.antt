@@ -1,16 +1,13 @@
-use mathlib.Core.Path.{refl, ap, ◌∙◌}
-use lib.Seq.{take_all}
+use mathlib.Core.Path.{◌≡◌, refl, subst}
+use lib.Dec.{eqb}
+use borrow.Author.Rules.{rules}
+use Rattle.std.proofs.lemmas.Fn.{fold_over, slice_gives, fronts}
 use Rattle.form_bytes.specs.Zeros.{all_zero}
-use Rattle.form_bytes.proofs.Zeros.{zero_next}
-use native.Mathlib.Omega.{arith}
+use Rattle.form_bytes.proofs.Zeros.{zero_more}
 use Rattle.form_bytes.proofs.all_zero.Goals as goal
 
-pub loop-i-init : goal.loop-i-init
-unfolding all_zero
-loop-i-init c = (omega arith, refl)
-
-pub loop-i-preserved : goal.loop-i-preserved
-loop-i-preserved c = (omega arith, zero_next _ _ c.loop-i.all c.loop-i-test.true c.loop-i.invariant.1)
-
 pub returns : goal.returns
-returns c = c.loop-i.invariant.1 ∙ ap all_zero (take_all _ _ c.loop-i-test.false)
+unfolding all_zero
+returns c = subst (λ l. eqb c.fold.result 0 ≡ all_zero l) c.iter.ensures.rest
+    (fold_over fronts (λ y. y.now) _ (λ ys n. eqb n 0 ≡ all_zero ys) _ (λ ys a x b f' j k. let more = zero_more ys x.now a j in search rules)
+    _ _ _ _ (slice_gives c.iter.result) refl c.fold.ensures.ran)

@@ -1,18 +1,9 @@
+use mathlib.Core.Path.{◌∙◌}
 use native.Mathlib.Omega.{arith}
-use lib.ListN.{length-set}
-use Rattle.form_bytes.specs.Fours.{four, with_number}
-use Rattle.form_bytes.proofs.Laws.{set_four}
+use Rattle.form_bytes.specs.Fours.{with_number}
+use Rattle.form_bytes.proofs.Laws.{put_four}
 use Rattle.form_bytes.proofs.put_number.Goals as goal
 
-pub bounds-out-at-2 : goal.bounds-out-at-2
-bounds-out-at-2 c = simp length-set (omega arith)
-
-pub bounds-out-at-3 : goal.bounds-out-at-3
-bounds-out-at-3 c = simp length-set (omega arith)
-
-pub bounds-out-at-4 : goal.bounds-out-at-4
-bounds-out-at-4 c = simp length-set (omega arith)
-
 pub returns : goal.returns
-unfolding four with_number
-returns c = set_four c.args.out.now c.args.at _ _ _ _ (omega arith)
+unfolding with_number
+returns c = put_four _ _ c.args.at _ c.args.n (omega arith) (omega (arith, c.ranges.n.fits)) (c.copy_from_slice.ensures.after ∙ c.to_le_bytes.ensures)

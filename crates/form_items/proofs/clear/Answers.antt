@@ -1,17 +1,6 @@
-use mathlib.Core.Path.{◌≡◌, refl}
 use native.Mathlib.Omega.{arith}
-use lib.ListN.{length-set}
-use Rattle.form_items.proofs.Writing.{wrote_none, wrote_zero}
+use Rattle.form_items.proofs.Writing.{wrote_fill}
 use Rattle.form_items.proofs.clear.Goals as goal
 
-pub loop-i-init : goal.loop-i-init
-loop-i-init c = (omega arith, refl, wrote_none _ _)
-
-pub loop-i-preserved : goal.loop-i-preserved
-loop-i-preserved c = (omega arith, simp length-set c.loop-i.invariant.1, wrote_zero _ c.loop-i.invariant.2 (omega arith))
-
-pub shape_of-out : goal.shape_of-out
-shape_of-out c = c.loop-i.invariant.1
-
 pub returns : goal.returns
-returns c = let e : c.loop-i.i ≡ c.args.k = omega arith in rw e at c.loop-i.invariant.2
+returns c = wrote_fill _ _ c.args.n c.args.k _ 0 (omega arith) c.requires (c.fill.ensures.after (λ y e. e))
