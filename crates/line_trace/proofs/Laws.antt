@@ -2,22 +2,19 @@
 -- Assumes nothing.
 use Prim.Native.Nat.{ℕ, ◌+◌, ◌-◌, ◌/◌, ◌%◌, ◌≤◌, ◌<◌}
 use mathlib.Core.Path.{◌≡◌, refl, sym, ap, subst, ◌∙◌}
-use mathlib.Core.Bool.{Bool, true, false}
 use mathlib.Core.List.{List, [], ◌∷◌, ◌++◌, append_assoc}
 use native.Mathlib.Decide.{dec_le}
 use native.Mathlib.Omega.{arith}
-use native.Mathlib.Numerals.{add-one}
 use native.Mathlib.Nat.{add-zero}
-use lib.ListN.{length, take, drop, get_or, set, replicate, length-append, length-replicate, replicate-append-replicate, length-set}
-use lib.Seq.{paste, paste-zero, paste-suc, length-paste, take-paste, drop-paste, take-length, drop_at, drop-drop}
+use lib.ListN.{length, take, drop, set, replicate, length-append, length-replicate, replicate-append-replicate, length-set}
+use lib.Seq.{paste, paste-zero, paste-suc, take-paste, drop-paste, take-length, drop_at, drop-drop}
 use Rattle.macros.specs.Write.{digits}
 use Rattle.macros.specs.Quoted.{bytes}
 use Rattle.form_table.proofs.Digits.{digits_few, digits_two}
 use Rattle.lines.specs.Trace.{trace_line, three_lines}
 use Rattle.line_memory.specs.Memory.{padded}
-use Rattle.line_memory.proofs.Copying.{padded_front, padded_size}
-use Rattle.line_trace.specs.Tracing.{Puts, Room, Lent, Traces}
-use Rattle.line_trace.specs.declared.Traced.TheVariants.{Fits, TooLong}
+use Rattle.line_memory.proofs.Copying.{padded_front}
+use Rattle.line_trace.specs.Tracing.{Puts}
 
 drop_zeros : (k m : ℕ) → k ≤ m → drop k (replicate {A = ℕ} m 0) ≡ replicate (m - k) 0
 drop_zeros k m h =
@@ -83,18 +80,6 @@ puts_then {old} {s} {mid} {t} {new} {at} {p} {r} x l y =
         ap (λ (h : List ℕ). h ++ drop (at + length (s ++ t)) old)
         (ap (λ (h : List ℕ). take at old ++ s ++ h) (take-length t) ∙ append_assoc (take at old) s t ∙ ap (λ (h : List ℕ). take at old ++ h) (sym (take-length (s ++ t))))
 
--- THE LOOP that copies a text
-
-module _ (old text : List ℕ) (at : ℕ) (fits : at + length text ≤ length old) where
-  pub copied_more : (new : List ℕ) (i : ℕ) → new ≡ paste old at text i → i < length text → set new (at + i) (get_or text i 0) ≡ paste old at text (i + 1)
-  copied_more new i e h = rw (e, add-one) (paste-suc old at text i 0 (omega arith) h)
-
-  pub copied_length : (new : List ℕ) (i : ℕ) → new ≡ paste old at text i → i ≤ length text → length new ≡ length old
-  copied_length new i e h = rw e (length-paste old at text i (omega arith) h)
-
-  pub copied_all : (new : List ℕ) (i r : ℕ) → new ≡ paste old at text i → i ≡ length text → r ≡ at + i → Puts old at text new r
-  copied_all new i r e h s = pasted old text new at r fits (rw h at e) (rw h at s)
-
 -- A MACRO'S NUMBER
 
 pub digits_small : (n : ℕ) → n < 100 → length (digits n) ≤ 2
@@ -136,15 +121,3 @@ lines_size before n after = ap length (sym (lines_text before n after)) ∙ simp
 
 pub puts_lines : {old new : List ℕ} {at r : ℕ} (before : List ℕ) (n : ℕ) (after : List ℕ) → Puts old at (put_text before n after) new r → Puts old at (three_lines before n after) new r
 puts_lines {old} {new} {at} {r} before n after p = subst (λ (s : List ℕ). Puts old at s new r) (lines_text before n after) p
-
--- WITH AND WITHOUT A TRACE
-
-module _ (traced : Bool) (old : List ℕ) (at : ℕ) (before : List ℕ) (n : ℕ) (after : List ℕ) where
-  pub untraced : traced ≡ false → Traces traced old at before n after old (Fits at)
-  untraced e = rw e (record { by = record { same = refl; next = refl } })
-
-  pub too_long : traced ≡ true → length old < at + length (three_lines before n after) → Traces traced old at before n after old TooLong
-  too_long e h = rw e (record { by = (h, refl) })
-
-  pub traces : traced ≡ true → {new : List ℕ} {r : ℕ} → Puts old at (three_lines before n after) new r → Traces traced old at before n after new (Fits r)
-  traces e p = rw e (record { by = p })

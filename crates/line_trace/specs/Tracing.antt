@@ -1,10 +1,8 @@
 -- What the functions promise that write the lines of a pass behind a trace (02, N1).
-use Rattle.std.specs.Prelude.{ℕ, ◌+◌, ◌≤◌, ◌<◌, ◌≡◌, Bool, true, false, List, length}
+use Rattle.std.specs.Prelude.{ℕ, ◌+◌, ◌≤◌, ◌<◌, ◌≡◌, Bool, true, false, List, length, Option, Some, None}
 use Rattle.std.proofs.Math.Seq.{paste}
 use Rattle.macros.specs.Bounds.{most_line_bytes}
 use Rattle.lines.specs.Trace.{three_lines}
-use Rattle.line_trace.specs.declared.Traced.{Traced}
-use Rattle.line_trace.specs.declared.Traced.TheVariants.{Fits, TooLong}
 
 -- the text stands behind the first `at` bytes, in the place of as many bytes, and all others are as they were
 pub record Puts (old : List ℕ) (at : ℕ) (text new : List ℕ) (r : ℕ) : Type 0 where
@@ -29,20 +27,20 @@ pub record Lent (traced : Bool) (old : List ℕ) (at : ℕ) (before : List ℕ) 
   pub inside : traced ≡ true → at ≤ length old
 
 -- the lines stand behind the trace so far, or do not fit and nothing is changed
-abbrev pub TracesBy : List ℕ → ℕ → (lines new : List ℕ) → Traced → Type 0
-TracesBy old at lines new (Fits n) = Puts old at lines new n
-TracesBy old at lines new TooLong = (length old < at + length lines) × (new ≡ old)
+abbrev pub TracesBy : List ℕ → ℕ → (lines new : List ℕ) → Option ℕ → Type 0
+TracesBy old at lines new (Some n) = Puts old at lines new n
+TracesBy old at lines new None = (length old < at + length lines) × (new ≡ old)
 
 -- no trace is asked for, and nothing is changed
-pub record NotTraced (old : List ℕ) (at : ℕ) (new : List ℕ) (r : Traced) : Type 0 where
+pub record NotTraced (old : List ℕ) (at : ℕ) (new : List ℕ) (r : Option ℕ) : Type 0 where
   pub same : new ≡ old
-  pub next : r ≡ Fits at
+  pub next : r ≡ Some at
 
 -- whether a trace is asked for
-abbrev pub TracesIf : Bool → List ℕ → ℕ → (lines new : List ℕ) → Traced → Type 0
+abbrev pub TracesIf : Bool → List ℕ → ℕ → (lines new : List ℕ) → Option ℕ → Type 0
 TracesIf true old at lines new r = TracesBy old at lines new r
 TracesIf false old at lines new r = NotTraced old at new r
 
 -- the lines of a pass, put or not
-pub record Traces (traced : Bool) (old : List ℕ) (at : ℕ) (before : List ℕ) (number : ℕ) (after new : List ℕ) (r : Traced) : Type 0 where
+pub record Traces (traced : Bool) (old : List ℕ) (at : ℕ) (before : List ℕ) (number : ℕ) (after new : List ℕ) (r : Option ℕ) : Type 0 where
   pub by : TracesIf traced old at (three_lines before number after) new r

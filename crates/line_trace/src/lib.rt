@@ -8,27 +8,18 @@ ghost use Rattle.line_trace.specs.Tracing.{Room, Puts, Lent, Asked, Traces};
 // The bytes of the three words, and of the line feeds that end the lines.
 const WORDS: usize = 27;
 
-// The bytes of the trace with these lines; or they do not fit.
-#[derive(Clone, Copy)]
-pub enum Traced {
-    Fits(usize),
-    TooLong,
-}
-
 // A text behind the first `at` bytes.
 fn put(trace: &mut [u8], at: usize, text: &[u8]) -> usize
     requires { at + length text.now ≤ length trace.old }
     ensures { Puts trace.old at text.now trace.new result }
 {
-    let mut i = 0;
-    while i < text.len() {
-        trace[at + i] = text[i];
-        i += 1;
-    }
-    at + i
+    let end = at + text.len();
+    trace[at..end].copy_from_slice(text);
+    end
 }
 
 // A macro's number, of one or two digits.
+#[tactic(auto, using(form_table::proofs::Digits::digits_few, form_table::proofs::Digits::digits_two))]
 fn put_number(trace: &mut [u8], at: usize, number: usize) -> usize
     requires { (number < 100) × (at + length (digits number) ≤ length trace.old) }
     ensures { Puts trace.old at (digits number) trace.new result }
@@ -43,17 +34,16 @@ fn put_number(trace: &mut [u8], at: usize, number: usize) -> usize
 }
 
 // How many digits a macro's number has.
+#[tactic(auto, using(form_table::proofs::Digits::digits_few, form_table::proofs::Digits::digits_two))]
 fn figures(number: usize) -> usize
     requires { number < 100 }
     ensures { result ≡ length (digits number) }
 {
-    if number < 10 {
-        return 1;
-    }
-    2
+    if number < 10 { 1 } else { 2 }
 }
 
 // The three lines, for which there is room.
+#[tactic(auto, using(crate::proofs::Laws::lines_size))]
 fn put_lines(trace: &mut [u8], at: usize, before: &[u8], number: usize, after: &[u8]) -> usize
     requires { Room trace.old at before.now number after.now }
     ensures { Asked trace.old at before.now number after.now trace.new result }
@@ -67,8 +57,9 @@ fn put_lines(trace: &mut [u8], at: usize, before: &[u8], number: usize, after: &
     put(trace, f, b"\n")
 }
 
-// The lines of a pass behind the first `at` bytes, if a trace is asked for and they fit: the text before it, its macro's number, and the
-// text after it.
+// The lines of a pass behind the first `at` bytes, if a trace is asked for: the text before it, its macro's number, and the text after
+// it. The bytes of the trace then, or `None` where they do not fit.
+#[tactic(auto, using(crate::proofs::Laws::lines_size, crate::proofs::Laws::digits_small))]
 pub fn trace_pass(
     trace: &mut [u8],
     traced: bool,
@@ -76,16 +67,16 @@ pub fn trace_pass(
     before: &[u8],
     number: usize,
     after: &[u8],
-) -> Traced
+) -> Option<usize>
     requires { Lent traced trace.old at before.now number after.now }
     ensures { Traces traced trace.old at before.now number after.now trace.new result }
 {
     if !traced {
-        return Traced::Fits(at);
+        return Some(at);
     }
     let size = WORDS + before.len() + figures(number) + after.len();
     if trace.len() - at < size {
-        return Traced::TooLong;
+        return None;
     }
-    Traced::Fits(put_lines(trace, at, before, number, after))
+    Some(put_lines(trace, at, before, number, after))
 }
