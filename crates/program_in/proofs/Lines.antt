@@ -1,13 +1,19 @@
 -- How the parts of reading a line make the line.
-use Prim.Native.Nat.{ℕ, zero, suc, ◌+◌, ◌≤◌, ◌<◌}
+use Prim.Native.Nat.{ℕ, zero, suc, ◌+◌, ◌-◌, ◌≤◌, ◌<◌, min}
 use mathlib.Core.Path.{◌≡◌, refl, sym, ap, subst, ◌∙◌}
 use mathlib.Core.Bool.{Bool, true, false, ◌||◌, true≢false}
 use mathlib.Core.List.{List, [], ◌∷◌, ◌++◌, append_assoc, append-nil}
 use native.Mathlib.Omega.{arith}
 use native.Mathlib.Numerals.{add-one}
-use borrow.Author.Tests.{ne_eqb}
+use borrow.Author.Tests.{ne_eqb, eqb-true, ltb-false, not-true}
 use lib.ListN.{length, take, drop, get_or, set, length-append, length-take}
-use lib.Seq.{slice-cons}
+use lib.Seq.{slice-cons, drop-cons, drop-drop, get_or-take}
+use Rattle.std.specs.Prelude.{Option, Some, None, eqb, ltb, not}
+use Rattle.std.specs.List.{position, position_or_len}
+use Rattle.std.proofs.lemmas.List.{drop-take, take-append-drop}
+use Rattle.std.proofs.lemmas.List.Sums.{prefix_len_passes}
+use Rattle.std.proofs.lemmas.Option.{none-some}
+use Rattle.std.proofs.lemmas.List.Quantifiers.{position-Some}
 use Rattle.program_in.specs.declared.Reading.{Reading}
 use Rattle.program_in.specs.declared.Turn.{Turn}
 use Rattle.program_in.specs.Reading.{coming, ahead, line_of, over, has_byte, LineRead}
@@ -22,40 +28,41 @@ over_length [] m = refl
 over_length (b ∷ s) [] = refl
 over_length (b ∷ s) (x ∷ m) = ap suc (over_length s m)
 
-over_more : (s m : List ℕ) (b : ℕ) → length s < length m → set (over s m) (length s) b ≡ over (s ++ (b ∷ [])) m
+-- a text goes over a memory, as far as there is room
+over_text : (s m : List ℕ) (k : ℕ) → k ≡ min (length m) (length s) → take k s ++ drop k m ≡ over s m
 unfolding over
-over_more [] [] b h = absurd (omega arith)
-over_more [] (x ∷ m) b h = refl
-over_more (a ∷ s) [] b h = absurd (omega arith)
-over_more (a ∷ s) (x ∷ m) b h = ap (λ (t : List ℕ). a ∷ t) (over_more s m b (omega arith))
+over_text [] m zero h = refl
+over_text [] m (suc k) h = absurd (omega (arith, h))
+over_text (b ∷ s) [] zero h = refl
+over_text (b ∷ s) [] (suc k) h = absurd (omega (arith, h))
+over_text (b ∷ s) (x ∷ m) zero h = absurd (omega (arith, h))
+over_text (b ∷ s) (x ∷ m) (suc k) h = ap (λ (t : List ℕ). b ∷ t) (over_text s m k (omega (arith, h)))
 
-over_full : (s m t : List ℕ) → length m ≤ length s → over s m ≡ over (s ++ t) m
+-- and behind another
+over_behind : (t m s : List ℕ) (h k : ℕ) → h ≡ min (length t) (length m) → h + k ≡ min (length m) (h + length s) → take h (over t m) ++ (take k s ++ drop (h + k) (over t m)) ≡ over (t ++ s) m
 unfolding over
-over_full [] [] [] h = refl
-over_full [] [] (b ∷ t) h = refl
-over_full [] (x ∷ m) t h = absurd (omega arith)
-over_full (a ∷ s) [] t h = refl
-over_full (a ∷ s) (x ∷ m) t h = ap (λ (t : List ℕ). a ∷ t) (over_full s m t (omega arith))
+over_behind [] m s zero k e f = let z : 0 + k ≡ k = omega arith in rw z (over_text s m k (omega (arith, f)))
+over_behind [] m s (suc h) k e f = absurd (omega (arith, e))
+over_behind (a ∷ t) [] s zero zero e f = refl
+over_behind (a ∷ t) [] s zero (suc k) e f = absurd (omega (arith, f))
+over_behind (a ∷ t) [] s (suc h) k e f = absurd (omega (arith, e))
+over_behind (a ∷ t) (x ∷ m) s zero k e f = absurd (omega (arith, e))
+over_behind (a ∷ t) (x ∷ m) s (suc h) k e f =
+    let z : suc h + k ≡ suc (h + k) = omega arith in
+    rw z (ap (λ (u : List ℕ). a ∷ u) (over_behind t m s h k (omega (arith, e)) (omega (arith, f))))
 
-module _ (line : List ℕ) (held b : ℕ) where
-  kept_room : held < length line → (m t : List ℕ) → Kept m t line held → Kept m (t ++ (b ∷ [])) (set line held b) (held + 1)
-  kept_room h m t k =
-      let l : length line ≡ length m = ap length k.memory ∙ over_length t m in
-      let n : length (t ++ (b ∷ [])) ≡ length t + 1 = length-append t (b ∷ []) in
-      let e : held ≡ length t = omega (arith, l, k.count) in
-      record { memory = rw (e, k.memory) (over_more t m b (omega (arith, l, e))); count = omega (arith, l, n, e) }
+module _ (line s : List ℕ) (held end : ℕ) (h : held ≤ length line) (e : end ≡ min (length line) (held + length s)) where
+  kept_behind : (m t : List ℕ) → Kept m t line held → Kept m (t ++ s) (take held line ++ (take (end - held) s ++ drop (end - held) (drop held line))) end
+  kept_behind m t g =
+      let l : length line ≡ length m = ap length g.memory ∙ over_length t m in
+      let n : length (t ++ s) ≡ length t + length s = length-append t s in
+      record {
+        memory = rw (drop-drop (end - held) held line, g.memory) (over_behind t m s held (end - held) g.count (omega (arith, e, h, l)));
+        count = omega (arith, l, n, e, g.count);
+      }
 
-  kept_full : length line ≤ held → (m t : List ℕ) → Kept m t line held → Kept m (t ++ (b ∷ [])) line held
-  kept_full h m t k =
-      let l : length line ≡ length m = ap length k.memory ∙ over_length t m in
-      let n : length (t ++ (b ∷ [])) ≡ length t + 1 = length-append t (b ∷ []) in
-      record { memory = k.memory ∙ over_full t m (b ∷ []) (omega (arith, l, k.count)); count = omega (arith, l, n, k.count) }
-
-  pub keeps_room : held < length line → Keeps line held (b ∷ []) (set line held b) (held + 1)
-  keeps_room h = record { goes = kept_room h }
-
-  pub keeps_full : length line ≤ held → Keeps line held (b ∷ []) line held
-  keeps_full h = record { goes = kept_full h }
+  pub keeps_behind : Keeps line held s (take held line ++ (take (end - held) s ++ drop (end - held) (drop held line))) end
+  keeps_behind = record { goes = kept_behind }
 
 pub keeps_none : {line : List ℕ} {held : ℕ} → Keeps line held [] line held
 keeps_none = record { goes = λ m t k. rw (append-nil t) k }
@@ -108,61 +115,68 @@ next_comes at size block h k = rw add-one (slice-cons at size block 0 h k)
 
 -- TAKING BYTES
 
--- the bytes from one place of the block to another are kept, and no line feed is among them
-pub record Taking (block line₀ : List ℕ) (at₀ size held₀ : ℕ) (line : List ℕ) (at held : ℕ) : Type 0 where
-  pub bytes : List ℕ
-  pub no_feed : NoFeed bytes
-  pub come : drop at₀ (take size block) ≡ bytes ++ drop at (take size block)
-  pub keeps : Keeps line₀ held₀ bytes line held
+-- a line feed is the first one: none stands before it
+no_feed_before : (s : List ℕ) → ((k : ℕ) → k < length s → eqb (get_or s k 0) 10 ≡ false) → NoFeed s
+unfolding NoFeed
+no_feed_before [] f = tt
+no_feed_before (b ∷ s) f = (λ e. true≢false (sym (rw e refl) ∙ f 0 (omega arith)), no_feed_before s (λ k h. f (suc k) (omega (arith, h))))
 
-module _ (block line₀ : List ℕ) (at₀ size held₀ : ℕ) where
-  pub taking_none : Taking block line₀ at₀ size held₀ line₀ at₀ held₀
-  unfolding NoFeed
-  taking_none = record { bytes = []; no_feed = tt; come = refl; keeps = keeps_none }
-
-  pub taking_more : {line line' : List ℕ} {at held held' : ℕ} → Taking block line₀ at₀ size held₀ line at held → at < size → size ≤ length block → (get_or block at 0 ≡ 10 → ⊥)
-      → Keeps line held (get_or block at 0 ∷ []) line' held' → Taking block line₀ at₀ size held₀ line' (at + 1) held'
-  unfolding NoFeed
-  taking_more {at = at} k h i f g =
-      record {
-        bytes = k.bytes ++ (get_or block at 0 ∷ []);
-        no_feed = no_feed_both k.bytes (get_or block at 0 ∷ []) k.no_feed (f, tt);
-        come = k.come ∙ ap (λ (t : List ℕ). k.bytes ++ t) (next_comes at size block h i) ∙ sym (append_assoc k.bytes (get_or block at 0 ∷ []) (drop (at + 1) (take size block)));
-        keeps = keeps_both k.keeps g;
-      }
+-- and where there is none, no byte is one
+none_found : (p : ℕ → Bool) (s : List ℕ) → position p s ≡ None → (k : ℕ) → k < length s → p (get_or s k 0) ≡ false
+none_found p s e k h = by (ltb (position_or_len p s) (length s)) refl
+  where
+    by : (y : Bool) → ltb (position_or_len p s) (length s) ≡ y → p (get_or s k 0) ≡ false
+    by true f = absurd (none-some (position_or_len p s) (sym (rw f at e)))
+    by false f = not-true _ (prefix_len_passes (λ x. not (p x)) s k 0 (omega (arith, h, ltb-false _ _ f)))
 
 module _ (from : Reading) (block line : List ℕ) (h : from.at < from.size) (i : from.size ≤ length block) where
+  -- what the code looks at
+  pub looked : take (from.size - from.at) (drop from.at block) ≡ coming from block
+  unfolding coming
+  looked =
+      let e : from.at + (from.size - from.at) ≡ from.size = omega (arith, h) in
+      sym (drop-take from.at (from.size - from.at) block) ∙ ap (λ (n : ℕ). drop from.at (take n block)) e
+
   -- bytes have come
   begins : (b : Bool) → b || has_byte (coming from block ++ []) ≡ true
   unfolding coming has_byte
   begins b = rw (append-nil (drop from.at (take from.size block)), next_comes from.at from.size block h i) (or_true b)
 
-  pub taken_fed : {line' : List ℕ} {at held : ℕ} → Taking block line from.at from.size from.held line' at held → at < from.size → get_or block at 0 ≡ 10
-      → Part from block line (record { reading = record { at = at + 1; size = from.size; held = held; begun = true }; ended = true }) block line'
+  -- the line feed, and what is behind it
+  fed_at : {n : ℕ} → n < length (coming from block) → get_or (coming from block) n 0 ≡ 10 → drop n (coming from block) ≡ 10 ∷ drop (from.at + n + 1) (take from.size block)
   unfolding coming
-  taken_fed {at = at} k j e =
+  fed_at {n} g e =
+      let s : drop (n + 1) (drop from.at (take from.size block)) ≡ drop (from.at + n + 1) (take from.size block) = drop-drop (n + 1) from.at (take from.size block) ∙ ap (λ (k : ℕ). drop k (take from.size block)) (omega arith) in
+      drop-cons (coming from block) n 0 g ∙ rw (e, ← add-one n, s) refl
+
+  -- up to a line feed
+  pub taken_fed : {line' : List ℕ} {n held : ℕ} → position (λ b. eqb b 10) (coming from block) ≡ Some n → Keeps line from.held (take n (coming from block)) line' held
+      → Part from block line (record { reading = record { at = from.at + n + 1; size = from.size; held = held; begun = true }; ended = true }) block line'
+  unfolding coming
+  taken_fed {n = n} e k =
+      let p = position-Some (λ b. eqb b 10) (coming from block) n 0 e in
       record {
         given = [];
-        bytes = k.bytes;
-        no_feed = k.no_feed;
-        stops = fed (append-nil (drop from.at (take from.size block)) ∙ k.come ∙ ap (λ (t : List ℕ). k.bytes ++ t) (next_comes at from.size block j i ∙ ap (λ (b : ℕ). b ∷ drop (at + 1) (take from.size block)) e));
+        bytes = take n (coming from block);
+        no_feed = no_feed_before (take n (coming from block)) (λ j f. rw (get_or-take n (coming from block) j 0 (omega (arith, f, length-take n (coming from block)))) (p.2 j (omega (arith, f, length-take n (coming from block)))));
+        stops = fed (append-nil (coming from block) ∙ sym (take-append-drop n (coming from block)) ∙ ap (λ (t : List ℕ). take n (coming from block) ++ t) (fed_at p.0 (eqb-true _ _ p.1)));
         begun = sym (begins from.begun);
-        keeps = k.keeps;
+        keeps = k;
         within = i;
       }
 
-  pub taken_used : {line' : List ℕ} {at held : ℕ} → Taking block line from.at from.size from.held line' at held → from.size ≤ at
-      → Part from block line (record { reading = record { at = at; size = from.size; held = held; begun = true }; ended = false }) block line'
+  -- all of it
+  pub taken_used : {line' : List ℕ} {held : ℕ} → position (λ b. eqb b 10) (coming from block) ≡ None → Keeps line from.held (coming from block) line' held
+      → Part from block line (record { reading = record { at = from.size; size = from.size; held = held; begun = true }; ended = false }) block line'
   unfolding coming
-  taken_used {at = at} k j =
-      let e : drop at (take from.size block) ≡ [] = none_come at from.size block j in
+  taken_used e k =
       record {
         given = [];
-        bytes = k.bytes;
-        no_feed = k.no_feed;
-        stops = used false (append-nil (drop from.at (take from.size block)) ∙ k.come ∙ ap (λ (t : List ℕ). k.bytes ++ t) e ∙ append-nil k.bytes) e;
+        bytes = coming from block;
+        no_feed = no_feed_before (coming from block) (none_found (λ b. eqb b 10) (coming from block) e);
+        stops = used false (append-nil (coming from block)) (none_come from.size from.size block (omega arith));
         begun = sym (begins from.begun);
-        keeps = k.keeps;
+        keeps = k;
         within = i;
       }
 
@@ -209,10 +223,10 @@ module _ {from r : Reading} {block block' line : List ℕ} (f : Filled from bloc
 
 -- ALL TURNS
 
--- what all turns so far have read; before the first one nothing
-pub data Going (most : ℕ) (r₀ : Reading) (block₀ line₀ : List ℕ) (turns : ℕ) (r : Reading) (block line : List ℕ) : Type 0 where
-  first : turns ≡ most → r ≡ r₀ → block ≡ block₀ → line ≡ line₀ → Going most r₀ block₀ line₀ turns r block line
-  later : (t : Turn) → t.reading ≡ r → (0 < turns → t.ended ≡ false) → Part r₀ block₀ line₀ t block line → Going most r₀ block₀ line₀ turns r block line
+-- what n turns have read that did not end the line; before the first one nothing
+pub data Going (r₀ : Reading) (block₀ line₀ : List ℕ) (n : ℕ) (r : Reading) (block line : List ℕ) : Type 0 where
+  first : n ≡ 0 → r ≡ r₀ → block ≡ block₀ → line ≡ line₀ → Going r₀ block₀ line₀ n r block line
+  later : (t : Turn) → t.reading ≡ r → t.ended ≡ false → Part r₀ block₀ line₀ t block line → Going r₀ block₀ line₀ n r block line
 
 stops_false : {all bytes rest : List ℕ} {ended : Bool} → Stops all bytes rest ended → ended ≡ false → (all ≡ bytes) × (rest ≡ [])
 stops_false (fed e) g = absurd (true≢false g)
@@ -243,9 +257,9 @@ part_both {r₀ = r₀} {b₀ = b₀} {b₁ = b₁} {t = t} p e q =
       within = q.within;
     }
 
-pub going_on : {most turns : ℕ} {r₀ r : Reading} {b₀ l₀ b₁ l₁ b₂ l₂ : List ℕ} {u : Turn} → Going most r₀ b₀ l₀ turns r b₁ l₁ → 0 < turns → Part r b₁ l₁ u b₂ l₂ → Part r₀ b₀ l₀ u b₂ l₂
-going_on (first _ e f g) _ q = rw (← e, ← f, ← g) q
-going_on {b₁ = b₁} {l₁ = l₁} {b₂ = b₂} {l₂ = l₂} {u = u} (later t e f p) h q = part_both p (f h) (subst (λ (x : Reading). Part x b₁ l₁ u b₂ l₂) (sym e) q)
+pub going_on : {n : ℕ} {r₀ r : Reading} {b₀ l₀ b₁ l₁ b₂ l₂ : List ℕ} {u : Turn} → Going r₀ b₀ l₀ n r b₁ l₁ → Part r b₁ l₁ u b₂ l₂ → Part r₀ b₀ l₀ u b₂ l₂
+going_on (first _ e f g) q = rw (← e, ← f, ← g) q
+going_on {b₁ = b₁} {l₁ = l₁} {b₂ = b₂} {l₂ = l₂} {u = u} (later t e f p) q = part_both p f (subst (λ (x : Reading). Part x b₁ l₁ u b₂ l₂) (sym e) q)
 
 line_stops : {all bytes rest : List ℕ} {ended : Bool} → NoFeed bytes → Stops all bytes rest ended → line_of all ≡ record { bytes = bytes; rest = rest }
 unfolding line_of ahead
@@ -258,7 +272,7 @@ unfolding over
 kept_start m = record { memory = refl; count = omega arith }
 
 module _ {from r₀ : Reading} {block line : List ℕ} (s : r₀ ≡ record { at = from.at; size = from.size; held = 0; begun = false }) where
-  line_read : {t : Turn} {block' line' : List ℕ} → Part r₀ block line t block' line' → LineRead from block line t.reading block' line'
+  pub line_read : {t : Turn} {block' line' : List ℕ} → Part r₀ block line t block' line' → LineRead from block line t.reading block' line'
   unfolding coming
   line_read p =
       let e = line_stops p.no_feed p.stops in
@@ -274,6 +288,12 @@ module _ {from r₀ : Reading} {block line : List ℕ} (s : r₀ ≡ record { at
         within = p.within;
       }
 
-  pub going_read : {turns : ℕ} {r : Reading} {block' line' : List ℕ} → Going 18446744073709551615 r₀ block line turns r block' line' → turns ≤ 0 → LineRead from block line r block' line'
+  pub going_read : {n : ℕ} {r : Reading} {block' line' : List ℕ} → Going r₀ block line n r block' line' → 0 < n → LineRead from block line r block' line'
   going_read (first e _ _ _) h = absurd (omega (arith, e, h))
   going_read {block' = block'} {line' = line'} (later t e _ p) h = subst (λ (x : Reading). LineRead from block line x block' line') e (line_read p)
+
+-- no more is held than there is room for
+pub part_room : {r₀ : Reading} {t : Turn} {block line block' line' : List ℕ} → r₀.held ≡ 0 → Part r₀ block line t block' line' → t.reading.held ≤ length line'
+part_room {line = line} e p =
+    let k = p.keeps.goes line [] (rw e (kept_start line)) in
+    omega (arith, k.count, ap length k.memory ∙ over_length p.bytes line)

@@ -40,8 +40,3 @@ pub record Filled (from : Reading) (block : List ℕ) (r : Reading) (block' : Li
   pub begun : r.begun ≡ from.begun
   pub held : r.held ≡ from.held
   pub within : r.size ≤ length block'
-
--- fewer turns are left, and none behind the line's end
-pub record Left (turns : ℕ) (ended : Bool) (r : ℕ) : Type 0 where
-  pub fewer : r < turns
-  pub goes_on : 0 < r → ended ≡ false

@@ -12,12 +12,9 @@ pub fn append(to: &mut [u8], used: usize, text: &[u8]) -> usize
     ensures gives { Gives (appends to.old used text.now) to.new result }
     ensures behind { Behind to.old used text.now to.new result }
 {
-    let mut i = 0;
-    while i < text.len() {
-        to[used + i] = text[i];
-        i += 1;
-    }
-    used + i
+    let end = used + text.len();
+    to[used..end].copy_from_slice(text);
+    end
 }
 
 // Appends a text; where there is no room, what is held is written out first. Answers how many bytes are then held.
