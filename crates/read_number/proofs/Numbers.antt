@@ -4,7 +4,7 @@ use mathlib.Core.Path.{◌≡◌, refl, ap, sym, ◌∙◌}
 use mathlib.Core.Bool.{Bool, true, false, ◌&&◌, ◌||◌, or-true, or-false, true≢false}
 use mathlib.Core.List.{List, [], ◌∷◌}
 use mathlib.Core.Option.{Option, none, some}
-use Prim.Native.Nat.{ℕ, ◌+◌, ◌-◌, ◌*◌, ◌≤◌, ◌<◌}
+use Prim.Native.Nat.{ℕ, ◌+◌, ◌-◌, ◌*◌, ◌≤◌, ◌<◌, min}
 use native.Mathlib.Omega.{arith}
 use lib.Dec.{ltb, leb}
 use borrow.Author.Tests.{ne_eqb, lt-ltb, le-ltb, ltb-true, ltb-false, leb-true}
@@ -15,25 +15,31 @@ use Rattle.macros.specs.Read.{part_byte_by}
 use Rattle.macros.specs.ReadSoFar.Step.{on}
 use Rattle.macros.specs.ReadSoFar.Part.{tag_number, calling}
 use Rattle.macros.specs.ReadSoFar.Phase.{equals, increment, divisor, begun, tagged}
-use Rattle.std.specs.Prelude.{Result, Ok, Err, Some, None, IfSome, is_some, unwrap_or}
+use Rattle.std.specs.Prelude.{Ok, Err, Some, None, IfSome, is_some, unwrap_or}
 use Rattle.std.specs.Prelude.{Option as Maybe}
 use Rattle.read_scan.specs.Bytes.{Next, refused, Placed, with?, seen, next_byte, spaceless}
 use Rattle.read_scan.specs.Bytes.Placed.{byte_at}
 use Rattle.read_scan.specs.Scan.{MacroRead, noted, run, Passes}
 use Rattle.read_number.specs.Number.{Eats, most, number_fault, counting, leading, behind, value_from, any?, if_digit, numbered, number_from, Kept, Digits, Behind, Counts}
 use Rattle.read_scan.specs.declared.FileFault.{FileFault}
-use Rattle.read_scan.specs.declared.ReadError.{ReadError}
-use Rattle.read_number.specs.declared.Number.{Number}
 use Rattle.read_scan.proofs.Bytes.{seen_byte, seen_none}
 use Rattle.read_scan.proofs.Laws.{here_on}
 
-pub most_low : (n : ℕ) → n < 1000000000 → most n ≡ n
+most_low : (n : ℕ) → n < 1000000000 → most n ≡ n
 unfolding most pick
 most_low n h = simp (lt-ltb _ _ h)
 
-pub most_high : (n : ℕ) → 1000000000 ≤ n → most n ≡ 1000000000
+most_high : (n : ℕ) → 1000000000 ≤ n → most n ≡ 1000000000
 unfolding most pick
 most_high n h = simp (le-ltb _ _ h)
+
+pub most_min : (n : ℕ) → min n 1000000000 ≡ most n
+unfolding most pick
+most_min n = by (ltb n 1000000000) refl
+  where
+    by : (y : Bool) → ltb n 1000000000 ≡ y → min n 1000000000 ≡ pick y n 1000000000
+    by true e = omega (arith, ltb-true n 1000000000 e)
+    by false e = omega (arith, ltb-false n 1000000000 e)
 
 -- one digit more
 most_next : (v d : ℕ) → most (most v * 10 + d) ≡ most (v * 10 + d)
@@ -47,7 +53,7 @@ most_next v d = by (ltb v 1000000000) refl
 
 kept_next : (o : Option ℕ) (x : Maybe ℕ) (b : ℕ) → Kept o x → Kept (some (and_digit o b)) (Some (most (unwrap_or x 0 * 10 + (b - 48))))
 unfolding and_digit
-kept_next none x b k = rw k refl
+kept_next none x b k = rw k (ap (λ (n : ℕ). Some (most n)) (omega arith))
 kept_next (some v) x b k = rw k (ap Some (most_next v (b - 48)))
 
 and_left : (x y : Bool) → (x && y) ≡ true → x ≡ true
@@ -144,7 +150,7 @@ digits_none s a p sp =
       rest = refl;
     }
 
-low : {B : ℕ} (x : Maybe ℕ) → IfSome x (λ n. n ≤ B) → unwrap_or x 0 ≤ B
+pub low : {B : ℕ} (x : Maybe ℕ) → IfSome x (λ n. n ≤ B) → unwrap_or x 0 ≤ B
 low None h = omega arith
 low (Some n) h = h
 

@@ -42,7 +42,11 @@ pub fn digits(s: &[u8], a: usize, first: usize, spaces: bool) -> Result<Number, 
         if is_digit(b) {
             value = Some(with_digit(value.unwrap_or(0), b));
         } else if b != b' ' || !spaces {
-            return Ok(Number { value, behind: b, place: q });
+            return Ok(Number {
+                value,
+                behind: b,
+                place: q,
+            });
         }
         at = q + 1;
     }
