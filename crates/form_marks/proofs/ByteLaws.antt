@@ -9,6 +9,7 @@ use native.Mathlib.Decide.{ℕ_discrete}
 use borrow.Author.Tests.{ne_eqb}
 use lib.Dec.{eqb}
 use types.Run.{OneOf}
+use mir.Val.{bool_byte}
 use Rattle.macros.specs.Macro.{among}
 use Rattle.form_table.specs.Walk.{bit}
 
@@ -74,6 +75,11 @@ pub among_append : (l ks : List ℕ) (x : ℕ) → among (l ++ ks) x ≡ among l
 unfolding among
 among_append [] ks x = refl
 among_append (k ∷ l) ks x = ap (λ (t : Bool). eqb x k || t) (among_append l ks x) ∙ sym (or_assoc (eqb x k) (among l x) (among ks x))
+
+pub byte_bit : (t : Bool) → bool_byte t ≡ bit t
+unfolding bit
+byte_bit true = refl
+byte_bit false = refl
 
 pub bit_small : (r : ℕ) (t : Bool) → r ≡ bit t → r ≤ 1
 unfolding bit

@@ -11,16 +11,16 @@ ghost use Rattle.form_table.specs.Walk.{bit as bit_of};
 pub fn is_within(a: u8, z: u8, b: u8) -> bool
     ensures { result ≡ within a z b }
 {
-    (a <= b) & (b <= z)
+    (a..=z).contains(&b)
 }
 
 // Whether a class may have the range from a to z.
 pub fn is_range(a: u8, z: u8) -> bool
     ensures { result ≡ is_range a z }
 {
-    let digits = is_within(48, 57, a) & is_within(48, 57, z);
-    let uppers = is_within(65, 90, a) & is_within(65, 90, z);
-    let lowers = is_within(97, 122, a) & is_within(97, 122, z);
+    let digits = a.is_ascii_digit() & z.is_ascii_digit();
+    let uppers = a.is_ascii_uppercase() & z.is_ascii_uppercase();
+    let lowers = a.is_ascii_lowercase() & z.is_ascii_lowercase();
     (digits | (uppers | lowers)) & (a <= z)
 }
 
@@ -28,7 +28,7 @@ pub fn is_range(a: u8, z: u8) -> bool
 pub fn bit(t: bool) -> u32
     ensures { result ≡ bit_of t }
 {
-    t as u32
+    u32::from(t)
 }
 
 // SHORTEST SPELLING
@@ -37,25 +37,23 @@ pub fn bit(t: bool) -> u32
 fn is_common(b: u8) -> bool
     ensures { result ≡ among (39 ∷ 59 ∷ 10 ∷ 92 ∷ []) b }
 {
-    (b == 39) | ((b == 59) | ((b == 10) | (b == 92)))
+    matches!(b, b'\'' | b';' | b'\n' | b'\\')
 }
 
-// Of the signs of a pattern those below 64, and the others: each set is a mask of one word.
+// Of the signs of a pattern those below 64, and the others: each set is a mask of one word. Neighbours stand in different arms of a
+// `match`, since a range of bytes would be tested as one.
 fn is_low_sign(b: u8) -> bool
     ensures { result ≡ among (10 ∷ 36 ∷ 39 ∷ 42 ∷ 47 ∷ 59 ∷ []) b }
 {
-    match b {
-        10 | 36 | 39 | 42 | 47 | 59 => true,
-        _ => false,
-    }
+    matches!(b, b'\n' | b'$' | b'\'' | b'*' | b'/' | b';')
 }
 
 fn is_high_sign(b: u8) -> bool
     ensures { result ≡ among (91 ∷ 94 ∷ 123 ∷ 125 ∷ 92 ∷ []) b }
 {
     match b {
-        91 | 94 | 123 | 125 => true,
-        92 => true,
+        b'[' | b'^' | b'{' | b'}' => true,
+        b'\\' => true,
         _ => false,
     }
 }
@@ -71,24 +69,24 @@ pub fn is_sign(b: u8) -> bool
 pub fn is_class_sign(b: u8) -> bool
     ensures { result ≡ among (93 ∷ 39 ∷ 59 ∷ 10 ∷ 92 ∷ []) b }
 {
-    (b == 93) | is_common(b)
+    (b == b']') | is_common(b)
 }
 
 // In a replacement.
 pub fn is_replacement_sign(b: u8) -> bool
     ensures { result ≡ among (47 ∷ 39 ∷ 59 ∷ 10 ∷ 92 ∷ 123 ∷ []) b }
 {
-    (b == 47) | (is_common(b) | (b == 123))
+    (b == b'/') | (is_common(b) | (b == b'{'))
 }
 
 // In a call's text.
 pub fn is_text_sign(b: u8) -> bool
     ensures { result ≡ among (47 ∷ 58 ∷ 39 ∷ 59 ∷ 10 ∷ 92 ∷ []) b }
 {
-    (b == 47) | ((b == 58) | is_common(b))
+    (b == b'/') | ((b == b':') | is_common(b))
 }
 
-// WRITTEN OUT: each set is a mask of one word; neighbours stand in different arms, since a range of bytes would be tested as one
+// WRITTEN OUT: each set is a mask of one word, as those above
 
 // Of the marks of a pattern those below 64; the others are the signs above.
 fn is_low_mark(b: u8) -> bool
@@ -152,10 +150,7 @@ fn is_low_text_mark(b: u8) -> bool
 fn is_high_text_mark(b: u8) -> bool
     ensures { result ≡ among (92 ∷ 123 ∷ []) b }
 {
-    match b {
-        b'\\' | b'{' => true,
-        _ => false,
-    }
+    matches!(b, b'\\' | b'{')
 }
 
 // In a replacement or a call's text.

@@ -1,7 +1,6 @@
-use Rattle.form_table.specs.Walk.{bit}
-use borrow.Author.Rules.{rules}
+use mathlib.Core.Path.{◌∙◌}
+use Rattle.form_marks.proofs.ByteLaws.{byte_bit}
 use Rattle.form_marks.proofs.bit.Goals as goal
 
 pub returns : goal.returns
-unfolding bit
-returns c = search rules
+returns c = c.from.ensures ∙ byte_bit c.args.t
