@@ -6,9 +6,9 @@ use mathlib.Core.List.{List, [], ◌∷◌, ◌++◌, append_assoc, append-nil}
 use native.Mathlib.Omega.{arith}
 use native.Mathlib.Numerals.{add-one}
 use borrow.Author.Tests.{ne_eqb, eqb-true, ltb-false, not-true}
-use lib.ListN.{length, take, drop, get_or, set, length-append, length-take}
+use lib.ListN.{length, take, drop, get_or, length-append, length-take}
 use lib.Seq.{slice-cons, drop-cons, drop-drop, get_or-take}
-use Rattle.std.specs.Prelude.{Option, Some, None, eqb, ltb, not}
+use Rattle.std.specs.Prelude.{Some, None, eqb, ltb, not}
 use Rattle.std.specs.List.{position, position_or_len}
 use Rattle.std.proofs.lemmas.List.{drop-take, take-append-drop}
 use Rattle.std.proofs.lemmas.List.Sums.{prefix_len_passes}

@@ -1,5 +1,5 @@
 -- What the parts of reading a line do.
-use Rattle.std.specs.Prelude.{ℕ, ◌≤◌, ◌<◌, min, ◌≡◌, Bool, true, false, ◌||◌, List, [], ◌∷◌, ◌++◌, length}
+use Rattle.std.specs.Prelude.{ℕ, ◌≤◌, min, ◌≡◌, Bool, true, ◌||◌, List, [], ◌∷◌, ◌++◌, length}
 use Rattle.program_in.specs.declared.Reading.{Reading}
 use Rattle.program_in.specs.declared.Turn.{Turn}
 use Rattle.program_in.specs.Reading.{coming, over, has_byte}

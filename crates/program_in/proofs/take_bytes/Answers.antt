@@ -1,4 +1,4 @@
-use mathlib.Core.Path.{sym, ◌∙◌}
+use mathlib.Core.Path.{sym}
 use Rattle.program_in.proofs.Lines.{looked, taken_fed, taken_used}
 use Rattle.program_in.proofs.take_bytes.Goals as goal
 
