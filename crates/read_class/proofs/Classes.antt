@@ -3,7 +3,7 @@
 use mathlib.Core.Path.{◌≡◌, refl, ap, sym, ◌∙◌}
 use mathlib.Core.Bool.{Bool, true, false, ◌&&◌, and-false, true≢false}
 use mathlib.Core.List.{List, [], ◌∷◌, ◌++◌, reverse, append_assoc, append-nil, reverse-cons}
-use Prim.Native.Nat.{ℕ, ◌+◌, ◌-◌, ◌≤◌}
+use Prim.Native.Nat.{ℕ, ◌+◌, ◌≤◌}
 use native.Mathlib.Omega.{arith}
 use lib.ListN.{length, length-append}
 use lib.Dec.{eqb}
@@ -22,18 +22,14 @@ use Rattle.read_scan.specs.Scan.MacroRead.{refused_at}
 use Rattle.form_table.specs.Form.{member_items, members_items}
 use Rattle.read_scan.specs.Scan.{run, At, Reached, Stays}
 use Rattle.form_items.specs.Items.{Wrote, member_bytes}
-use Rattle.read_class.specs.Class.{class_turn, Plain, Meets, Meeting, last_of, last_items, pending, Takes, Membered, Classing, ClassRead, byte_fault, member_fault}
-use Rattle.read_ends.specs.Ends.{left_by}
-use Rattle.read_scan.specs.declared.FileFault.{FileFault}
+use Rattle.read_class.specs.Class.{class_turn, Plain, Meets, Meeting, last_of, last_items, pending, Takes, Membered, Classing, ClassRead}
+use Rattle.std.specs.Prelude.{Ok, Err}
+use Rattle.read_ends.specs.Ends.{Ended, left_by}
+use Rattle.read_scan.specs.Bytes.{refused}
+use Rattle.read_scan.specs.declared.ReadError.{ReadError}
 use Rattle.read_scan.specs.declared.FileFault.TheVariants.{Incomplete, BadClass}
-use Rattle.read_scan.specs.declared.Next.{Next}
-use Rattle.read_scan.specs.declared.Next.TheVariants.{Byte, Refused as NoByte}
-use Rattle.read_class.specs.declared.ClassByte.{ClassByte}
-use Rattle.read_class.specs.declared.ClassByte.TheVariants.{Got as GotByte, Refused as NoClassByte}
 use Rattle.read_class.specs.declared.Last.{Last as CodeLast}
 use Rattle.read_class.specs.declared.Last.TheVariants.{Free, Member as AMember, Dash}
-use Rattle.read_ends.specs.declared.Ended.{Ended}
-use Rattle.read_ends.specs.declared.Ended.TheVariants.{Upto, Refused as NoEnd}
 use Rattle.read_scan.proofs.Laws.{at_on, at_stop}
 use Rattle.form_items.proofs.Writing.{wrote_none, wrote_more}
 use Rattle.read_ends.proofs.Leaving.{zeroed}
@@ -71,57 +67,48 @@ module _ {s : List ℕ} {a p b : ℕ} (x : At s a p b) (ps : List Piece) (neg : 
   unfolding members_byte pick
   member_breaks f = member_stop incomplete (simp (ne_eqb _ _ (no_bracket f), f))
 
-module _ {s : List ℕ} {a p : ℕ} {r : Next} (x : Stays s a p r) where
-  pub meets_fault : {f : FileFault} {q : ℕ} {o : ClassByte} → r ≡ NoByte f q → o ≡ byte_fault r → Meeting s a p o
-  meets_fault {f} {q} e g =
-      let w : Stays s a p (NoByte f q) = rw e at x in
-      rw (g ∙ ap byte_fault e) (w.found, λ ps neg l xs pr. w.answer (members ps neg l xs) pr)
+pub meets_fault : {s : List ℕ} {a p : ℕ} {f : ReadError} → Stays s a p (Err f) → Meeting s a p (Err f)
+meets_fault x = (x.found, λ ps neg l xs pr. x.answer (members ps neg l xs) pr)
 
-  module _ {b q : ℕ} (e : r ≡ Byte b q) where
-    pub class_stays : Stays s a p (Byte b q)
-    class_stays = rw e at x
+module _ {s : List ℕ} {a p b q : ℕ} (x : Stays s a p (Ok (b, q))) where
+  byte_at : At s a p b
+  byte_at = x.found.1
 
-    byte_at : At s a p b
-    byte_at = class_stays.found.1
+  pub meets_break : breaks b ≡ true → Meeting s a p (Err (record { fault = Incomplete; place = q }))
+  meets_break f = rw x.found.0 (omega (arith, byte_at.there), λ ps neg l xs pr. member_breaks byte_at ps neg l xs pr f)
 
-    pub meets_break : breaks b ≡ true → Meeting s a p (NoClassByte Incomplete q)
-    meets_break f = rw class_stays.found.0 (omega (arith, byte_at.there), λ ps neg l xs pr. member_breaks byte_at ps neg l xs pr f)
+  pub meets_raw : breaks b ≡ false → (b ≡ 92 → ⊥) → Meeting s a p (Ok (b, true, q))
+  meets_raw f g =
+      rw x.found.0 (record {
+        further = omega arith;
+        behind = byte_at.behind;
+        there = byte_at.there;
+        counted = byte_at.counted;
+        plain = λ _. (f, g);
+        taken = λ ps neg l xs pr st i. member_on byte_at ps neg l xs pr st i;
+        refused = λ ps neg l xs pr k i. member_stop byte_at ps neg l xs pr k i;
+      })
 
-    pub meets_raw : breaks b ≡ false → (b ≡ 92 → ⊥) → Meeting s a p (GotByte b true q)
-    meets_raw f g =
-        rw class_stays.found.0 (record {
+  -- behind `\`
+  module _ (f : b ≡ 92) where
+    pub meets_escape_fault : {g : ReadError} → Stays s a (q + 1) (Err g) → Meeting s a p (Err g)
+    meets_escape_fault {g} z =
+        let w : Stays s a (p + 1) (Err g) = rw x.found.0 at z in
+        (w.found, λ ps neg l xs pr. member_escape byte_at ps neg l xs pr f ∙ w.answer (members_escape ps neg l xs) pr)
+
+    pub meets_escaped : {d c v : ℕ} → Stays s a (q + 1) (Ok (d, v)) → c ≡ escaped d → Meeting s a p (Ok (c, false, v))
+    meets_escaped {d} {c} {v} z j =
+        let w : Stays s a (p + 1) (Ok (d, v)) = rw x.found.0 at z in
+        let y = w.found.1 in
+        rw w.found.0 (record {
           further = omega arith;
-          behind = byte_at.behind;
-          there = byte_at.there;
-          counted = byte_at.counted;
-          plain = λ _. (f, g);
-          taken = λ ps neg l xs pr st i. member_on byte_at ps neg l xs pr st i;
-          refused = λ ps neg l xs pr k i. member_stop byte_at ps neg l xs pr k i;
+          behind = y.behind;
+          there = y.there;
+          counted = y.counted;
+          plain = λ k. absurd (true≢false (sym k));
+          taken = λ ps neg l xs pr st k. member_escape byte_at ps neg l xs pr f ∙ escaped_on y ps neg l xs pr st (rw j at k);
+          refused = λ ps neg l xs pr k m. member_escape byte_at ps neg l xs pr f ∙ escaped_stop y ps neg l xs pr k (rw j at m);
         })
-
-    -- behind `\`
-    module _ (f : b ≡ 92) {t : Next} (z : Stays s a (q + 1) t) where
-      pub behind_escape : Stays s a (p + 1) t
-      behind_escape = rw class_stays.found.0 at z
-
-      pub meets_escape_fault : {g : FileFault} {v : ℕ} {o : ClassByte} → t ≡ NoByte g v → o ≡ byte_fault t → Meeting s a p o
-      meets_escape_fault {g} {v} i j =
-          let w : Stays s a (p + 1) (NoByte g v) = rw i at behind_escape in
-          rw (j ∙ ap byte_fault i) (w.found, λ ps neg l xs pr. member_escape byte_at ps neg l xs pr f ∙ w.answer (members_escape ps neg l xs) pr)
-
-      pub meets_escaped : {d c v : ℕ} → t ≡ Byte d v → c ≡ escaped d → Meeting s a p (GotByte c false v)
-      meets_escaped {d} {c} {v} i j =
-          let w : Stays s a (p + 1) (Byte d v) = rw i at behind_escape in
-          let y = w.found.1 in
-          rw w.found.0 (record {
-            further = omega arith;
-            behind = y.behind;
-            there = y.there;
-            counted = y.counted;
-            plain = λ k. absurd (true≢false (sym k));
-            taken = λ ps neg l xs pr st k. member_escape byte_at ps neg l xs pr f ∙ escaped_on y ps neg l xs pr st (rw j at k);
-            refused = λ ps neg l xs pr k m. member_escape byte_at ps neg l xs pr f ∙ escaped_stop y ps neg l xs pr k (rw j at m);
-          })
 
 -- A MEMBER TAKEN
 
@@ -243,21 +230,16 @@ pub membered_none : (s : List ℕ) (a p : ℕ) (o : List ℕ) (i : ℕ) → Memb
 unfolding member_bytes
 membered_none s a p o i = record { xs = []; answer = λ ps neg pr. refl; wrote = wrote_none o i; used = omega arith; room = omega arith }
 
-module _ {s : List ℕ} {a p v : ℕ} {old y : List ℕ} {i j : ℕ} {l : CodeLast} (g : Membered s a p v old y i j l) (h : p ≤ v) {r : ClassByte} (x : Meeting s a v r) where
-  pub classing_fault : (out : List ℕ) {f : FileFault} {q : ℕ} {o : Ended} → r ≡ NoClassByte f q → o ≡ member_fault r → Classing s a p old out i o
-  classing_fault out {f} {q} e k =
-      let w : Meeting s a v (NoClassByte f q) = rw e at x in
-      rw (k ∙ ap member_fault e) (record { is = (w.0, λ ps neg pr. g.answer ps neg pr ∙ w.1 ps neg (last_of l) g.xs pr) })
+module _ {s : List ℕ} {a p v : ℕ} {old y : List ℕ} {i j : ℕ} {l : CodeLast} (g : Membered s a p v old y i j l) (h : p ≤ v) where
+  pub classing_fault : (out : List ℕ) {f : ReadError} → Meeting s a v (Err f) → Classing s a p old out i (Err f)
+  classing_fault out w = record { is = (w.0, λ ps neg pr. g.answer ps neg pr ∙ w.1 ps neg (last_of l) g.xs pr) }
 
-  module _ {c : ℕ} {raw : Bool} {q : ℕ} (e : r ≡ GotByte c raw q) where
-    pub met : Meets s a v c raw q
-    met = rw e at x
-
+  module _ {c : ℕ} {raw : Bool} {q : ℕ} (met : Meets s a v c raw q) where
     pub met_reached : Reached s a (q + 1)
     met_reached = (omega (arith, met.behind), omega (arith, met.there), omega (arith, met.counted))
 
     pub classing_bad : (out : List ℕ) → ((ps : List Piece) (neg : Bool) (xs : List Member) → class_turn raw ps neg (last_of l) xs c ≡ stop bad_class)
-        → Classing s a p old out i (NoEnd BadClass q)
+        → Classing s a p old out i (refused BadClass q)
     classing_bad out k =
         record { is = (omega (arith, met.there), λ ps neg pr. g.answer ps neg pr ∙ met.refused ps neg (last_of l) g.xs pr bad_class (k ps neg g.xs)) }
 
@@ -283,7 +265,7 @@ module _ {s : List ℕ} {a p v : ℕ} {old y : List ℕ} {i j : ℕ} {l : CodeLa
       counted : n ≡ i + length (member_bytes (members_at_end (last_of l) g.xs))
       counted = rw (kept_items l g.xs, length-append, pending_items l) (omega (arith, g.used))
 
-      pub classing_empty : (out : List ℕ) → n ≡ i → Classing s a p old out i (NoEnd BadClass q)
+      pub classing_empty : (out : List ℕ) → n ≡ i → Classing s a p old out i (refused BadClass q)
       classing_empty out k =
           record {
             is = (
@@ -293,7 +275,7 @@ module _ {s : List ℕ} {a p v : ℕ} {old y : List ℕ} {i j : ℕ} {l : CodeLa
             );
           }
 
-      pub classing_end : {out : List ℕ} → (n ≡ i → ⊥) → Wrote z out n (35 ∷ 0 ∷ []) → Classing s a p old out i (Upto (q + 1) (n + 2))
+      pub classing_end : {out : List ℕ} → (n ≡ i → ⊥) → Wrote z out n (35 ∷ 0 ∷ []) → Classing s a p old out i (Ok (q + 1, n + 2))
       classing_end {out} k m =
           record {
             is = record {
@@ -311,5 +293,5 @@ module _ {s : List ℕ} {a p v : ℕ} {old y : List ℕ} {i j : ℕ} {l : CodeLa
 -- what is left in the lent bytes
 pub class_left : {s : List ℕ} {a p : ℕ} {old : List ℕ} (mid : List ℕ) {out : List ℕ} {i : ℕ} (r : Ended) → Classing s a p old mid i r → out ≡ left_by mid r → length mid ≡ length old
     → ClassRead s a p old out i r
-class_left mid (Upto q e) x o l = record { from = rw o x; zeros = tt }
-class_left {s} {a} {p} {old} mid (NoEnd f q) x o l = record { from = record { is = x.is }; zeros = zeroed old mid (NoEnd f q) o l }
+class_left mid (Ok e) x o l = record { from = rw o x; zeros = tt }
+class_left {s} {a} {p} {old} mid (Err e) x o l = record { from = record { is = x.is }; zeros = zeroed old mid (Err e) o l }

@@ -1,5 +1,5 @@
 -- What the answers about a class say of the machine.
-use Rattle.std.specs.Prelude.{ℕ, ◌+◌, ◌-◌, ◌*◌, ◌≤◌, ◌<◌, ◌≡◌, Bool, true, false, List, [], ◌∷◌, ◌++◌, length}
+use Rattle.std.specs.Prelude.{ℕ, ◌+◌, ◌-◌, ◌*◌, ◌≤◌, ◌<◌, ◌≡◌, Bool, true, false, List, [], ◌∷◌, ◌++◌, length, Option, Some, None, Result, Ok, Err}
 use Rattle.macros.specs.Bounds.{most_macro_bytes}
 use Rattle.macros.specs.Refusals.{FileRefusal}
 use Rattle.macros.specs.Refusals.FileRefusal.{bad_class}
@@ -14,18 +14,10 @@ use Rattle.read_scan.specs.Scan.MacroRead.{refused_at}
 use Rattle.form_table.specs.Form.{members_items}
 use Rattle.read_scan.specs.Scan.{fault_of, run, Reached}
 use Rattle.form_items.specs.Items.{Wrote, member_bytes}
-use Rattle.read_scan.specs.declared.FileFault.TheVariants.{Incomplete}
-use Rattle.read_scan.specs.declared.Next.{Next}
-use Rattle.read_scan.specs.declared.Next.TheVariants.{Byte, Refused as NoByte}
-use Rattle.read_class.specs.declared.ClassByte.{ClassByte}
-use Rattle.read_class.specs.declared.ClassByte.TheVariants.{Got as GotByte, Refused as NoClassByte}
+use Rattle.read_scan.specs.declared.ReadError.{ReadError}
 use Rattle.read_class.specs.declared.Last.{Last as CodeLast}
 use Rattle.read_class.specs.declared.Last.TheVariants.{Free, Member as AMember, Dash}
-use Rattle.read_class.specs.declared.Taken.{Taken}
-use Rattle.read_class.specs.declared.Taken.TheVariants.{Got as Took, BadRange}
-use Rattle.read_ends.specs.Ends.{Zeroed}
-use Rattle.read_ends.specs.declared.Ended.{Ended}
-use Rattle.read_ends.specs.declared.Ended.TheVariants.{Upto, Refused as NoEnd}
+use Rattle.read_ends.specs.Ends.{Ended, Zeroed}
 
 -- room for two bytes for each byte that the macro may still have from p on
 abbrev pub Room : List ℕ → ℕ → ℕ → ℕ → Type 0
@@ -53,11 +45,11 @@ pub record Meets (s : List ℕ) (a p c : ℕ) (raw : Bool) (q : ℕ) : Type 0 wh
       → class_turn raw ps neg l xs c ≡ stop k → run s a pr false p (members ps neg l xs) ≡ refused_at k q
 
 -- what reading the next byte of a class says, by the answer, whatever was read of the class
-abbrev pub Meeting : List ℕ → ℕ → ℕ → ClassByte → Type 0
-Meeting s a p (GotByte c raw q) = Meets s a p c raw q
-Meeting s a p (NoClassByte f q) =
-    (q ≤ length s) × ((ps : List Piece) (neg : Bool) (l : Last) (xs : List Member) (pr : Prior)
-    → run s a pr false p (members ps neg l xs) ≡ refused_at (fault_of f) q)
+abbrev pub Meeting : List ℕ → ℕ → ℕ → Result (ℕ × Bool × ℕ) ReadError → Type 0
+Meeting s a p (Ok (c, raw, q)) = Meets s a p c raw q
+Meeting s a p (Err e) =
+    (e.place ≤ length s) × ((ps : List Piece) (neg : Bool) (l : Last) (xs : List Member) (pr : Prior)
+    → run s a pr false p (members ps neg l xs) ≡ refused_at (fault_of e.fault) e.place)
 
 -- what is last, as the machine has it
 abbrev pub last_of : CodeLast → Last
@@ -87,9 +79,9 @@ pub record Takes (l : CodeLast) (c : ℕ) (raw : Bool) (k : CodeLast) (old out :
   pub room : m + pending k ≤ n + pending l + 2
 
 -- what taking a byte says, by the answer
-abbrev pub Taking : CodeLast → ℕ → Bool → List ℕ → List ℕ → ℕ → Taken → Type 0
-Taking l c raw old out n (Took k m) = Takes l c raw k old out n m
-Taking l c raw old out n BadRange =
+abbrev pub Taking : CodeLast → ℕ → Bool → List ℕ → List ℕ → ℕ → Option (CodeLast × ℕ) → Type 0
+Taking l c raw old out n (Some (k, m)) = Takes l c raw k old out n m
+Taking l c raw old out n None =
     ((ps : List Piece) (neg : Bool) (xs : List Member) → class_turn raw ps neg (last_of l) xs c ≡ stop bad_class)
 
 -- from the first member's place p up to q, members read and written from i up to j, and what is last not written
@@ -114,10 +106,10 @@ pub record Classed (s : List ℕ) (a p q : ℕ) (old out : List ℕ) (i j : ℕ)
 
 -- the members and the class, or the refusal
 abbrev pub ClassingBy : List ℕ → ℕ → ℕ → List ℕ → List ℕ → ℕ → Ended → Type 0
-ClassingBy s a p old out i (Upto q j) = Classed s a p q old out i j
-ClassingBy s a p old out i (NoEnd f q) =
-    (q ≤ length s) × ((ps : List Piece) (neg : Bool) (pr : Prior)
-    → run s a pr false p (members ps neg free []) ≡ refused_at (fault_of f) q)
+ClassingBy s a p old out i (Ok (q, j)) = Classed s a p q old out i j
+ClassingBy s a p old out i (Err e) =
+    (e.place ≤ length s) × ((ps : List Piece) (neg : Bool) (pr : Prior)
+    → run s a pr false p (members ps neg free []) ≡ refused_at (fault_of e.fault) e.place)
 
 -- what reading a class's members from p on says, by the answer
 pub record Classing (s : List ℕ) (a p : ℕ) (old out : List ℕ) (i : ℕ) (r : Ended) : Type 0 where
@@ -127,13 +119,3 @@ pub record Classing (s : List ℕ) (a p : ℕ) (old out : List ℕ) (i : ℕ) (r
 pub record ClassRead (s : List ℕ) (a p : ℕ) (old out : List ℕ) (i : ℕ) (r : Ended) : Type 0 where
   pub from : Classing s a p old out i r
   pub zeros : Zeroed old out r
-
--- a refusal of a byte handed on
-abbrev pub byte_fault : Next → ClassByte
-byte_fault (Byte b q) = NoClassByte Incomplete q
-byte_fault (NoByte f q) = NoClassByte f q
-
--- a refusal of a class's byte handed on
-abbrev pub member_fault : ClassByte → Ended
-member_fault (GotByte c raw q) = NoEnd Incomplete q
-member_fault (NoClassByte f q) = NoEnd f q
