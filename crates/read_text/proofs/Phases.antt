@@ -2,7 +2,7 @@
 -- Assumes nothing.
 use mathlib.Core.Path.{◌≡◌, refl}
 use Prim.Native.Nat.{ℕ}
-use Rattle.macros.specs.Macro.{Mark, pick, within, ascii_lower, digit}
+use Rattle.macros.specs.Macro.{pick, within, ascii_lower, digit}
 use Rattle.macros.specs.Macro.Mark.{stack, counter}
 use Rattle.macros.specs.Read.{Site, CallSite, Phase, part_byte, is_sign, turned, call_byte, otherwise, site_of, part_byte_by}
 use Rattle.macros.specs.ReadSoFar.Part.{calling}

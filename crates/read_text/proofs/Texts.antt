@@ -1,34 +1,31 @@
 -- The text of a call.
 -- Assumes nothing.
-use mathlib.Core.Path.{◌≡◌, refl, ap, sym, ◌∙◌}
+use mathlib.Core.Path.{◌≡◌, refl, ◌∙◌}
 use mathlib.Core.Bool.{Bool, true, false}
 use mathlib.Core.List.{List, [], ◌∷◌, ◌++◌, reverse, reverse-cons}
-use Prim.Native.Nat.{ℕ, ◌+◌, ◌-◌, ◌*◌, ◌%◌, ◌≤◌, ◌<◌}
+use Prim.Native.Nat.{ℕ, ◌+◌, ◌-◌, ◌%◌, ◌≤◌, ◌<◌}
 use native.Mathlib.Omega.{arith}
-use lib.Dec.{eqb, ltb}
+use lib.Dec.{eqb}
 use lib.ListN.{length, set, length-set, length-reverse, length-append}
 use borrow.Author.Tests.{eq-eqb, ne_eqb, le-ltb, lt-ltb}
 use Rattle.macros.specs.Refusals.FileRefusal.{incomplete, bad_call}
-use Rattle.macros.specs.Macro.{Move, Call, pick, among}
+use Rattle.macros.specs.Macro.{Move, pick}
 use Rattle.macros.specs.Macro.Call.{store_text}
 use Rattle.macros.specs.Formed.{number_fits}
-use Rattle.macros.specs.Read.{Part, Prior, Site, CallSite, Phase, part_byte, skips, text_byte_by, call_byte, breaks, escaped, part_byte_by}
+use Rattle.macros.specs.Read.{Prior, Site, CallSite, part_byte, skips, text_byte_by, call_byte, breaks, escaped, part_byte_by}
 use Rattle.macros.specs.ReadSoFar.Part.{calling, call_text, call_text_escape}
 use Rattle.macros.specs.ReadSoFar.Phase.{texted}
 use Rattle.macros.specs.ReadSoFar.Step.{on, stop}
 use Rattle.macros.specs.ReadCalls.Turn.{closed, wrong}
-use Rattle.read_scan.specs.Scan.MacroRead.{refused_at}
 use Rattle.form_table.specs.Form.{call_items, move_code, evened}
 use Rattle.read_scan.specs.Scan.{run, At, Here, Passes, Stays, Calls, Reached, fault_of, wrong_call}
 use Rattle.form_items.specs.Items.{Wrote}
-use Rattle.read_text.specs.Text.{Comes, Ends, Texting, TextRead, TextFrom, StoreFrom, StoreRead, PutStore, padding}
-use Rattle.read_ends.specs.Ends.{next_end, left_by}
+use Rattle.read_text.specs.Text.{Comes, Texting, TextRead, TextFrom, StoreFrom, StoreRead, PutStore, padding}
+use Rattle.std.specs.Prelude.{Ok, Err}
+use Rattle.read_scan.specs.Bytes.{Next, refused}
+use Rattle.read_ends.specs.Ends.{Ended, left_by}
 use Rattle.read_scan.specs.declared.FileFault.{FileFault}
 use Rattle.read_scan.specs.declared.FileFault.TheVariants.{Incomplete, BadCall}
-use Rattle.read_scan.specs.declared.Next.{Next}
-use Rattle.read_scan.specs.declared.Next.TheVariants.{Byte, Refused as NoByte}
-use Rattle.read_ends.specs.declared.Ended.{Ended}
-use Rattle.read_ends.specs.declared.Ended.TheVariants.{Upto, Refused as NoEnd}
 use Rattle.read_scan.proofs.Laws.{here_on, here_stop, at_on, reached_behind}
 use Rattle.form_items.proofs.Writing.{wrote_none, wrote_one, wrote_more, wrote_before}
 use Rattle.read_ends.proofs.Leaving.{zeroed}
@@ -72,14 +69,14 @@ module _ {s : List ℕ} {a p b : ℕ} (x : Here s a p b) (h : b ≡ 58 → ⊥) 
   within_file : p ≤ length s
   within_file = let t = x.stands in omega (arith, t.there)
 
-  pub text_break : breaks b ≡ true → Texting s a p k (NoByte Incomplete p)
+  pub text_break : breaks b ≡ true → Texting s a p k (refused Incomplete p)
   text_break g = (within_file, λ pl i v t l pr. here_stop x pr (call_text pl i v t) incomplete (byte_break pl i v t b h g))
 
   module _ (g : breaks b ≡ false) where
-    pub text_long : 100 ≤ k → Texting s a p k (NoByte BadCall p)
+    pub text_long : 100 ≤ k → Texting s a p k (refused BadCall p)
     text_long j = (within_file, λ pl i v t l pr. here_stop x pr (call_text pl i v t) bad_call (byte_long pl i v t b h g (omega (arith, l))))
 
-    pub text_plain : k < 100 → (b ≡ 92 → ⊥) → Texting s a p k (Byte b p)
+    pub text_plain : k < 100 → (b ≡ 92 → ⊥) → Texting s a p k (Ok (b, p))
     text_plain j e =
         let y = x.stands in
         (omega arith, y.there, y.counted, j, λ pl i v t l pr. here_on x pr (call_text pl i v t) (call_text pl i v (b ∷ t)) (λ q o. refl) (byte_plain pl i v t b h g (omega (arith, l)) e))
@@ -88,14 +85,14 @@ module _ {s : List ℕ} {a p b : ℕ} (x : Here s a p b) (h : b ≡ 58 → ⊥) 
       escape : (pl : CallSite) (i : ℕ) (v : Move) (t : List ℕ) → length t ≡ k → (pr : Prior) → run s a pr false p (call_text pl i v t) ≡ run s a pr false (p + 1) (call_text_escape pl i v t)
       escape pl i v t l pr = here_on x pr (call_text pl i v t) (call_text_escape pl i v t) (λ q o. refl) (byte_escape pl i v t b h g (omega (arith, l)) e)
 
-      pub text_none : {f : FileFault} {q : ℕ} → r ≡ NoByte f q → Texting s a p k r
+      pub text_none : {f : FileFault} {q : ℕ} → r ≡ refused f q → Texting s a p k (refused f q)
       text_none {f} {q} i =
-          let z : Stays s a (p + 1) (NoByte f q) = rw i at y in
-          rw i (z.found, λ pl i v t l pr. escape pl i v t l pr ∙ z.answer (call_text_escape pl i v t) pr)
+          let z : Stays s a (p + 1) (refused f q) = rw i at y in
+          (z.found, λ pl i v t l pr. escape pl i v t l pr ∙ z.answer (call_text_escape pl i v t) pr)
 
-      pub text_escaped : {d q c : ℕ} → r ≡ Byte d q → c ≡ escaped d → Texting s a p k (Byte c q)
+      pub text_escaped : {d q c : ℕ} → r ≡ Ok (d, q) → c ≡ escaped d → Texting s a p k (Ok (c, q))
       text_escaped {d} {q} {c} i u =
-          let z : Stays s a (p + 1) (Byte d q) = rw i at y in
+          let z : Stays s a (p + 1) (Ok (d, q)) = rw i at y in
           let same : q ≡ p + 1 = z.found.0 in
           let there = z.found.1 in
           rw u (omega arith, omega (arith, there.there), omega (arith, there.counted), j, λ pl i v t l pr. escape pl i v t l pr ∙ rw same (byte_escaped there pl i v t pr))
@@ -126,19 +123,19 @@ reading_none old n h =
     }
 
 module _ {s : List ℕ} {a p : ℕ} {old out : List ℕ} {n at k : ℕ} (g : Reading s a p old out n at k) {r : Next} (y : Passes s a at r) where
-  pub reading_fault : {f : FileFault} {q : ℕ} {w : Ended} → r ≡ NoByte f q → w ≡ next_end r → TextFrom s a p old out n w
-  reading_fault {f} {q} e i =
-      let z : Passes s a at (NoByte f q) = rw e at y in
-      rw (i ∙ ap next_end e) (z.found, λ pl i v pr. g.answer pl i v pr ∙ z.answer (call_text pl i v g.text) pr (text_skips pl i v g.text))
+  pub reading_fault : {f : FileFault} {q : ℕ} → r ≡ refused f q → TextFrom s a p old out n (refused f q)
+  reading_fault {f} {q} e =
+      let z : Passes s a at (refused f q) = rw e at y in
+      (z.found, λ pl i v pr. g.answer pl i v pr ∙ z.answer (call_text pl i v g.text) pr (text_skips pl i v g.text))
 
-  module _ {b q : ℕ} (e : r ≡ Byte b q) where
-    pub reading_byte : Passes s a at (Byte b q)
+  module _ {b q : ℕ} (e : r ≡ Ok (b, q)) where
+    pub reading_byte : Passes s a at (Ok (b, q))
     reading_byte = rw e at y
 
     there : (pl : CallSite) (i : ℕ) (v : Move) (pr : Prior) → run s a pr false p (call_text pl i v []) ≡ run s a pr false q (call_text pl i v g.text)
     there pl i v pr = g.answer pl i v pr ∙ reading_byte.answer (call_text pl i v g.text) pr (text_skips pl i v g.text)
 
-    pub reading_done : b ≡ 58 → TextFrom s a p old out n (Upto (q + 1) (n + k))
+    pub reading_done : b ≡ 58 → TextFrom s a p old out n (Ok (q + 1, n + k))
     reading_done h =
         record {
           text = g.text;
@@ -151,13 +148,13 @@ module _ {s : List ℕ} {a p : ℕ} {old out : List ℕ} {n at k : ℕ} (g : Rea
         }
 
     module _ {r' : Next} (x : Texting s a q k r') where
-      pub reading_fault_2 : {f : FileFault} {u : ℕ} {w : Ended} → r' ≡ NoByte f u → w ≡ next_end r' → TextFrom s a p old out n w
-      reading_fault_2 {f} {u} i j =
-          let z : Texting s a q k (NoByte f u) = rw i at x in
-          rw (j ∙ ap next_end i) (z.0, λ pl i v pr. there pl i v pr ∙ z.1 pl i v g.text g.size pr)
+      pub reading_fault_2 : {f : FileFault} {u : ℕ} → r' ≡ refused f u → TextFrom s a p old out n (refused f u)
+      reading_fault_2 {f} {u} i =
+          let z : Texting s a q k (refused f u) = rw i at x in
+          (z.0, λ pl i v pr. there pl i v pr ∙ z.1 pl i v g.text g.size pr)
 
-      module _ {c u : ℕ} (i : r' ≡ Byte c u) where
-        pub reading_text : Texting s a q k (Byte c u)
+      module _ {c u : ℕ} (i : r' ≡ Ok (c, u)) where
+        pub reading_text : Texting s a q k (Ok (c, u))
         reading_text = rw i at x
 
         pub reading_on : n + k < length out → Reading s a p old (set out (n + k) c) n (u + 1) (k + 1)
@@ -228,12 +225,7 @@ apart : (n : ℕ) → n + 2 + 2 ≡ n + 4
 apart n = omega arith
 
 module _ (s : List ℕ) (a p : ℕ) (old mid : List ℕ) (n i m : ℕ) {r : Ended} (y : TextFrom s a p old mid (n + 4) r) where
-  pub store_fault : {f : FileFault} {q : ℕ} → r ≡ NoEnd f q → StoreFrom s a p old mid n i m r
-  store_fault {f} {q} e =
-      let z : TextFrom s a p old mid (n + 4) (NoEnd f q) = rw e at y in
-      rw e (λ v h si k. (z.0, λ pl u t pr. z.1 pl i v pr))
-
-  module _ {q e : ℕ} (j : r ≡ Upto q e) where
+  module _ {q e : ℕ} (j : r ≡ Ok (q, e)) where
     pub store_text_lem : TextRead s a p old mid (n + 4) q e
     store_text_lem = rw j at y
 
@@ -241,15 +233,15 @@ module _ (s : List ℕ) (a p : ℕ) (old mid : List ℕ) (n i m : ℕ) {r : Ende
     comes v si k pl u t pr = store_text_lem.answer pl i v pr
 
     module _ {r' : Next} (z : Calls s a q r') where
-      pub store_none : {f : FileFault} {u : ℕ} {w : Ended} → r' ≡ NoByte f u → w ≡ next_end r' → StoreFrom s a p old mid n i m w
-      store_none {f} {u} {w} g h v l si k =
-          ends_none s a p old mid n 4 si k (λ pl. call_text pl i v []) (texted i v store_text_lem.text) (comes v si k) z g h
+      pub store_none : {f : FileFault} {u : ℕ} → r' ≡ refused f u → StoreFrom s a p old mid n i m (refused f u)
+      store_none {f} {u} g v l si k =
+          ends_none s a p old mid n 4 si k (λ pl. call_text pl i v []) (texted i v store_text_lem.text) (comes v si k) (rw g at z)
 
-      module _ {b u : ℕ} (j' : r' ≡ Byte b u) where
-        pub store_byte : Calls s a q (Byte b u)
+      module _ {b u : ℕ} (j' : r' ≡ Ok (b, u)) where
+        pub store_byte : Calls s a q (Ok (b, u))
         store_byte = rw j' at z
 
-        pub store_wrong : (f : FileFault) → (b ≡ 41 → ⊥) → fault_of f ≡ wrong_call b → StoreFrom s a p old mid n i m (NoEnd f u)
+        pub store_wrong : (f : FileFault) → (b ≡ 41 → ⊥) → fault_of f ≡ wrong_call b → StoreFrom s a p old mid n i m (refused f u)
         store_wrong f h g v l si k =
             ends_wrong s a p old mid n 4 si k (λ pl. call_text pl i v []) (texted i v store_text_lem.text)
             (λ pl x t pr. comes v si k pl x t pr ∙ store_byte.answer (calling pl (texted i v store_text_lem.text)) pr (call_skips pl _) (space_call pl _))
@@ -260,7 +252,7 @@ module _ (s : List ℕ) (a p : ℕ) (old mid : List ℕ) (n i m : ℕ) {r : Ende
 
         store_done : {mid₂ mid₃ out : List ℕ} {e' : ℕ} → b ≡ 41 → n + 4 ≤ length old → n + 4 ≤ length mid₂ → n + 4 ≤ length mid₃
             → Wrote mid mid₂ e (padding (e - (n + 4))) → e' ≡ e + length (padding (e - (n + 4)))
-            → Wrote mid₂ mid₃ (n + 2) (43 ∷ (e - (n + 4)) ∷ []) → Wrote mid₃ out n ((72 + m) ∷ i ∷ []) → StoreFrom s a p old out n i m (Upto (u + 1) e')
+            → Wrote mid₂ mid₃ (n + 2) (43 ∷ (e - (n + 4)) ∷ []) → Wrote mid₃ out n ((72 + m) ∷ i ∷ []) → StoreFrom s a p old out n i m (Ok (u + 1, e'))
         store_done {mid₂} {mid₃} {out} {e'} h l₀ l₂ l₃ w₁ g w₂ w₃ v c si k =
             let t = store_text_lem in
             let f = store_byte.found in
@@ -279,11 +271,11 @@ module _ (s : List ℕ) (a p : ℕ) (old mid : List ℕ) (n i m : ℕ) {r : Ende
             (rw (store_items i v (reverse t.text)) (omega (arith, sized, long, t.used, g)))
             (omega (arith, g, t.used, t.room, f.0, padding_most (e - (n + 4)))) (omega (arith, t.room, f.0))
 
-        pub store_put : {out : List ℕ} {e' : ℕ} → b ≡ 41 → n + 4 ≤ length old → length mid ≡ length old → PutStore mid out n e i m e' → StoreFrom s a p old out n i m (Upto (u + 1) e')
+        pub store_put : {out : List ℕ} {e' : ℕ} → b ≡ 41 → n + 4 ≤ length old → length mid ≡ length old → PutStore mid out n e i m e' → StoreFrom s a p old out n i m (Ok (u + 1, e'))
         store_put h l g w = store_done h l (omega (arith, w.3)) (omega (arith, w.4)) w.5 w.0 w.6 w.7
 
 -- what is left in the lent bytes
 pub store_left : {s : List ℕ} {a p : ℕ} {old : List ℕ} (mid : List ℕ) {out : List ℕ} {n i m : ℕ} (r : Ended) → StoreFrom s a p old mid n i m r → out ≡ left_by mid r → length mid ≡ length old
     → StoreRead s a p old out n i m r
-store_left mid (Upto q e) x o l = record { from = rw o x; zeros = tt }
-store_left {s} {a} {p} {old} mid (NoEnd f q) x o l = record { from = λ v e si k. x v e si k; zeros = zeroed old mid (NoEnd f q) o l }
+store_left mid (Ok (q, e)) x o l = record { from = rw o x; zeros = tt }
+store_left {s} {a} {p} {old} mid (Err d) x o l = record { from = λ v e si k. x v e si k; zeros = zeroed old mid (Err d) o l }

@@ -13,8 +13,9 @@ use Rattle.macros.specs.ReadSoFar.Step.{on, stop}
 use Rattle.macros.specs.ReadCalls.Turn.{into, text_of, closed, wrong}
 use Rattle.read_scan.specs.Scan.MacroRead.{refused_at}
 use Rattle.read_scan.specs.Scan.{run, Here, Calls, fault_of, wrong_call}
+use Rattle.std.specs.Prelude.{Ok}
+use Rattle.read_scan.specs.Bytes.{refused}
 use Rattle.read_scan.specs.declared.FileFault.{FileFault}
-use Rattle.read_scan.specs.declared.Next.TheVariants.{Byte, Refused as NoByte}
 use Rattle.read_scan.proofs.Laws.{here_on, here_stop}
 use Rattle.read_text.proofs.Phases.{space_call, wrong_call_lem}
 
@@ -42,10 +43,10 @@ call_skips pl ph = refl
 
 module _ {s : List ℕ} {a p : ℕ} (pl : CallSite) (ph : Phase) (pr : Prior) where
   -- to the next byte of a call
-  pub call_next : {c q : ℕ} → Calls s a p (Byte c q) → run s a pr false p (calling pl ph) ≡ run s a pr false q (calling pl ph)
+  pub call_next : {c q : ℕ} → Calls s a p (Ok (c, q)) → run s a pr false p (calling pl ph) ≡ run s a pr false q (calling pl ph)
   call_next y = y.answer (calling pl ph) pr (call_skips pl ph) (space_call pl ph)
 
-  pub call_none : {f : FileFault} {q : ℕ} → Calls s a p (NoByte f q) → run s a pr false p (calling pl ph) ≡ refused_at (fault_of f) q
+  pub call_none : {f : FileFault} {q : ℕ} → Calls s a p (refused f q) → run s a pr false p (calling pl ph) ≡ refused_at (fault_of f) q
   call_none y = y.answer (calling pl ph) pr (call_skips pl ph) (space_call pl ph)
 
   module _ {b : ℕ} (x : Here s a p b) where

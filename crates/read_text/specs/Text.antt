@@ -1,5 +1,5 @@
 -- The text of a call, and the end of any call: what reading them says of the machine.
-use Rattle.std.specs.Prelude.{ℕ, ◌+◌, ◌-◌, ◌*◌, ◌%◌, ◌≤◌, ◌<◌, ◌≡◌, false, List, [], ◌∷◌, reverse, eqb, length}
+use Rattle.std.specs.Prelude.{ℕ, ◌+◌, ◌-◌, ◌*◌, ◌%◌, ◌≤◌, ◌<◌, ◌≡◌, false, List, [], ◌∷◌, reverse, eqb, length, Ok, Err}
 use Rattle.macros.specs.Macro.{Move, Call, pick, tags}
 use Rattle.macros.specs.Read.{Part, Prior, Site, CallSite, site_of, pieces_of, behind_call}
 use Rattle.macros.specs.ReadSoFar.Part.{calling, call_text}
@@ -8,11 +8,8 @@ use Rattle.read_scan.specs.Scan.MacroRead.{refused_at}
 use Rattle.form_table.specs.Form.{call_items, move_code}
 use Rattle.read_scan.specs.Scan.{fault_of, run, Reached}
 use Rattle.form_items.specs.Items.{Wrote}
-use Rattle.read_ends.specs.Ends.{Zeroed}
-use Rattle.read_scan.specs.declared.Next.{Next}
-use Rattle.read_scan.specs.declared.Next.TheVariants.{Byte, Refused as NoByte}
-use Rattle.read_ends.specs.declared.Ended.{Ended}
-use Rattle.read_ends.specs.declared.Ended.TheVariants.{Upto, Refused as NoEnd}
+use Rattle.read_scan.specs.Bytes.{Next}
+use Rattle.read_ends.specs.Ends.{Ended, Zeroed}
 
 -- THE ENDS OF CALLS
 
@@ -35,22 +32,22 @@ pub record Called (s : List ℕ) (a p : ℕ) (old out : List ℕ) (n x : ℕ) (s
 
 -- what reading to the end of a call says
 abbrev pub Ends : List ℕ → ℕ → ℕ → List ℕ → List ℕ → ℕ → ℕ → Site → ℕ → (CallSite → Part) → Ended → Type 0
-Ends s a p old out n x si k F (Upto q e) = Called s a p old out n x si k F q e
-Ends s a p old out n x si k F (NoEnd f q) =
-    (q ≤ length s) × ((pl : CallSite) → site_of pl ≡ si → tags (pieces_of pl) ≡ k → (pr : Prior)
-    → run s a pr false p (F pl) ≡ refused_at (fault_of f) q)
+Ends s a p old out n x si k F (Ok (q, e)) = Called s a p old out n x si k F q e
+Ends s a p old out n x si k F (Err d) =
+    (d.place ≤ length s) × ((pl : CallSite) → site_of pl ≡ si → tags (pieces_of pl) ≡ k → (pr : Prior)
+    → run s a pr false p (F pl) ≡ refused_at (fault_of d.fault) d.place)
 
 -- TEXT
 
 -- what a byte of a text of k bytes says, spelled from p up to q
 abbrev pub Texting : List ℕ → ℕ → ℕ → ℕ → Next → Type 0
-Texting s a p k (Byte b q) =
+Texting s a p k (Ok (b, q)) =
     (p ≤ q) × (q < length s) × (q ≤ a + 512) × (k < 100)
     × ((pl : CallSite) (i : ℕ) (v : Move) (t : List ℕ) → length t ≡ k → (pr : Prior)
     → run s a pr false p (call_text pl i v t) ≡ run s a pr false (q + 1) (call_text pl i v (b ∷ t)))
-Texting s a p k (NoByte f q) =
-    (q ≤ length s) × ((pl : CallSite) (i : ℕ) (v : Move) (t : List ℕ) → length t ≡ k → (pr : Prior)
-    → run s a pr false p (call_text pl i v t) ≡ refused_at (fault_of f) q)
+Texting s a p k (Err d) =
+    (d.place ≤ length s) × ((pl : CallSite) (i : ℕ) (v : Move) (t : List ℕ) → length t ≡ k → (pr : Prior)
+    → run s a pr false p (call_text pl i v t) ≡ refused_at (fault_of d.fault) d.place)
 
 -- the text t, newest byte first, read from p up to q and written from n up to e
 pub record TextRead (s : List ℕ) (a p : ℕ) (old out : List ℕ) (n q e : ℕ) : Type 0 where
@@ -65,10 +62,10 @@ pub record TextRead (s : List ℕ) (a p : ℕ) (old out : List ℕ) (n q e : ℕ
 
 -- what reading the text of `&(i:text:)` gives
 abbrev pub TextFrom : List ℕ → ℕ → ℕ → List ℕ → List ℕ → ℕ → Ended → Type 0
-TextFrom s a p old out n (Upto q e) = TextRead s a p old out n q e
-TextFrom s a p old out n (NoEnd f q) =
-    (q ≤ length s) × ((pl : CallSite) (i : ℕ) (v : Move) (pr : Prior)
-    → run s a pr false p (call_text pl i v []) ≡ refused_at (fault_of f) q)
+TextFrom s a p old out n (Ok (q, e)) = TextRead s a p old out n q e
+TextFrom s a p old out n (Err d) =
+    (d.place ≤ length s) × ((pl : CallSite) (i : ℕ) (v : Move) (pr : Prior)
+    → run s a pr false p (call_text pl i v []) ≡ refused_at (fault_of d.fault) d.place)
 
 -- behind a text of k bytes
 unfoldable pub padding : ℕ → List ℕ

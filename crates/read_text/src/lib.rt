@@ -9,53 +9,50 @@ ghost use Rattle.read_text.specs.Text.{Texting, TextFrom, StoreFrom, StoreRead, 
 use form_items::codes::{STORE_TEXT, STORED_SIZE};
 use form_items::put_item;
 use read_bytes::{escaped_byte, is_break};
-use read_ends::{Ended, next_end, or_zeros};
+use read_ends::or_zeros;
 use read_scan::scan::{any_byte, call_byte, next_byte, wrong_byte};
-use read_scan::{FileFault, Next};
+use read_scan::{FileFault, ReadError};
 
 // The bytes of an entry.
 const MOST_ENTRY_BYTES: usize = 100;
 
 // A byte of a text that has k bytes so far, from b on, with its last place: a raw quote, `;` or line feed is 12, the 101st byte 16.
-fn text_byte(s: &[u8], a: usize, at: usize, b: u8, k: usize) -> Next
+fn text_byte(s: &[u8], a: usize, at: usize, b: u8, k: usize) -> Result<(u8, usize), ReadError>
     requires { Here s.now a at b × (b ≡ 58 → ⊥) }
     ensures { Texting s.now a at k result }
 {
     if is_break(b) {
-        return Next::Refused(FileFault::Incomplete, at);
+        return Err(FileFault::Incomplete.at(at));
     }
     if MOST_ENTRY_BYTES <= k {
-        return Next::Refused(FileFault::BadCall, at);
+        return Err(FileFault::BadCall.at(at));
     }
     if b != b'\\' {
-        return Next::Byte(b, at);
+        return Ok((b, at));
     }
-    let raw = any_byte(s, a, at + 1);
-    let Next::Byte(e, z) = raw else {
-        return raw;
-    };
-    Next::Byte(escaped_byte(e), z)
+    let (e, z) = any_byte(s, a, at + 1)?;
+    Ok((escaped_byte(e), z))
 }
 
 // A text up to its `:`, written from n on.
-fn put_text(s: &[u8], out: &mut [u8], a: usize, first: usize, n: usize) -> Ended
+fn put_text(
+    s: &[u8],
+    out: &mut [u8],
+    a: usize,
+    first: usize,
+    n: usize,
+) -> Result<(usize, usize), ReadError>
     requires { Reached s.now a first × (n + 2 * (a + 513 - first) ≤ length out.old) }
     ensures { TextFrom s.now a first out.old out.new n result }
 {
     let mut at = first;
     let mut k: usize = 0;
     loop {
-        let next = next_byte(s, a, at);
-        let Next::Byte(b, q) = next else {
-            return next_end(next);
-        };
+        let (b, q) = next_byte(s, a, at)?;
         if b == b':' {
-            return Ended::Upto(q + 1, n + k);
+            return Ok((q + 1, n + k));
         }
-        let text = text_byte(s, a, q, b, k);
-        let Next::Byte(c, z) = text else {
-            return next_end(text);
-        };
+        let (c, z) = text_byte(s, a, q, b, k)?;
         out[n + k] = c;
         at = z + 1;
         k = k + 1;
@@ -86,27 +83,37 @@ fn put_store(out: &mut [u8], n: usize, e: usize, i: u8, m: u8) -> usize
 }
 
 // Behind the `:` of the letter i with the move m. The text's length is stored when it is known.
-fn text_items(s: &[u8], out: &mut [u8], a: usize, at: usize, n: usize, i: u8, m: u8) -> Ended
+fn text_items(
+    s: &[u8],
+    out: &mut [u8],
+    a: usize,
+    at: usize,
+    n: usize,
+    i: u8,
+    m: u8,
+) -> Result<(usize, usize), ReadError>
     requires { Reached s.now a at × (n + 4 + 2 * (a + 513 - at) ≤ length out.old) × (m ≤ 4) }
     ensures { StoreFrom s.now a at out.old out.new n i m result }
 {
-    let text = put_text(s, out, a, at, n + 4);
-    let Ended::Upto(q, e) = text else {
-        return text;
-    };
-    let next = call_byte(s, a, q);
-    let Next::Byte(b, z) = next else {
-        return next_end(next);
-    };
+    let (q, e) = put_text(s, out, a, at, n + 4)?;
+    let (b, z) = call_byte(s, a, q)?;
     if b != b')' {
-        return Ended::Refused(wrong_byte(b), z);
+        return Err(wrong_byte(b).at(z));
     }
     let end = put_store(out, n, e, i, m);
-    Ended::Upto(z + 1, end)
+    Ok((z + 1, end))
 }
 
 // Reads a call that stores a text, from behind its `:`; a refusal leaves zeros in the lent bytes.
-pub fn text_call(s: &[u8], out: &mut [u8], a: usize, at: usize, n: usize, i: u8, m: u8) -> Ended
+pub fn text_call(
+    s: &[u8],
+    out: &mut [u8],
+    a: usize,
+    at: usize,
+    n: usize,
+    i: u8,
+    m: u8,
+) -> Result<(usize, usize), ReadError>
     requires { Reached s.now a at × (n + 4 + 2 * (a + 513 - at) ≤ length out.old) × (m ≤ 4) }
     ensures { StoreRead s.now a at out.old out.new n i m result }
 {
