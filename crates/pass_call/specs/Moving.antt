@@ -1,7 +1,6 @@
 -- What a call moves and sets (01, part 4), from its code.
-use Rattle.std.specs.Prelude.{ℕ, ◌+◌, ◌-◌, ◌%◌, Bool, eqb, ltb}
+use Rattle.std.specs.Prelude.{ℕ, ◌+◌, ◌%◌, Bool, eqb, ltb}
 use Rattle.macros.specs.Macro.{Sign, pick, within}
-use Rattle.macros.specs.Macro.Mark.{counter}
 use Rattle.macros.specs.Macro.Sign.{plus, minus}
 use Rattle.lines.specs.Replacing.{Work, Done, fallen, moves, with_pointer, with_value, with_increment}
 use Rattle.lines.specs.Replacing.Done.{good}

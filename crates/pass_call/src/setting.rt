@@ -6,9 +6,7 @@ ghost use Rattle.lines.specs.Replacing.{with_pointer, with_value, with_increment
 ghost use Rattle.form_state.specs.Access.{Holds, IsState, OfWork};
 
 use form_bytes::put_number;
-use form_items::clear;
 use form_state::{entry_at, letter_number};
-use pass_steps::copy;
 
 // The pointer of the stack i.
 pub(crate) fn set_pointer(state: &mut [u8], i: u8, n: u8)
@@ -41,6 +39,7 @@ pub(crate) fn set_entry(state: &mut [u8], i: u8, text: &[u8])
     ensures { OfWork state.old (λ w. Holds state.new (with_entry i text.now w).state) }
 {
     let at = entry_at(state, i);
-    copy(state, at, text);
-    clear(state, at + text.len(), 100 - text.len());
+    let end = at + text.len();
+    state[at..end].copy_from_slice(text);
+    state[end..at + 100].fill(0);
 }

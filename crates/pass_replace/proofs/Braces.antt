@@ -1,5 +1,5 @@
 -- The text of a tag, one item of the pattern at a time.
-use Prim.Native.Nat.{ℕ, zero, suc, ◌+◌, ◌-◌, ◌*◌, ◌≤◌, ◌<◌}
+use Prim.Native.Nat.{ℕ, zero, suc, ◌+◌, ◌-◌, ◌*◌, ◌≤◌, ◌<◌, min}
 use mathlib.Core.Path.{◌≡◌, refl, sym, ap, ◌∙◌}
 use mathlib.Core.Bool.{Bool, true, false}
 use mathlib.Core.List.{List, [], ◌∷◌, ◌++◌}
@@ -148,29 +148,20 @@ close_inside n (c ∷ b ∷ l) ends z h =
     step_inside (eqb c 1) (eqb c 2) n (get_or ends 0 0) (λ k. close_in k l (drop 2 ends)) z (h 0)
     (λ k. close_inside k l (drop 2 ends) z (λ i. let e : get_or (drop 2 ends) i 0 ≡ get_or ends (2 + i) 0 = get_or-drop 2 ends i 0 in let g = h (2 + i) in omega arith))
 
--- the lesser of two numbers
-module _ (a b : ℕ) where
-  pub least_second : b < a → b ≡ pick (ltb b a) b a
-  unfolding pick
-  least_second h = rw (lt-ltb b a h)
-
-  pub least_first : a ≤ b → a ≡ pick (ltb b a) b a
-  unfolding pick
-  least_first h = rw (le-ltb b a h)
-
 -- a tag that would end before its start is empty
-least_part : (t : List ℕ) (a b : ℕ) → slice (pick (ltb b a) b a) b t ≡ slice a b t
-least_part t a b =
-    by_pick (λ (r : ℕ). slice r b t ≡ slice a b t) (ltb b a) b a
-    (λ e. slice_empty b t ∙ sym (drop_of_length-le (take b t) {i = a} (let y = ltb-true b a e in let z = length-take b t in omega arith)))
-    (λ e. refl)
-
-least_below : (a b : ℕ) → pick (ltb b a) b a ≤ b
-least_below a b = by_pick (λ (r : ℕ). r ≤ b) (ltb b a) b a (λ e. omega arith) (λ e. ltb-false b a e)
+least_part : (t : List ℕ) (a b : ℕ) → slice (min a b) b t ≡ slice a b t
+least_part t a b = by (ltb b a) refl
+  where
+    by : (x : Bool) → ltb b a ≡ x → slice (min a b) b t ≡ slice a b t
+    by true e =
+        ap (λ (r : ℕ). slice r b t) (let y = ltb-true b a e in let z : min a b ≡ b = omega arith in z)
+        ∙ slice_empty b t
+        ∙ sym (drop_of_length-le (take b t) {i = a} (let y = ltb-true b a e in let z = length-take b t in omega arith))
+    by false e = ap (λ (r : ℕ). slice r b t) (let y = ltb-false b a e in let z : min a b ≡ a = omega arith in z)
 
 -- the tag's text, as it is found at item i
 pub spans_here : (pat ends : List ℕ) (n m i : ℕ) {from to : ℕ} → ((t : List ℕ) → tag_in t n pat ends ≡ tag_in t m (drop i pat) (drop i ends)) → i + 1 < length pat → get_or pat i 0 ≡ 1 → m < 1
-    → (a : ℕ) → a ≡ get_or ends i 0 → to ≡ close_in 0 (drop (i + 2) pat) (drop (i + 2) ends) → from ≡ pick (ltb to a) to a → Spans (λ t. tag_in t n pat ends) ends from to
+    → (a : ℕ) → a ≡ get_or ends i 0 → to ≡ close_in 0 (drop (i + 2) pat) (drop (i + 2) ends) → from ≡ min a to → Spans (λ t. tag_in t n pat ends) ends from to
 spans_here pat ends n m i {from} {to} inv h e l a f g o =
     record {
       text = λ t.
@@ -180,7 +171,7 @@ spans_here pat ends n m i {from} {to} inv h e l a f g o =
           ∙ ap (λ (x : ℕ). slice a x t) (sym g)
           ∙ sym (least_part t a to)
           ∙ ap (λ (x : ℕ). slice x to t) (sym o);
-      ordered = let x = least_below a to in omega arith;
+      ordered = omega arith;
       inside = λ z w. let x = close_inside 0 (drop (i + 2) pat) (drop (i + 2) ends) z (λ j. let y = get_or-drop (i + 2) ends j 0 in let v = w (i + 2 + j) in omega arith) in omega arith;
     }
 

@@ -14,7 +14,8 @@ use Rattle.pass_replace.specs.Contract.{IsSlot, IsDivided, Lent, Occurs}
 use Rattle.pass_replace.specs.Tags.{Divided}
 use Rattle.pass_replace.specs.Acting.{act_in, acts_in, Fits}
 use Rattle.pass_steps.specs.Moments.{Does}
-use Rattle.refusals.specs.declared.Outcome.{Outcome}
+use Rattle.refusals.specs.declared.WorkError.{WorkError}
+use Rattle.std.specs.Prelude.{Result}
 use Rattle.pass_replace.proofs.Braces.{tag_is}
 use Rattle.pass_replace.proofs.Decoding.{actions_do, both_do}
 use Rattle.pass_replace.proofs.Parts.{slot_long, pattern_long, parts_short, pattern_here, actions_here, actions_all, actions_fitting}
@@ -64,7 +65,7 @@ module _ {s ends t b out : List ℕ} {size : ℕ} (h : Lent s ends t b out size)
       ∙ ap (λ (l : List ℕ). act_in (acts_in t (pattern_items es) ends) 0 l w) (actions_all s m e.macro ∙ sym (actions_here s m e.macro p q r v))
       ∙ ap (λ (l : List ℕ). act_in (acts_in t l ends) 0 items w) (sym (pattern_here s m e.macro p q))
 
-  pub occurs : {b₁ out₁ : List ℕ} {a : Outcome} → Does (act_in (acts_in t pat ends) 0 items) out b size out₁ b₁ a → Occurs s ends t b b₁ out out₁ size a
+  pub occurs : {b₁ out₁ : List ℕ} {a : Result ℕ WorkError} → Does (act_in (acts_in t pat ends) 0 items) out b size out₁ b₁ a → Occurs s ends t b b₁ out out₁ size a
   occurs does =
       record {
         comes = λ m d e w im. let z = does.comes w im in (z.0, same_step m d e w ∙ z.1, z.2);

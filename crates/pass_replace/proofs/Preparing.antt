@@ -19,8 +19,8 @@ use Rattle.pass_steps.specs.Moments.{IsMoment, Does}
 use Rattle.pass_replace.specs.Contract.{Prepared, Prepares}
 use Rattle.pass_replace.specs.Tags.{tag_in, Divided}
 use Rattle.pass_replace.specs.Acting.{act_in, acts_in, Fits}
-use Rattle.refusals.specs.declared.Outcome.{Outcome}
-use Rattle.refusals.specs.declared.Outcome.TheVariants.{Made}
+use Rattle.refusals.specs.declared.WorkError.{WorkError}
+use Rattle.std.specs.Prelude.{Result, Ok}
 use Rattle.pass_replace.proofs.Decoding.{actions_do, commands_as}
 use Rattle.pass_replace.proofs.Parts.{slot_long, before_long, parts_short, before_here, calls_fitting}
 
@@ -77,7 +77,7 @@ no_items [] h w = refl
 no_items (_ ∷ l) h w = absurd (omega arith)
 
 module _ {s b : List ℕ} {x : ℕ} (p : x ≡ two_at s 2) where
-  pub prepares : {out b₁ out₁ : List ℕ} {r : Outcome}
+  pub prepares : {out b₁ out₁ : List ℕ} {r : Result ℕ WorkError}
       → Does (act_in (acts_in [] [] (replicate body_bytes 0)) 0 (take (10 + x - 10) (drop 10 s))) out b 0 out₁ b₁ r → Prepares s b b₁ r
   prepares {out} does =
       record {
@@ -87,7 +87,7 @@ module _ {s b : List ℕ} {x : ℕ} (p : x ≡ two_at s 2) where
             (v.0, calls_do_lem (replicate body_bytes 0) m (start_in st) ∙ e ∙ v.1, v.2.size, v.2.state);
       }
 
-  pub prepares_none : x < 1 → Prepares s b b (Made 0)
+  pub prepares_none : x ≡ 0 → Prepares s b b (Ok 0)
   prepares_none few =
       record {
         comes = λ m i st h.

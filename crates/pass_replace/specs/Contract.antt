@@ -1,5 +1,5 @@
 -- What the functions of an occurrence (01, part 4) and of the calls before a pattern (02, N2) promise.
-use Rattle.std.specs.Prelude.{ℕ, ◌+◌, ◌≤◌, ◌≡◌, List, [], ◌∷◌, length, get_or, drop}
+use Rattle.std.specs.Prelude.{ℕ, ◌+◌, ◌≤◌, ◌≡◌, List, [], ◌∷◌, length, get_or, drop, Result}
 use Rattle.macros.specs.Bounds.{most_line_bytes}
 use Rattle.macros.specs.Macro.{Piece, Macro}
 use Rattle.macros.specs.Formed.{Bytes}
@@ -9,7 +9,7 @@ use Rattle.lines.specs.State.{State}
 use Rattle.lines.specs.Matching.{Division, stops}
 use Rattle.lines.specs.Replacing.{Work, start_in, before_acts, occur}
 use Rattle.form_state.specs.Access.{Holds, IsState}
-use Rattle.refusals.specs.declared.Outcome.{Outcome}
+use Rattle.refusals.specs.declared.WorkError.{WorkError}
 use Rattle.pass_steps.specs.Moments.{IsMoment, done_of, size_of}
 
 -- the bytes s are the slot of the macro m, which some file spells
@@ -41,7 +41,7 @@ pub record Lent (s ends t b out : List ℕ) (size : ℕ) : Type 0 where
   pub sized : size ≤ most_line_bytes
 
 -- the moment that the memories hold then is that of the definition, done or refused; behind the new line nothing changes
-pub record Occurs (s ends t b b' out out' : List ℕ) (size : ℕ) (r : Outcome) : Type 0 where
+pub record Occurs (s ends t b b' out out' : List ℕ) (size : ℕ) (r : Result ℕ WorkError) : Type 0 where
   pub comes : (m : Macro) (d : Division) → IsDivided s ends m d → (w : Work) → IsMoment out b size w
       → (v : Work) × (occur m t d w ≡ done_of r v) × IsMoment out' b' (size_of r) v
   pub past : drop (size_of r) out' ≡ drop (size_of r) out
@@ -55,6 +55,6 @@ pub record Prepared (s b : List ℕ) : Type 0 where
   pub state : IsState b
 
 -- the state that is held then is that of the definition, done or refused, and the answer has the bytes of its new line
-pub record Prepares (s b b' : List ℕ) (r : Outcome) : Type 0 where
+pub record Prepares (s b b' : List ℕ) (r : Result ℕ WorkError) : Type 0 where
   pub comes : (m : Macro) → IsSlot s m → (st : State) → Holds b st
       → (v : Work) × (before_acts m (start_in st) ≡ done_of r v) × (v.size ≡ size_of r) × Holds b' v.state

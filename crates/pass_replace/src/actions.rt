@@ -14,33 +14,37 @@ use form_bytes::number_at;
 use form_items::action_size;
 use form_state::value;
 use pass_call::{set, shift, store};
-use pass_steps::{Span, Text, is_within, part};
+use pass_steps::{Span, Text, part};
 use pass_texts::{insert, put_divided};
-use refusals::Outcome;
+use refusals::WorkError;
 
 // The text of `&(i:text:)`.
 fn text_in(t: &[u8]) -> &[u8]
     requires { Fit t.now × (72 ≤ get_or t.now 0 0) × (get_or t.now 0 0 < 80) }
     ensures { result.now ≡ text_in t.now }
 {
-    let end = 4 + t[3] as usize;
+    let end = 4 + usize::from(t[3]);
     &t[4..end]
 }
 
 // What an action stores or sets. While a tag is stored the state is not lent: a tag's text stands in the line.
-fn change(line: &[u8], span: Span, t: &[u8], state: &mut [u8], size: usize) -> Outcome
+fn change(
+    line: &[u8],
+    span: Span,
+    t: &[u8],
+    state: &mut [u8],
+    size: usize,
+) -> Result<usize, WorkError>
     requires { Cut line.now span.from span.to × Fit t.now × IsState state.old × (64 ≤ get_or t.now 0 0) × (get_or t.now 0 0 < 104) }
     ensures { Changes (access_in (slice span.from span.to line.now) t.now) state.old size state.new result }
 {
     let code = t[0];
     let i = t[1];
-    if code < 72 {
-        return store(state, i, part(line, b"", Text::Tag(span)), size);
+    match code {
+        ..72 => store(state, i, part(line, b"", Text::Tag(span)), size),
+        72..80 => store(state, i, text_in(t), size),
+        _ => set(state, code, i, number_at(t, 2), size),
     }
-    if code < 80 {
-        return store(state, i, text_in(t), size);
-    }
-    set(state, code, i, number_at(t, 2), size)
 }
 
 // An action without its moves: it inserts, stores, sets or inserts a quotient.
@@ -51,18 +55,15 @@ fn access(
     state: &mut [u8],
     out: &mut [u8],
     size: usize,
-) -> Outcome
+) -> Result<usize, WorkError>
     requires { Cut line.now span.from span.to × Fit t.now × IsState state.old × Room out.old size }
     ensures { Does (access_in (slice span.from span.to line.now) t.now) out.old state.old size out.new state.new result }
 {
-    let code = t[0];
-    if code < 64 {
-        return insert(line, span, t, state, out, size);
+    match t[0] {
+        ..64 => insert(line, span, t, state, out, size),
+        64..104 => change(line, span, t, state, size),
+        _ => put_divided(value(state, t[1]), number_at(t, 2), out, size),
     }
-    if code < 104 {
-        return change(line, span, t, state, size);
-    }
-    put_divided(value(state, t[1]), number_at(t, 2), out, size)
 }
 
 // "the pointer moves before or after the access"; the counter likewise.
@@ -73,18 +74,15 @@ fn action(
     state: &mut [u8],
     out: &mut [u8],
     size: usize,
-) -> Outcome
+) -> Result<usize, WorkError>
     requires { Cut line.now span.from span.to × Fit t.now × IsState state.old × Room out.old size }
     ensures { Does (action_in (slice span.from span.to line.now) t.now) out.old state.old size out.new state.new result }
 {
     let code = t[0];
     let i = t[1];
-    let ready = shift(state, code, i, 1, Outcome::Made(size));
-    let Outcome::Made(m) = ready else {
-        return ready;
-    };
-    let done = access(line, span, t, state, out, m);
-    shift(state, code, i, 3, done)
+    let size = shift(state, code, i, 1, size)?;
+    let size = access(line, span, t, state, out, size)?;
+    shift(state, code, i, 3, size)
 }
 
 // The span of the tag that the action takes: `{n}` or `&(n,i)`; any other takes none.
@@ -92,14 +90,11 @@ fn span_of(pat: &[u8], ends: &[u16], t: &[u8]) -> Span
     requires { Ended pat.now ends.now × Fit t.now }
     ensures { Spans (λ l. tagged_in l pat.now ends.now t.now) ends.now result.from result.to }
 {
-    let code = t[0];
-    if code == 41 {
-        return tag_of(pat, ends, t[1]);
+    match t[0] {
+        41 => tag_of(pat, ends, t[1]),
+        64..=71 => tag_of(pat, ends, t[3]),
+        _ => Span { from: 0, to: 0 },
     }
-    if is_within(64, 71, code) {
-        return tag_of(pat, ends, t[3]);
-    }
-    Span { from: 0, to: 0 }
 }
 
 // The actions, left to right. What they insert goes straight to the new line, behind its size bytes.
@@ -111,21 +106,16 @@ pub(crate) fn act(
     state: &mut [u8],
     out: &mut [u8],
     size: usize,
-) -> Outcome
+) -> Result<usize, WorkError>
     requires { Divided pat.now ends.now line.now × Fits items.now × IsState state.old × Room out.old size }
     ensures { Does (act_in (acts_in line.now pat.now ends.now) 0 items.now) out.old state.old size out.new state.new result }
 {
-    let mut end = size;
-    let mut at = 0;
-    while at < items.len() {
-        let t = &items[at..];
-        let span = span_of(pat, ends, t);
-        let done = action(line, span, t, state, out, end);
-        let Outcome::Made(m) = done else {
-            return done;
-        };
-        end = m;
-        at += action_size(t);
+    let mut size = size;
+    let mut rest = items;
+    while !rest.is_empty() {
+        let span = span_of(pat, ends, rest);
+        size = action(line, span, rest, state, out, size)?;
+        rest = &rest[action_size(rest)..];
     }
-    Outcome::Made(end)
+    Ok(size)
 }

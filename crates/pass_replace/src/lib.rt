@@ -9,7 +9,7 @@ ghost use Rattle.pass_replace.specs.Contract.{Lent, Occurs, Prepared, Prepares};
 use actions::act;
 use form_items::layout::{BEFORE_AT, COMMANDS_AT, HEADER_BYTES, PATTERN_AT, REPLACEMENT_AT};
 use form_items::two_at;
-use refusals::Outcome;
+use refusals::WorkError;
 
 // "For each occurrence replacement and then commands act, left to right":
 // the macro of a slot, with the division whose spans end where `ends` says.
@@ -21,7 +21,7 @@ pub fn occurrence(
     state: &mut [u8],
     out: &mut [u8],
     size: usize,
-) -> Outcome
+) -> Result<usize, WorkError>
     requires { Lent slot.now ends.now line.now state.old out.old size }
     ensures { Occurs slot.now ends.now line.now state.old state.new out.old out.new size result }
 {
@@ -41,13 +41,13 @@ pub fn occurrence(
 }
 
 // 02, N2: the calls before the pattern of a slot's macro, left to right. They take no tag and insert nothing; where there are none, nothing is done.
-pub fn calls_act(slot: &[u8], state: &mut [u8]) -> Outcome
+pub fn calls_act(slot: &[u8], state: &mut [u8]) -> Result<usize, WorkError>
     requires { Prepared slot.now state.old }
     ensures { Prepares slot.now state.old state.new result }
 {
     let n = two_at(slot, BEFORE_AT);
-    if n < 1 {
-        return Outcome::Made(0);
+    if n == 0 {
+        return Ok(0);
     }
     let pattern = HEADER_BYTES + n;
     let ends = [0u16; 1014];

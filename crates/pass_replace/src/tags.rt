@@ -1,17 +1,9 @@
 // Tags (01, part 3): where the text of a tag stands in the line.
-ghost use Rattle.std.specs.Prelude.{◌≡◌, ◌-◌, ◌≤◌, ltb, drop};
-ghost use Rattle.macros.specs.Macro.{pick};
+ghost use Rattle.std.specs.Prelude.{◌≡◌, ◌-◌, ◌≤◌, drop};
 ghost use Rattle.form_table.specs.Form.{body_bytes};
 ghost use Rattle.pass_replace.specs.Tags.{close_in, tag_in, Ended, Spans};
 
 use pass_steps::Span;
-
-// An end as a place of the line.
-fn wide(x: u16) -> usize
-    ensures { result ≡ x }
-{
-    x as usize
-}
 
 // Where the tag ends whose inside begins at the item `first`: at its own right brace, those of tags inside passed over.
 fn close_of(pat: &[u8], ends: &[u16], first: usize) -> usize
@@ -21,33 +13,15 @@ fn close_of(pat: &[u8], ends: &[u16], first: usize) -> usize
     let mut n: usize = 0;
     let mut i = first;
     while i + 1 < pat.len() {
-        let code = pat[i];
-        if code == 2 {
-            if n < 1 {
-                return wide(ends[i]);
-            }
-            n -= 1;
-            i += 2;
-        } else {
-            if code == 1 {
-                n += 1;
-                i += 2;
-            } else {
-                i += 2;
-            }
+        match pat[i] {
+            1 => n += 1,
+            2 if n == 0 => return usize::from(ends[i]),
+            2 => n -= 1,
+            _ => {}
         }
+        i += 2;
     }
     0
-}
-
-// The lesser of two places.
-fn least(a: usize, b: usize) -> usize
-    ensures { result ≡ pick (ltb b a) b a }
-{
-    if b < a {
-        return b;
-    }
-    a
 }
 
 // The span of tag n, empty where it would end before its start. Tags count from 1.
@@ -62,14 +36,12 @@ pub(crate) fn tag_of(pat: &[u8], ends: &[u16], n: u8) -> Span
             if left < 2 {
                 let inside = i + 2;
                 let to = close_of(pat, ends, inside);
-                let from = least(wide(ends[i]), to);
+                let from = usize::from(ends[i]).min(to);
                 return Span { from, to };
             }
             left -= 1;
-            i += 2;
-        } else {
-            i += 2;
         }
+        i += 2;
     }
     Span { from: 0, to: 0 }
 }

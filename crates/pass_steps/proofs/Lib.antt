@@ -1,4 +1,3 @@
 pub mod Stepping
 pub mod Codes
-pub mod Copying
 pub mod Handing

@@ -1,41 +1,19 @@
-// For what an action does: a text stored at a place, the text of a tag or of an entry, and whether a code is one of several.
+// The text of a tag or of an entry, for what an action does.
 #![tactic(auto)]
 
-ghost use Rattle.std.specs.Prelude.{◌≡◌, ◌+◌, ◌≤◌, length};
-ghost use Rattle.std.proofs.Math.Seq.{paste};
-ghost use Rattle.macros.specs.Macro.{within};
 ghost use Rattle.pass_steps.specs.Texts.{Lends, Hands};
 
 use form_state::entry;
 
-// The bytes of a text from a place on.
-pub fn copy(out: &mut [u8], at: usize, bytes: &[u8])
-    requires { at + length bytes.now ≤ length out.old }
-    ensures { out.new ≡ paste out.old at bytes.now (length bytes.now) }
-{
-    let mut i = 0;
-    while i < bytes.len() {
-        out[at + i] = bytes[i];
-        i += 1;
-    }
-}
-
-// Whether a code is one of those from a to z.
-pub fn is_within(a: u8, z: u8, b: u8) -> bool
-    ensures { result ≡ within a z b }
-{
-    (a <= b) & (b <= z)
-}
-
 // A part of the line: from a place up to another.
-#[derive(Clone, Copy)]
+#[derive(Clone, Copy, Debug, PartialEq, Eq)]
 pub struct Span {
     pub from: usize,
     pub to: usize,
 }
 
 // Whose text: a tag's, with its span of the line, or that of the current entry of a stack, by its letter.
-#[derive(Clone, Copy)]
+#[derive(Clone, Copy, Debug, PartialEq, Eq)]
 pub enum Text {
     Tag(Span),
     Entry(u8),
@@ -47,11 +25,7 @@ pub fn part<'a>(line: &'a [u8], state: &'a [u8], whose: Text) -> &'a [u8]
     ensures { Hands line.now state.now whose result.now }
 {
     match whose {
-        Text::Tag(span) => {
-            let from = span.from;
-            let to = span.to;
-            &line[from..to]
-        }
+        Text::Tag(Span { from, to }) => &line[from..to],
         Text::Entry(i) => entry(state, i),
     }
 }

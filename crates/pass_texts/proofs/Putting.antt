@@ -11,8 +11,8 @@ use Rattle.lines.specs.Replacing.{unless, onto, puts}
 use Rattle.lines.specs.Line.{text_of}
 use Rattle.pass_steps.specs.Moments.{Room, Inserts}
 use Rattle.refusals.specs.declared.WorkFault.TheVariants.{NewLineTooLong}
-use Rattle.refusals.specs.declared.Outcome.{Outcome}
-use Rattle.refusals.specs.declared.Outcome.TheVariants.{Made, Refused}
+use Rattle.refusals.specs.declared.WorkError.{WorkError}
+use Rattle.std.specs.Prelude.{Result, Ok, Err}
 
 ontos : (l o r : List ℕ) → onto (onto l o) r ≡ onto o (l ++ r)
 unfolding onto
@@ -27,10 +27,10 @@ onto_end (b ∷ o) r = onto_end o (b ∷ r) ∙ sym (append_assoc (onto o []) (b
 joined : (l o : List ℕ) → onto (onto l o) [] ≡ onto o [] ++ l
 joined l o = ontos l o [] ∙ ap (onto o) (append-nil l) ∙ onto_end o l
 
-pub inserts_by : {bytes bytes₁ out out₁ : List ℕ} {k : ℕ} {r : Outcome} → bytes ≡ bytes₁ → Inserts bytes out k out₁ r → Inserts bytes₁ out k out₁ r
+pub inserts_by : {bytes bytes₁ out out₁ : List ℕ} {k : ℕ} {r : Result ℕ WorkError} → bytes ≡ bytes₁ → Inserts bytes out k out₁ r → Inserts bytes₁ out k out₁ r
 inserts_by {out = out} {out₁ = out₁} {k = k} {r = r} e p = subst (λ (x : List ℕ). Inserts x out k out₁ r) e p
 
-pub put_refused : {bytes out : List ℕ} {k : ℕ} → Room out k → 1054 - k < length bytes → Inserts bytes out k out (Refused NewLineTooLong k)
+pub put_refused : {bytes out : List ℕ} {k : ℕ} → Room out k → 1054 - k < length bytes → Inserts bytes out k out (Err (record { fault = NewLineTooLong; size = k }))
 unfolding puts unless
 put_refused {bytes} {out} {k} r h =
     record {
@@ -44,7 +44,7 @@ put_refused {bytes} {out} {k} r h =
           };
     }
 
-pub put_made : {bytes out out₁ : List ℕ} {k : ℕ} → Room out k → length bytes ≤ 1054 - k → out₁ ≡ paste out k bytes (length bytes) → Inserts bytes out k out₁ (Made (k + length bytes))
+pub put_made : {bytes out out₁ : List ℕ} {k : ℕ} → Room out k → length bytes ≤ 1054 - k → out₁ ≡ paste out k bytes (length bytes) → Inserts bytes out k out₁ (Ok (k + length bytes))
 unfolding puts unless text_of
 put_made {bytes} {out} {out₁} {k} r h e =
     let f = r.fits in

@@ -1,5 +1,5 @@
 -- What an action inserts (01, part 4), from its items: t begins with one.
-use Rattle.std.specs.Prelude.{ℕ, ◌-◌, ◌≤◌, ◌<◌, ◌≡◌, List, [], ◌∷◌, eqb, get_or}
+use Rattle.std.specs.Prelude.{ℕ, ◌≤◌, ◌<◌, ◌≡◌, List, [], ◌∷◌, eqb, get_or}
 use Rattle.macros.specs.Bounds.{most_entries, most_counter}
 use Rattle.macros.specs.Macro.{pick}
 use Rattle.macros.specs.Formed.{Between, Bytes, Letter}

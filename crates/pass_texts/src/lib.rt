@@ -13,19 +13,23 @@ ghost use Rattle.pass_steps.specs.Moments.{Room, Inserts, Does};
 ghost use Rattle.pass_texts.specs.Digits.{Digits, Figures};
 
 use form_state::value;
-use pass_steps::{Span, Text, copy, is_within, part};
-use refusals::{Outcome, WorkFault};
+use pass_steps::{Span, Text, part};
+use refusals::{WorkError, WorkFault};
 
 // A text joins the new line, which has size bytes. 32: "the new line's 1,055th byte".
-fn put(out: &mut [u8], size: usize, bytes: &[u8]) -> Outcome
+fn put(out: &mut [u8], size: usize, bytes: &[u8]) -> Result<usize, WorkError>
     requires { Room out.old size }
     ensures { Inserts bytes.now out.old size out.new result }
 {
     if 1054 - size < bytes.len() {
-        return Outcome::Refused(WorkFault::NewLineTooLong, size);
+        return Err(WorkError {
+            fault: WorkFault::NewLineTooLong,
+            size,
+        });
     }
-    copy(out, size, bytes);
-    Outcome::Made(size + bytes.len())
+    let end = size + bytes.len();
+    out[size..end].copy_from_slice(bytes);
+    Ok(end)
 }
 
 // The digit of a number below 10.
@@ -33,7 +37,7 @@ fn figure(v: u32) -> u8
     requires { v < 10 }
     ensures { result ≡ 48 + v }
 {
-    48 + v as u8
+    b'0' + v as u8
 }
 
 // The digits of a value, without leading zeros: those before the last first, a call for each.
@@ -51,7 +55,7 @@ fn put_digits(out: &mut [u8], v: u32) -> usize
 }
 
 // The digits that `#(i)` stands for join the new line.
-fn put_value(v: u32, out: &mut [u8], size: usize) -> Outcome
+fn put_value(v: u32, out: &mut [u8], size: usize) -> Result<usize, WorkError>
     requires { (v ≤ most_counter) × Room out.old size }
     ensures { Inserts (digits v) out.old size out.new result }
 {
@@ -67,12 +71,13 @@ fn put_figures(text: &mut [u8], at: usize, v: u32) -> usize
 {
     let mut figures = [0u8; 9];
     let n = put_digits(&mut figures, v);
-    copy(text, at, &figures[..n]);
-    at + n
+    let end = at + n;
+    text[at..end].copy_from_slice(&figures[..n]);
+    end
 }
 
 // The quotient, a space and the remainder that `#(i:n)` stands for join the new line.
-pub fn put_divided(v: u32, n: u32, out: &mut [u8], size: usize) -> Outcome
+pub fn put_divided(v: u32, n: u32, out: &mut [u8], size: usize) -> Result<usize, WorkError>
     requires { (v ≤ most_counter) × (1 ≤ n) × Room out.old size }
     ensures { Inserts (divided_text v n) out.old size out.new result }
 {
@@ -93,20 +98,14 @@ pub fn insert<'a>(
     state: &'a [u8],
     out: &mut [u8],
     size: usize,
-) -> Outcome
+) -> Result<usize, WorkError>
     requires { Cut line.now span.from span.to × Fit t.now × IsState state.now × Room out.old size }
     ensures { Does (inserts_in (slice span.from span.to line.now) t.now) out.old state.now size out.new state.now result }
 {
-    let code = t[0];
-    let i = t[1];
-    if code == 40 {
-        return put(out, size, &t[1..2]);
+    match t[0] {
+        40 => put(out, size, &t[1..2]),
+        41 => put(out, size, part(line, state, Text::Tag(span))),
+        56..=63 => put_value(value(state, t[1]), out, size),
+        _ => put(out, size, part(line, state, Text::Entry(t[1]))),
     }
-    if code == 41 {
-        return put(out, size, part(line, state, Text::Tag(span)));
-    }
-    if is_within(56, 63, code) {
-        return put_value(value(state, i), out, size);
-    }
-    put(out, size, part(line, state, Text::Entry(i)))
 }

@@ -4,14 +4,8 @@ use Rattle.form_state.specs.Access.{replaced}
 use Rattle.form_state.proofs.Held.{is_long_lem, increment_set}
 use Rattle.pass_call.proofs.setting.set_increment.Goals as goal
 
-pub letter_number-requires : goal.letter_number-requires
-letter_number-requires c = search
-
 pub put_number-requires : goal.put_number-requires
 put_number-requires c = omega (arith, is_long_lem c.args.state.now c.requires.0)
-
-pub shape_of-state : goal.shape_of-state
-shape_of-state c = search
 
 pub returns : goal.returns
 unfolding replaced four with_number

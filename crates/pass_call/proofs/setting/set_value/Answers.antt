@@ -7,9 +7,6 @@ use Rattle.pass_call.proofs.setting.set_value.Goals as goal
 pub put_number-requires : goal.put_number-requires
 put_number-requires c = omega (arith, is_long_lem c.args.state.now c.requires.0)
 
-pub shape_of-state : goal.shape_of-state
-shape_of-state c = search
-
 pub returns : goal.returns
 unfolding replaced four with_number
 returns c = λ w h. value_set c.args.state.now c.put_number.new.out c.args.i w h c.requires.1 c.args.n c.letter_number.result c.requires.2 c.letter_number.ensures.0 c.put_number.ensures

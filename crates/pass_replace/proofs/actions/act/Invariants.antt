@@ -1,14 +1,20 @@
-use Prim.Native.Nat.{◌-◌, ◌≤◌}
+use Prim.Native.Nat.{◌≤◌}
 use mathlib.Core.Path.{◌≡◌}
-use lib.ListN.{length, drop}
+use lib.ListN.{length}
 use Rattle.form_state.specs.Access.{IsState}
 use Rattle.pass_replace.specs.Acting.{acts_in, Fits}
 use Rattle.pass_replace.proofs.Acting.{Rest}
 use Rattle.pass_replace.proofs.actions.act.Given as goal
 
-abbrev pub invariant-loop-at : goal.invariant-loop-at
-invariant-loop-at l = (l.at ≤ length l.items) × (length l.state ≡ length l.initial.state) × (length l.out ≡ length l.initial.out) × IsState l.state × (l.end ≤ 1054) × Fits (drop l.at l.items)
-    × Rest (acts_in l.line l.pat l.ends) l.items l.initial.out l.initial.state l.size (drop l.at l.items) l.out l.state l.end
+abbrev pub invariant-loop-rest : goal.invariant-loop-rest
+invariant-loop-rest l =
+    record {
+      long : length l.out ≡ length l.initial.out;
+      state : IsState l.state;
+      room : l.size ≤ 1054;
+      fits : Fits l.rest;
+      to_do : Rest (acts_in l.line l.pat l.ends) l.items l.initial.out l.initial.state l.initial.size l.rest l.out l.state l.size;
+    }
 
-abbrev pub decreases-loop-at : goal.decreases-loop-at
-decreases-loop-at l = length l.items - l.at
+abbrev pub decreases-loop-rest : goal.decreases-loop-rest
+decreases-loop-rest l = length l.rest
