@@ -24,21 +24,18 @@ use Rattle.read_scan.specs.Scan.MacroRead.{refused_at}
 use Rattle.form_bytes.specs.Fours.{four}
 use Rattle.form_table.specs.Form.{call_items, move_code}
 use Rattle.read_scan.specs.Scan.{run, Here, Calls, Reached, fault_of, wrong_call}
-use Rattle.read_number.specs.Number.{Counts, Digits, Kept, Behind, most, Unclosed, number_end}
+use Rattle.read_number.specs.Number.{Counts, Digits, Kept, Behind, most, Outside, Inside, Unclosed}
 use Rattle.form_items.specs.Items.{Wrote}
-use Rattle.read_call.specs.Call.{Names, Letter, Naming, Sets, SetFrom, TagFrom, TagNaming, TagLetter, name_end, next_name}
+use Rattle.read_call.specs.Call.{Names, Letter, Naming, Sets, SetFrom, TagFrom, TagNaming, TagLetter, Named, name_read, no_name}
 use Rattle.read_text.specs.Text.{Comes, Called, Ends}
-use Rattle.read_ends.specs.Ends.{next_end}
+use Rattle.std.specs.Prelude.{Result, Ok, Err, Option as Maybe, Some, None}
+use Rattle.std.specs.Option.{unwrap_or}
+use Rattle.read_scan.specs.Bytes.{Next, refused}
+use Rattle.read_scan.specs.declared.ReadError.{ReadError}
+use Rattle.read_ends.specs.Ends.{Ended}
 use Rattle.read_scan.specs.declared.FileFault.{FileFault}
 use Rattle.read_scan.specs.declared.FileFault.TheVariants.{BadCall}
-use Rattle.read_scan.specs.declared.Next.{Next}
-use Rattle.read_scan.specs.declared.Next.TheVariants.{Byte, Refused as NoByte}
 use Rattle.read_number.specs.declared.Number.{Number}
-use Rattle.read_number.specs.declared.Number.TheVariants.{Got, Refused as NoNumber}
-use Rattle.read_call.specs.declared.Name.{Name}
-use Rattle.read_call.specs.declared.Name.TheVariants.{Got as GotName, Refused as NoName}
-use Rattle.read_ends.specs.declared.Ended.{Ended}
-use Rattle.read_ends.specs.declared.Ended.TheVariants.{Upto, Refused as NoEnd}
 use Rattle.read_scan.proofs.Laws.{here_on, here_stop, reached_behind}
 use Rattle.read_number.proofs.Numbers.{most_low, most_high, eats_equals, eats_increment}
 use Rattle.form_items.proofs.Writing.{wrote_more}
@@ -93,21 +90,34 @@ set_size : (n code i w : ℕ) → n + 6 ≡ n + length (code ∷ i ∷ four w)
 unfolding four
 set_size n code i w = refl
 
-module _ (s : List ℕ) (a p : ℕ) (old out : List ℕ) (n code i top : ℕ) {r : Number} (y : Counts s a p true r) where
-  pub set_none : {f : FileFault} {q : ℕ} {w : Ended} → r ≡ NoNumber f q → w ≡ number_end r → SetFrom s a p old out n code i top w
-  set_none {f} {q} e j =
-      let z : Counts s a p true (NoNumber f q) = rw e at y in
-      rw (j ∙ ap number_end e) (λ ph c g si k. (z.0, λ pl u v pr. z.1 (λ o. calling pl (ph o)) (g.eats pl) pr))
+-- a number with the byte behind it and its place; a refusal with its place
+abbrev pub number_read : Maybe ℕ → ℕ → ℕ → Result Number ReadError
+number_read x b q = Ok (record { value = x; behind = b; place = q })
 
-  module _ {v : ℕ} {m : Bool} {b q : ℕ} (e : r ≡ Got v m b q) where
-    pub set_byte : Counts s a p true (Got v m b q)
+abbrev pub no_number : FileFault → ℕ → Result Number ReadError
+no_number f q = Err (record { fault = f; place = q })
+
+pub some_same : {v w : ℕ} → ◌≡◌ {A = Maybe ℕ} (Some v) (Some w) → v ≡ w
+some_same e = ap (λ (o : Maybe ℕ). unwrap_or o 0) e
+
+pub some_none : {v : ℕ} → ◌≡◌ {A = Maybe ℕ} (Some v) None → ⊥
+some_none e = let z : ◌≡◌ {A = ℕ} 0 1 = cc in omega arith
+
+module _ (s : List ℕ) (a p : ℕ) (old out : List ℕ) (n code i top : ℕ) {r : Result Number ReadError} (y : Counts s a p true r) where
+  pub set_none : {f : FileFault} {q : ℕ} → r ≡ no_number f q → SetFrom s a p old out n code i top (refused f q)
+  set_none {f} {q} e =
+      let z : Counts s a p true (no_number f q) = rw e at y in
+      (λ ph c g si k. (z.0, λ pl u v pr. z.1 (λ o. calling pl (ph o)) (g.eats pl) pr))
+
+  module _ {x : Maybe ℕ} {b q : ℕ} (e : r ≡ number_read x b q) where
+    pub set_byte : Counts s a p true (number_read x b q)
     set_byte = rw e at y
 
     comes : (ph : Option ℕ → Phase) (c : ℕ → Call) → Sets code i top ph c → (si : Site) (k : ℕ)
         → Comes s a si k (λ pl. calling pl (ph none)) p (λ pl. calling pl (ph set_byte.4.value)) q
     comes ph c g si k pl u t pr = set_byte.4.answer (λ o. calling pl (ph o)) (g.eats pl) pr
 
-    set_wrong : (f : FileFault) → (b ≡ 41 → ⊥) → fault_of f ≡ wrong_call b → SetFrom s a p old out n code i top (NoEnd f q)
+    set_wrong : (f : FileFault) → (b ≡ 41 → ⊥) → fault_of f ≡ wrong_call b → SetFrom s a p old out n code i top (refused f q)
     set_wrong f h j ph c g si k =
         ends_wrong s a p old out n 4 si k (λ pl. calling pl (ph none)) (ph set_byte.4.value) (comes ph c g si k) set_byte.1 f (set_byte.2.1 refl)
         (g.others si set_byte.4.value b set_byte.2.0 h) j
@@ -116,35 +126,35 @@ module _ (s : List ℕ) (a p : ℕ) (old out : List ℕ) (n code i top : ℕ) {r
       at_close : Here s a q 41
       at_close = rw h at set_byte.1
 
-      set_empty : m ≡ false → SetFrom s a p old out n code i top (NoEnd BadCall q)
+      set_empty : x ≡ None → SetFrom s a p old out n code i top (refused BadCall q)
       unfolding closing
       set_empty j ph c g si k = by set_byte.4.value set_byte.4.kept (comes ph c g si k)
         where
-          by : (o : Option ℕ) → Kept o v m → Comes s a si k (λ pl. calling pl (ph none)) p (λ pl. calling pl (ph o)) q
-              → Ends s a p old out n 4 si k (λ pl. calling pl (ph none)) (NoEnd BadCall q)
+          by : (o : Option ℕ) → Kept o x → Comes s a si k (λ pl. calling pl (ph none)) p (λ pl. calling pl (ph o)) q
+              → Ends s a p old out n 4 si k (λ pl. calling pl (ph none)) (refused BadCall q)
           by none t l =
               ends_wrong s a p old out n 4 si k (λ pl. calling pl (ph none)) (ph none) l at_close BadCall (omega arith) (g.closes si none) wrong_close
-          by (some w) t l = absurd (true≢false (sym t.1 ∙ j))
+          by (some w) t l = absurd (some_none (sym t ∙ j))
 
-      module _ (j : m ≡ true) where
-        number : (o : Option ℕ) → Kept o v m → (ph : Option ℕ → Phase) (c : ℕ → Call) → Sets code i top ph c → (si : Site) (k : ℕ)
+      module _ {v : ℕ} (j : x ≡ Some v) where
+        number : (o : Option ℕ) → Kept o x → (ph : Option ℕ → Phase) (c : ℕ → Call) → Sets code i top ph c → (si : Site) (k : ℕ)
             → Comes s a si k (λ pl. calling pl (ph none)) p (λ pl. calling pl (ph o)) q → (e' : Ended)
             → ((w : ℕ) → v ≡ most w → Comes s a si k (λ pl. calling pl (ph none)) p (λ pl. calling pl (ph (some w))) q → call_byte si (ph (some w)) 41 ≡ closed (c w)
             → Ends s a p old out n 4 si k (λ pl. calling pl (ph none)) e')
             → Ends s a p old out n 4 si k (λ pl. calling pl (ph none)) e'
         unfolding closing
-        number none t ph c g si k l e' f = absurd (true≢false (sym j ∙ t.1))
-        number (some w) t ph c g si k l e' f = f w t.0 l (g.closes si (some w))
+        number none t ph c g si k l e' f = absurd (some_none (sym j ∙ t))
+        number (some w) t ph c g si k l e' f = f w (some_same (sym j ∙ t)) l (g.closes si (some w))
 
-        set_unfit : ((w : ℕ) → v ≡ most w → within 1 top w ≡ false) → SetFrom s a p old out n code i top (NoEnd BadCall q)
+        set_unfit : ((w : ℕ) → v ≡ most w → within 1 top w ≡ false) → SetFrom s a p old out n code i top (refused BadCall q)
         set_unfit z ph c g si k =
-            number set_byte.4.value set_byte.4.kept ph c g si k (comes ph c g si k) (NoEnd BadCall q) (λ w t l f.
+            number set_byte.4.value set_byte.4.kept ph c g si k (comes ph c g si k) (refused BadCall q) (λ w t l f.
             ends_unfit s a p old out n 4 si k (λ pl. calling pl (ph none)) (ph (some w)) l at_close (c w) f (g.fits k w ∙ z w t))
 
         set_done : {mid : List ℕ} → 1 ≤ v → v ≤ top → top ≤ 999999999 → Wrote old mid n (code ∷ i ∷ []) → Wrote mid out (n + 2) (four v)
-            → SetFrom s a p old out n code i top (Upto (q + 1) (n + 6))
+            → SetFrom s a p old out n code i top (Ok (q + 1, n + 6))
         set_done {mid} lo hi lim w₁ w₂ ph c g si k =
-            number set_byte.4.value set_byte.4.kept ph c g si k (comes ph c g si k) (Upto (q + 1) (n + 6)) (λ w t l f.
+            number set_byte.4.value set_byte.4.kept ph c g si k (comes ph c g si k) (Ok (q + 1, n + 6)) (λ w t l f.
             let same : w ≡ v = most_same w v t (omega arith) in
             ends_closed s a p old out n 4 si k (λ pl. calling pl (ph none)) (ph (some w)) l at_close (c w) f
             (g.fits k w ∙ within_yes top w (omega arith) (omega arith))
@@ -153,20 +163,24 @@ module _ (s : List ℕ) (a p : ℕ) (old out : List ℕ) (n code i top : ℕ) {r
             (omega (arith, set_byte.0)) set_byte.0)
 
     -- the `)` of a number out of range is a wrong byte too
-    late : (f : FileFault) → b ≡ 41 → fault_of f ≡ wrong_call b → SetFrom s a p old out n code i top (NoEnd BadCall q) → SetFrom s a p old out n code i top (NoEnd f q)
+    late : (f : FileFault) → b ≡ 41 → fault_of f ≡ wrong_call b → SetFrom s a p old out n code i top (refused BadCall q) → SetFrom s a p old out n code i top (refused f q)
     late f h j x ph c g si k = let z = x ph c g si k in (z.0, λ pl u t pr. z.1 pl u t pr ∙ ap (λ d. refused_at d q) (wrong_close ∙ (ap wrong_call (sym h) ∙ sym j)))
 
-    pub set_refused : {w : Bool} → Unclosed b 41 m v top w → w ≡ true → (f : FileFault) → fault_of f ≡ wrong_call b → SetFrom s a p old out n code i top (NoEnd f q)
-    set_refused {w} x e' f j =
-        let z : Unclosed b 41 m v top true = rw e' at x in
-        ⊎_elim (λ h. set_wrong f h j)
-        (λ h. late f h.0 j (⊎_elim (λ l. set_empty h.0 l) (λ l. set_unfit h.0 l.0 (λ o k. unfit top v o k l.1)) h.1)) z
+    pub set_refused : {w : Bool} → Unclosed b 41 x top w → w ≡ true → (f : FileFault) → fault_of f ≡ wrong_call b → SetFrom s a p old out n code i top (refused f q)
+    set_refused {w} u e' f j =
+        let z : Unclosed b 41 x top true = rw e' at u in
+        ⊎_elim (λ h. set_wrong f h j) (λ h. late f h.0 j (by h.0 x refl h.1)) z
+      where
+        by : b ≡ 41 → (o : Maybe ℕ) → x ≡ o → Outside o top → SetFrom s a p old out n code i top (refused BadCall q)
+        by h None l g = set_empty h l
+        by h (Some v) l g = set_unfit h l (λ o k. unfit top v o k g)
 
-    pub set_stored : {w : Bool} {mid : List ℕ} → Unclosed b 41 m v top w → w ≡ false → top ≤ 999999999 → Wrote old mid n (code ∷ i ∷ []) → Wrote mid out (n + 2) (four v)
-        → SetFrom s a p old out n code i top (Upto (q + 1) (n + 6))
-    set_stored {w} x e' lim w₁ w₂ =
-        let z : Unclosed b 41 m v top false = rw e' at x in
-        set_done z.0 z.1 z.2 z.3 lim w₁ w₂
+    pub set_stored : {w : Bool} {v : ℕ} {mid : List ℕ} → Unclosed b 41 x top w → w ≡ false → x ≡ Some v → top ≤ 999999999 → Wrote old mid n (code ∷ i ∷ []) → Wrote mid out (n + 2) (four v)
+        → SetFrom s a p old out n code i top (Ok (q + 1, n + 6))
+    set_stored {w} {v} u e' j lim w₁ w₂ =
+        let z : (b ≡ 41) × Inside x top = rw e' at u in
+        let g : Inside (Some v) top = rw j at z.1 in
+        set_done z.0 j g.0 g.1 lim w₁ w₂
 
 -- A TAG'S NUMBER, ITS COMMA AND LETTER
 
@@ -240,7 +254,7 @@ unfolding call_items
 tag_items w i v = refl
 
 module _ {s : List ℕ} {a p b : ℕ} (x : Here s a p b) where
-  pub tag_wrong : (f : FileFault) → (b ≡ 32 → ⊥) → digit b ≡ false → (b ≡ 44 → ⊥) → fault_of f ≡ wrong_call b → TagNaming s a p (NoName f p)
+  pub tag_wrong : (f : FileFault) → (b ≡ 32 → ⊥) → digit b ≡ false → (b ≡ 44 → ⊥) → fault_of f ≡ wrong_call b → TagNaming s a p (no_name f p)
   tag_wrong f g h e i =
       let t = x.stands in
       (omega (arith, t.there), λ w pl pr. here_wrong pl (tagged w) pr x f g (tag_stray (site_of pl) w b h e) i)
@@ -249,20 +263,20 @@ module _ {s : List ℕ} {a p b : ℕ} (x : Here s a p b) where
     at_comma : (w : ℕ) (pl : CallSite) (pr : Prior) → run s a pr false p (calling pl (tagged w)) ≡ run s a pr false (p + 1) (calling pl (comma w))
     at_comma w pl pr = here_into pl (tagged w) pr x (comma w) (tag_comma (site_of pl) w b e)
 
-    pub tag_none : {f : FileFault} {q : ℕ} {z : Name} → r ≡ NoByte f q → z ≡ next_name r → TagNaming s a p z
-    tag_none {f} {q} i j =
-        let z : Calls s a (p + 1) (NoByte f q) = rw i at y in
-        rw (j ∙ ap next_name i) (z.found, λ w pl pr. at_comma w pl pr ∙ call_none pl (comma w) pr z)
+    pub tag_none : {f : FileFault} {q : ℕ} → r ≡ refused f q → TagNaming s a p (no_name f q)
+    tag_none {f} {q} i =
+        let z : Calls s a (p + 1) (refused f q) = rw i at y in
+        (z.found, λ w pl pr. at_comma w pl pr ∙ call_none pl (comma w) pr z)
 
-    module _ {c q : ℕ} (i : r ≡ Byte c q) where
-      pub tag_byte_lem : Calls s a (p + 1) (Byte c q)
+    module _ {c q : ℕ} (i : r ≡ Ok (c, q)) where
+      pub tag_byte_lem : Calls s a (p + 1) (Ok (c, q))
       tag_byte_lem = rw i at y
 
       behind : (w : ℕ) (pl : CallSite) (pr : Prior) → run s a pr false p (calling pl (tagged w)) ≡ run s a pr false q (calling pl (comma w))
       behind w pl pr = at_comma w pl pr ∙ call_next pl (comma w) pr tag_byte_lem
 
-      pub tag_named_lem : (w : Name) → Naming s a q c true w → TagNaming s a p w
-      tag_named_lem (GotName i m d u) z =
+      pub tag_named_lem : (w : Named) → Naming s a q c true w → TagNaming s a p w
+      tag_named_lem (Ok x) z =
           let f = tag_byte_lem.found in
           record {
             move = z.move;
@@ -273,27 +287,27 @@ module _ {s : List ℕ} {a p b : ℕ} (x : Here s a p b) where
             last = z.last;
             answer = λ w pl pr. behind w pl pr ∙ z.answer pl (comma w) (tag_signed w) (tag_named w) (names_comma (site_of pl) c w) pr;
           }
-      tag_named_lem (NoName f u) z = (z.0, λ w pl pr. behind w pl pr ∙ z.1 pl (comma w) (tag_signed w) (tag_named w) (names_comma (site_of pl) c w) pr)
+      tag_named_lem (Err d) z = (z.0, λ w pl pr. behind w pl pr ∙ z.1 pl (comma w) (tag_signed w) (tag_named w) (names_comma (site_of pl) c w) pr)
 
-module _ (s : List ℕ) (a p : ℕ) (old out : List ℕ) (n v k : ℕ) {r : Name} (z : TagNaming s a p r) where
-  pub tag_noname : {f : FileFault} {u : ℕ} {o : Ended} → r ≡ NoName f u → o ≡ name_end r → TagFrom s a p old out n v k o
-  tag_noname {f} {u} j h =
-      let l : TagNaming s a p (NoName f u) = rw j at z in
-      rw (h ∙ ap name_end j) (λ w m si. (l.0, λ pl g t pr. l.1 w pl pr))
+module _ (s : List ℕ) (a p : ℕ) (old out : List ℕ) (n v k : ℕ) {r : Named} (z : TagNaming s a p r) where
+  pub tag_noname : {f : FileFault} {u : ℕ} → r ≡ no_name f u → TagFrom s a p old out n v k (refused f u)
+  tag_noname {f} {u} j =
+      let l : TagNaming s a p (no_name f u) = rw j at z in
+      (λ w m si. (l.0, λ pl g t pr. l.1 w pl pr))
 
-  module _ {i m d u : ℕ} (j : r ≡ GotName i m d u) where
+  module _ {i m d u : ℕ} (j : r ≡ name_read i m d u) where
     pub tag_letter : TagLetter s a p i m d u
     tag_letter = rw j at z
 
     named_tag : (w : ℕ) (si : Site) → Comes s a si k (λ pl. calling pl (tagged w)) p (λ pl. calling pl (tag_named w i tag_letter.move)) u
     named_tag w si pl g t pr = tag_letter.answer w pl pr
 
-    tag_open : (f : FileFault) → (d ≡ 41 → ⊥) → fault_of f ≡ wrong_call d → TagFrom s a p old out n v k (NoEnd f u)
+    tag_open : (f : FileFault) → (d ≡ 41 → ⊥) → fault_of f ≡ wrong_call d → TagFrom s a p old out n v k (refused f u)
     tag_open f g h w l si =
         ends_wrong s a p old out n 0 si k (λ pl. calling pl (tagged w)) (tag_named w i tag_letter.move) (named_tag w si) tag_letter.here f tag_letter.solid
         (tag_unclosed si w i d tag_letter.move g (joined (is_sign d) (is_still tag_letter.move) tag_letter.last)) h
 
-    tag_unfit : d ≡ 41 → ((w : ℕ) → v ≡ most w → within 1 k w ≡ false) → (f : FileFault) → fault_of f ≡ wrong_call d → TagFrom s a p old out n v k (NoEnd f u)
+    tag_unfit : d ≡ 41 → ((w : ℕ) → v ≡ most w → within 1 k w ≡ false) → (f : FileFault) → fault_of f ≡ wrong_call d → TagFrom s a p old out n v k (refused f u)
     tag_unfit g h f j w l si =
         let y =
         ends_unfit s a p old out n 0 si k (λ pl. calling pl (tagged w)) (tag_named w i tag_letter.move) (named_tag w si) tag_letter.here
@@ -301,20 +315,20 @@ module _ (s : List ℕ) (a p : ℕ) (old out : List ℕ) (n v k : ℕ) {r : Name
         in
         (y.0, λ pl x t pr. y.1 pl x t pr ∙ ap (λ c. refused_at c u) (wrong_close ∙ (ap wrong_call (sym g) ∙ sym j)))
 
-    pub tag_refused : {w : Bool} → Unclosed d 41 true v k w → w ≡ true → (f : FileFault) → fault_of f ≡ wrong_call d → TagFrom s a p old out n v k (NoEnd f u)
+    pub tag_refused : {w : Bool} → Unclosed d 41 (Some v) k w → w ≡ true → (f : FileFault) → fault_of f ≡ wrong_call d → TagFrom s a p old out n v k (refused f u)
     tag_refused {w} x e f j =
-        let y : Unclosed d 41 true v k true = rw e at x in
-        ⊎_elim (λ h. tag_open f h j) (λ h. ⊎_elim (λ l. absurd (true≢false l)) (λ l. tag_unfit h.0 (λ o c. unfit k v o c l.1) f j) h.1) y
+        let y : Unclosed d 41 (Some v) k true = rw e at x in
+        ⊎_elim (λ h. tag_open f h j) (λ h. tag_unfit h.0 (λ o c. unfit k v o c h.1) f j) y
 
-    pub tag_few : {w : Bool} → Unclosed d 41 true v k w → w ≡ false → v ≤ k
-    tag_few {w} x e = let y : Unclosed d 41 true v k false = rw e at x in y.3
+    pub tag_few : {w : Bool} → Unclosed d 41 (Some v) k w → w ≡ false → v ≤ k
+    tag_few {w} x e = let y : Unclosed d 41 (Some v) k false = rw e at x in y.1.1
 
-    pub tag_done : {w : Bool} {mid : List ℕ} → Unclosed d 41 true v k w → w ≡ false → k ≤ 99 → Wrote old mid n ((64 + m) ∷ i ∷ []) → Wrote mid out (n + 2) (42 ∷ v ∷ [])
-        → TagFrom s a p old out n v k (Upto (u + 1) (n + 4))
+    pub tag_done : {w : Bool} {mid : List ℕ} → Unclosed d 41 (Some v) k w → w ≡ false → k ≤ 99 → Wrote old mid n ((64 + m) ∷ i ∷ []) → Wrote mid out (n + 2) (42 ∷ v ∷ [])
+        → TagFrom s a p old out n v k (Ok (u + 1, n + 4))
     tag_done {w} x e lim w₁ w₂ o l si =
-        let y : Unclosed d 41 true v k false = rw e at x in
-        let lo = y.2 in
-        let hi = y.3 in
+        let y : Unclosed d 41 (Some v) k false = rw e at x in
+        let lo = y.1.0 in
+        let hi = y.1.1 in
         let same : o ≡ v = most_same o v l (omega (arith, hi)) in
         let t = tag_letter in
         ends_closed s a p old out n 0 si k (λ pl. calling pl (tagged o)) (tag_named o i t.move) (named_tag o si) t.here

@@ -20,28 +20,24 @@ use Rattle.macros.specs.ReadSoFar.Phase.{begun, signed, named, equals, increment
 use Rattle.macros.specs.ReadCalls.Turn.{into, text_of, closed, wrong}
 use Rattle.form_table.specs.Form.{call_items, move_code}
 use Rattle.read_scan.specs.Scan.{run, Here, Calls, fault_of, wrong_call}
-use Rattle.read_number.specs.Number.{Counts, Digits, Kept, most, number_end}
+use Rattle.read_number.specs.Number.{Counts, Digits, Kept, most}
 use Rattle.form_items.specs.Items.{Wrote}
-use Rattle.read_call.specs.Call.{Names, Letter, Naming, CalledFrom, NamedFrom, Sets, SetFrom, TagFrom, Asks, Starts, signs_in, mark_of, name_end}
+use Rattle.read_call.specs.Call.{Names, Letter, Naming, CalledFrom, NamedFrom, Sets, SetFrom, TagFrom, Asks, Starts, signs_in, mark_of, Named, name_read, no_name}
 use Rattle.read_text.specs.Text.{Comes, Ends, StoreFrom}
-use Rattle.read_ends.specs.Ends.{next_end}
+use Rattle.std.specs.Prelude.{Result, Ok, Err, Option as Maybe, Some, None}
+use Rattle.read_scan.specs.Bytes.{Next, refused}
+use Rattle.read_scan.specs.declared.ReadError.{ReadError}
+use Rattle.read_ends.specs.Ends.{Ended}
 use Rattle.read_scan.specs.declared.FileFault.{FileFault}
-use Rattle.read_scan.specs.declared.Next.{Next}
-use Rattle.read_scan.specs.declared.Next.TheVariants.{Byte, Refused as NoByte}
 use Rattle.read_number.specs.declared.Number.{Number}
-use Rattle.read_number.specs.declared.Number.TheVariants.{Got, Refused as NoNumber}
-use Rattle.read_call.specs.declared.Name.{Name}
-use Rattle.read_call.specs.declared.Name.TheVariants.{Got as GotName, Refused as NoName}
 use Rattle.read_call.specs.declared.Tail.{Tail}
-use Rattle.read_call.specs.declared.Tail.TheVariants.{Text, Set, Insert, Wrong}
-use Rattle.read_ends.specs.declared.Ended.{Ended}
-use Rattle.read_ends.specs.declared.Ended.TheVariants.{Upto, Refused as NoEnd}
+use Rattle.read_call.specs.declared.Tail.TheVariants.{Text, Set, Insert}
 use Rattle.read_scan.proofs.Laws.{here_on}
 use Rattle.read_number.proofs.Numbers.{tag_state, eats_tagged, eats_equals, eats_increment, eats_divisor}
 use Rattle.read_text.proofs.Turns.{turn_text, call_next, here_into}
 use Rattle.read_text.proofs.Closing.{ends_from, ends_none, ends_wrong, ends_closed}
 use Rattle.read_call.proofs.Naming.{code_none, code_some}
-use Rattle.read_call.proofs.Ending.{joined, names_stack, names_counter}
+use Rattle.read_call.proofs.Ending.{number_read, no_number, some_same, some_none, joined, names_stack, names_counter}
 
 -- BYTES BEHIND A LETTER
 
@@ -181,37 +177,37 @@ sets_divisor i =
 
 -- TAGS
 
-pub number_at_lem : (s : List ℕ) (a p : ℕ) {r : Number} {v : ℕ} {m : Bool} {b q : ℕ} → Counts s a p true r → r ≡ Got v m b q → Counts s a p true (Got v m b q)
+pub number_at_lem : (s : List ℕ) (a p : ℕ) {r : Result Number ReadError} {x : Maybe ℕ} {b q : ℕ} → Counts s a p true r → r ≡ number_read x b q → Counts s a p true (number_read x b q)
 number_at_lem s a p y e = rw e at y
 
 module _ (s : List ℕ) (a p : ℕ) (old out : List ℕ) (n : ℕ) (si : Site) (k : ℕ) (ok : may_store_tag si ≡ true) where
-  pub stack_none : {r : Number} {f : FileFault} {q : ℕ} {w : Ended} → Counts s a p true r → r ≡ NoNumber f q → w ≡ number_end r → CalledFrom s a p old out n stack si k w
-  stack_none {r} {f} {q} y e i =
-      let z : Counts s a p true (NoNumber f q) = rw e at y in
-      rw (i ∙ ap number_end e) (z.0, λ pl u t pr. z.1 (tag_state pl) (eats_tagged pl (rw u ok)) pr)
+  pub stack_none : {r : Result Number ReadError} {f : FileFault} {q : ℕ} → Counts s a p true r → r ≡ no_number f q → CalledFrom s a p old out n stack si k (refused f q)
+  stack_none {r} {f} {q} y e =
+      let z : Counts s a p true (no_number f q) = rw e at y in
+      (z.0, λ pl u t pr. z.1 (tag_state pl) (eats_tagged pl (rw u ok)) pr)
 
-  pub stack_tag : {v : ℕ} {m : Bool} {b q : ℕ} → Counts s a p true (Got v m b q) → m ≡ true → (w : Ended) → TagFrom s a q old out n v k w → CalledFrom s a p old out n stack si k w
-  stack_tag {v} {m} {b} {q} y j w t = by y.4.value y.4.kept (λ pl u g pr. y.4.answer (tag_state pl) (eats_tagged pl (rw u ok)) pr)
+  pub stack_tag : {x : Maybe ℕ} {v b q : ℕ} → Counts s a p true (number_read x b q) → x ≡ Some v → (w : Ended) → TagFrom s a q old out n v k w → CalledFrom s a p old out n stack si k w
+  stack_tag {x} {v} {b} {q} y j w t = by y.4.value y.4.kept (λ pl u g pr. y.4.answer (tag_state pl) (eats_tagged pl (rw u ok)) pr)
     where
-      by : (o : Option ℕ) → Kept o v m → Comes s a si k (λ pl. calling pl (begun stack)) p (λ pl. tag_state pl o) q → CalledFrom s a p old out n stack si k w
-      by none h g = absurd (true≢false (sym j ∙ h.1))
-      by (some x) h g =
-          ends_from s a p q old out n 0 0 si k (λ pl. calling pl (begun stack)) (λ pl. calling pl (tagged x)) w y.0 (omega arith) g (t x h.0 si)
+      by : (o : Option ℕ) → Kept o x → Comes s a si k (λ pl. calling pl (begun stack)) p (λ pl. tag_state pl o) q → CalledFrom s a p old out n stack si k w
+      by none h g = absurd (some_none (sym j ∙ h))
+      by (some u) h g =
+          ends_from s a p q old out n 0 0 si k (λ pl. calling pl (begun stack)) (λ pl. calling pl (tagged u)) w y.0 (omega arith) g (t u (some_same (sym j ∙ h)) si)
 
   -- behind spaces and skips alone
-  pub stack_begun : {v : ℕ} {m : Bool} {b q : ℕ} → Counts s a p true (Got v m b q) → m ≡ false → (w : Ended) → NamedFrom s a q old out n stack si w → CalledFrom s a p old out n stack si k w
-  stack_begun {v} {m} {b} {q} y j w t = by y.4.value y.4.kept (λ pl u g pr. y.4.answer (tag_state pl) (eats_tagged pl (rw u ok)) pr)
+  pub stack_begun : {x : Maybe ℕ} {b q : ℕ} → Counts s a p true (number_read x b q) → x ≡ None → (w : Ended) → NamedFrom s a q old out n stack si w → CalledFrom s a p old out n stack si k w
+  stack_begun {x} {b} {q} y j w t = by y.4.value y.4.kept (λ pl u g pr. y.4.answer (tag_state pl) (eats_tagged pl (rw u ok)) pr)
     where
-      by : (o : Option ℕ) → Kept o v m → Comes s a si k (λ pl. calling pl (begun stack)) p (λ pl. tag_state pl o) q → CalledFrom s a p old out n stack si k w
+      by : (o : Option ℕ) → Kept o x → Comes s a si k (λ pl. calling pl (begun stack)) p (λ pl. tag_state pl o) q → CalledFrom s a p old out n stack si k w
       by none h g = ends_from s a p q old out n 0 0 si k (λ pl. calling pl (begun stack)) (λ pl. calling pl (begun stack)) w y.0 (omega arith) g (t k)
-      by (some x) h g = absurd (true≢false (sym h.1 ∙ j))
+      by (some u) h g = absurd (some_none (sym h ∙ j))
 
 -- A LETTER AND WHAT FOLLOWS
 
-pub letter_at : (s : List ℕ) (a q b : ℕ) (sg : Bool) {r : Name} {i m c u : ℕ} → Naming s a q b sg r → r ≡ GotName i m c u → Letter s a q b sg i m c u
+pub letter_at : (s : List ℕ) (a q b : ℕ) (sg : Bool) {r : Named} {i m c u : ℕ} → Naming s a q b sg r → r ≡ name_read i m c u → Letter s a q b sg i m c u
 letter_at s a q b sg z e = rw e at z
 
-pub signed_at : (s : List ℕ) (a p b : ℕ) {x y : Bool} → x ≡ y → (r : Name) → Naming s a p b x r → Naming s a p b y r
+pub signed_at : (s : List ℕ) (a p b : ℕ) {x y : Bool} → x ≡ y → (r : Named) → Naming s a p b x r → Naming s a p b y r
 signed_at s a p b e r z = rw e at z
 
 insert_fits : (k : ℕ) (mk : Mark) (i : ℕ) (v : Move) → number_fits k (insert mk i v) ≡ true
@@ -231,42 +227,42 @@ names_of true si b h = names_counter si b
 names_of false si b h = names_stack si b (h refl)
 
 module _ (s : List ℕ) (a p : ℕ) (old out : List ℕ) (n : ℕ) (si : Site) (mk : Mark) (sg : Bool) {b : ℕ} (nm : Names si sg b (begun mk) (signed mk) (named mk)) where
-  pub mark_noname : {r : Name} {f : FileFault} {u : ℕ} {w : Ended} → Naming s a p b sg r → r ≡ NoName f u → w ≡ name_end r → NamedFrom s a p old out n mk si w
-  mark_noname {r} {f} {u} z e i =
-      let t : Naming s a p b sg (NoName f u) = rw e at z in
-      rw (i ∙ ap name_end e) (λ k. (t.0, λ pl x y pr. t.1 pl (begun mk) (signed mk) (named mk) (rw x nm) pr))
+  pub mark_noname : {r : Named} {f : FileFault} {u : ℕ} → Naming s a p b sg r → r ≡ no_name f u → NamedFrom s a p old out n mk si (refused f u)
+  mark_noname {r} {f} {u} z e =
+      let t : Naming s a p b sg (no_name f u) = rw e at z in
+      (λ k. (t.0, λ pl x y pr. t.1 pl (begun mk) (signed mk) (named mk) (rw x nm) pr))
 
   mark_named : {i m c u : ℕ} (t : Letter s a p b sg i m c u) (k : ℕ) → Comes s a si k (λ pl. calling pl (begun mk)) p (λ pl. calling pl (named mk i t.move)) u
   mark_named t k pl x y pr = t.answer pl (begun mk) (signed mk) (named mk) (rw x nm) pr
 
-  module _ {i m c u : ℕ} (t : Letter s a p b sg i m c u) {r : Tail} (x : Asks mk si sg c m r) where
-    pub mark_wrong : r ≡ Wrong → (f : FileFault) → fault_of f ≡ wrong_call c → NamedFrom s a p old out n mk si (NoEnd f u)
+  module _ {i m c u : ℕ} (t : Letter s a p b sg i m c u) {r : Maybe Tail} (x : Asks mk si sg c m r) where
+    pub mark_wrong : r ≡ None → (f : FileFault) → fault_of f ≡ wrong_call c → NamedFrom s a p old out n mk si (refused f u)
     mark_wrong e f j k =
-        let h : Asks mk si sg c m Wrong = rw e at x in
+        let h : Asks mk si sg c m None = rw e at x in
         ends_wrong s a p old out n 0 si k (λ pl. calling pl (begun mk)) (named mk i t.move) (mark_named t k) t.here f t.solid (h i t.move t.code t.last) j
 
-    pub mark_top : {code top : ℕ} → r ≡ Set code top → top ≤ 999999999
-    mark_top {code} {top} e = let h : Asks mk si sg c m (Set code top) = rw e at x in h.0
+    pub mark_top : {code top : ℕ} → r ≡ Some (Set code top) → top ≤ 999999999
+    mark_top {code} {top} e = let h : Asks mk si sg c m (Some (Set code top)) = rw e at x in h.0
 
-    pub mark_set : {code top : ℕ} → r ≡ Set code top → (w : Ended) → SetFrom s a (u + 1) old out n code i top w → NamedFrom s a p old out n mk si w
+    pub mark_set : {code top : ℕ} → r ≡ Some (Set code top) → (w : Ended) → SetFrom s a (u + 1) old out n code i top w → NamedFrom s a p old out n mk si w
     mark_set {code} {top} e w y k =
-        let h : Asks mk si sg c m (Set code top) = rw e at x in
+        let h : Asks mk si sg c m (Some (Set code top)) = rw e at x in
         let g = h.1 i t.move t.code in
         ends_from s a p (u + 1) old out n 0 4 si k (λ pl. calling pl (begun mk)) (λ pl. calling pl (g.0 none)) w
         (omega (arith, t.further)) (omega (arith, t.further))
         (λ pl z v pr. mark_named t k pl z v pr ∙ here_into pl (named mk i t.move) pr t.here (g.0 none) (rw z g.3)) (y g.0 g.1 g.2 si k)
 
-    pub mark_text : r ≡ Text → (w : Ended) → StoreFrom s a (u + 1) old out n i m w → NamedFrom s a p old out n mk si w
+    pub mark_text : r ≡ Some Text → (w : Ended) → StoreFrom s a (u + 1) old out n i m w → NamedFrom s a p old out n mk si w
     mark_text e w y k =
-        let h : Asks mk si sg c m Text = rw e at x in
+        let h : Asks mk si sg c m (Some Text) = rw e at x in
         ends_from s a p (u + 1) old out n 0 4 si k (λ pl. calling pl (begun mk)) (λ pl. call_text pl i t.move []) w
         (omega (arith, t.further)) (omega (arith, t.further))
         (λ pl z v pr. mark_named t k pl z v pr ∙ here_on t.here pr _ _ (λ q o. refl) (turn_text pl (named mk i t.move) i t.move c (rw z (h i t.move t.code))))
         (y t.move t.code si k)
 
-    pub mark_insert : {code : ℕ} → r ≡ Insert code → Wrote old out n (code ∷ i ∷ []) → NamedFrom s a p old out n mk si (Upto (u + 1) (n + 2))
+    pub mark_insert : {code : ℕ} → r ≡ Some (Insert code) → Wrote old out n (code ∷ i ∷ []) → NamedFrom s a p old out n mk si (Ok (u + 1, n + 2))
     mark_insert {code} e w k =
-        let h : Asks mk si sg c m (Insert code) = rw e at x in
+        let h : Asks mk si sg c m (Some (Insert code)) = rw e at x in
         let g = h i t.move t.code in
         ends_closed s a p old out n 0 si k (λ pl. calling pl (begun mk)) (named mk i t.move) (mark_named t k) t.here (insert mk i t.move)
         g.0 (insert_fits k mk i t.move) (rw g.1 w) (rw g.1 refl) (omega (arith, t.further)) (omega (arith, t.further))
@@ -274,11 +270,11 @@ module _ (s : List ℕ) (a p : ℕ) (old out : List ℕ) (n : ℕ) (si : Site) (
 -- A CALL THAT BEGINS WITH ITS LETTER
 
 module _ (s : List ℕ) (a p : ℕ) (old out : List ℕ) (n : ℕ) (mk : Mark) (si : Site) {r : Next} (y : Calls s a p r) where
-  pub letter_none : {f : FileFault} {q : ℕ} {w : Ended} → r ≡ NoByte f q → w ≡ next_end r → NamedFrom s a p old out n mk si w
-  letter_none e i k = ends_none s a p old out n 0 si k (λ pl. calling pl (begun mk)) (begun mk) (λ pl u t pr. refl) y e i
+  pub letter_none : {f : FileFault} {q : ℕ} → r ≡ refused f q → NamedFrom s a p old out n mk si (refused f q)
+  letter_none e k = ends_none s a p old out n 0 si k (λ pl. calling pl (begun mk)) (begun mk) (λ pl u t pr. refl) (rw e at y)
 
-  module _ {b q : ℕ} (e : r ≡ Byte b q) where
-    pub letter_byte : Calls s a p (Byte b q)
+  module _ {b q : ℕ} (e : r ≡ Ok (b, q)) where
+    pub letter_byte : Calls s a p (Ok (b, q))
     letter_byte = rw e at y
 
     pub letter_begun : (w : Ended) → NamedFrom s a q old out n mk si w → NamedFrom s a p old out n mk si w

@@ -13,12 +13,10 @@ use Rattle.macros.specs.Read.{Prior, CallSite, Phase, site_of, is_sign, sign_of,
 use Rattle.macros.specs.ReadSoFar.Part.{calling}
 use Rattle.form_table.specs.Form.{move_code}
 use Rattle.read_scan.specs.Scan.{run, Here, Calls, fault_of, wrong_call}
-use Rattle.read_call.specs.Call.{Names, Naming, sign_code, next_name}
+use Rattle.std.specs.Prelude.{Ok}
+use Rattle.read_scan.specs.Bytes.{Next, refused}
+use Rattle.read_call.specs.Call.{Names, name_read, no_name, Naming, sign_code}
 use Rattle.read_scan.specs.declared.FileFault.{FileFault}
-use Rattle.read_scan.specs.declared.Next.{Next}
-use Rattle.read_scan.specs.declared.Next.TheVariants.{Byte, Refused as NoByte}
-use Rattle.read_call.specs.declared.Name.{Name}
-use Rattle.read_call.specs.declared.Name.TheVariants.{Got as GotName, Refused as NoName}
 use Rattle.read_text.proofs.Turns.{call_next, call_none, here_wrong, here_into}
 
 -- CODES
@@ -89,16 +87,16 @@ module _ {s : List ℕ} {a p b : ℕ} (sg : Bool) (x : Here s a p b) (h : (is_si
   unfolding pick
   lead pl start sgn nam g pr = here_into pl start pr x (sgn (sign_of b)) (g.first ∙ rw h refl)
 
-  pub signed_none : {f : FileFault} {q : ℕ} {w : Name} → r ≡ NoByte f q → w ≡ next_name r → Naming s a p b sg w
-  signed_none {f} {q} e i =
-      let z : Calls s a (p + 1) (NoByte f q) = rw e at y in
-      rw (i ∙ ap next_name e) (z.found, λ pl start sgn nam g pr. lead pl start sgn nam g pr ∙ call_none pl (sgn (sign_of b)) pr z)
+  pub signed_none : {f : FileFault} {q : ℕ} → r ≡ refused f q → Naming s a p b sg (no_name f q)
+  signed_none {f} {q} e =
+      let z : Calls s a (p + 1) (refused f q) = rw e at y in
+      (z.found, λ pl start sgn nam g pr. lead pl start sgn nam g pr ∙ call_none pl (sgn (sign_of b)) pr z)
 
-  module _ {c q : ℕ} (e : r ≡ Byte c q) where
-    pub signed_byte : Calls s a (p + 1) (Byte c q)
+  module _ {c q : ℕ} (e : r ≡ Ok (c, q)) where
+    pub signed_byte : Calls s a (p + 1) (Ok (c, q))
     signed_byte = rw e at y
 
-    pub signed_wrong : (f : FileFault) → ascii_lower c ≡ false → fault_of f ≡ wrong_call c → Naming s a p b sg (NoName f q)
+    pub signed_wrong : (f : FileFault) → ascii_lower c ≡ false → fault_of f ≡ wrong_call c → Naming s a p b sg (no_name f q)
     unfolding pick
     signed_wrong f l i =
         let z = signed_byte in
@@ -117,14 +115,14 @@ module _ {s : List ℕ} {a p b : ℕ} (sg : Bool) (x : Here s a p b) (h : (is_si
           ∙ (call_next pl (sgn (sign_of b)) pr signed_byte
           ∙ here_into pl (sgn (sign_of b)) pr signed_byte.found.1 (nam c (before (sign_of b))) (g.second (sign_of b) c ∙ rw l refl))
 
-      pub signed_none_2 : {f : FileFault} {v : ℕ} {w : Name} → r' ≡ NoByte f v → w ≡ next_name r' → Naming s a p b sg w
-      signed_none_2 {f} {v} e' i =
-          let z : Calls s a (q + 1) (NoByte f v) = rw e' at y' in
-          rw (i ∙ ap next_name e') (z.found, λ pl start sgn nam g pr. letter pl start sgn nam g pr ∙ call_none pl (nam c (before (sign_of b))) pr z)
+      pub signed_none_2 : {f : FileFault} {v : ℕ} → r' ≡ refused f v → Naming s a p b sg (no_name f v)
+      signed_none_2 {f} {v} e' =
+          let z : Calls s a (q + 1) (refused f v) = rw e' at y' in
+          (z.found, λ pl start sgn nam g pr. letter pl start sgn nam g pr ∙ call_none pl (nam c (before (sign_of b))) pr z)
 
-      pub signed_got : {d v m : ℕ} → r' ≡ Byte d v → m ≡ sign_code b → Naming s a p b sg (GotName c m d v)
+      pub signed_got : {d v m : ℕ} → r' ≡ Ok (d, v) → m ≡ sign_code b → Naming s a p b sg (name_read c m d v)
       signed_got {d} {v} e' i =
-          let z : Calls s a (q + 1) (Byte d v) = rw e' at y' in
+          let z : Calls s a (q + 1) (Ok (d, v)) = rw e' at y' in
           record {
             move = before (sign_of b);
             code = i ∙ code_before b;
@@ -138,7 +136,7 @@ module _ {s : List ℕ} {a p b : ℕ} (sg : Bool) (x : Here s a p b) (h : (is_si
 -- A LETTER AT ONCE
 
 module _ {s : List ℕ} {a p b : ℕ} (sg : Bool) (x : Here s a p b) (h : (is_sign b && sg) ≡ false) where
-  pub name_wrong : (f : FileFault) → (b ≡ 32 → ⊥) → ascii_lower b ≡ false → fault_of f ≡ wrong_call b → Naming s a p b sg (NoName f p)
+  pub name_wrong : (f : FileFault) → (b ≡ 32 → ⊥) → ascii_lower b ≡ false → fault_of f ≡ wrong_call b → Naming s a p b sg (no_name f p)
   unfolding pick
   name_wrong f k l i =
       let t = x.stands in
@@ -150,20 +148,20 @@ module _ {s : List ℕ} {a p b : ℕ} (sg : Bool) (x : Here s a p b) (h : (is_si
     unfolding pick
     named pl start sgn nam g pr = here_into pl start pr x (nam b still) (g.first ∙ (rw h (rw l refl)))
 
-    pub name_none : {f : FileFault} {q : ℕ} {w : Name} → r ≡ NoByte f q → w ≡ next_name r → Naming s a p b sg w
-    name_none {f} {q} e i =
-        let z : Calls s a (p + 1) (NoByte f q) = rw e at y in
-        rw (i ∙ ap next_name e) (z.found, λ pl start sgn nam g pr. named pl start sgn nam g pr ∙ call_none pl (nam b still) pr z)
+    pub name_none : {f : FileFault} {q : ℕ} → r ≡ refused f q → Naming s a p b sg (no_name f q)
+    name_none {f} {q} e =
+        let z : Calls s a (p + 1) (refused f q) = rw e at y in
+        (z.found, λ pl start sgn nam g pr. named pl start sgn nam g pr ∙ call_none pl (nam b still) pr z)
 
-    module _ {c q : ℕ} (e : r ≡ Byte c q) where
-      pub name_byte : Calls s a (p + 1) (Byte c q)
+    module _ {c q : ℕ} (e : r ≡ Ok (c, q)) where
+      pub name_byte : Calls s a (p + 1) (Ok (c, q))
       name_byte = rw e at y
 
       there : (pl : CallSite) (start : Phase) (sgn : Sign → Phase) (nam : ℕ → Move → Phase) → Names (site_of pl) sg b start sgn nam → (pr : Prior)
           → run s a pr false p (calling pl start) ≡ run s a pr false q (calling pl (nam b still))
       there pl start sgn nam g pr = named pl start sgn nam g pr ∙ call_next pl (nam b still) pr name_byte
 
-      pub name_still : (is_sign c && sg) ≡ false → Naming s a p b sg (GotName b 0 c q)
+      pub name_still : (is_sign c && sg) ≡ false → Naming s a p b sg (name_read b 0 c q)
       name_still j =
           record {
             move = still;
@@ -181,14 +179,14 @@ module _ {s : List ℕ} {a p b : ℕ} (sg : Bool) (x : Here s a p b) (h : (is_si
         moved pl start sgn nam g pr =
             there pl start sgn nam g pr ∙ here_into pl (nam b still) pr name_byte.found.1 (nam b (after (sign_of c))) (g.third b c j)
 
-        pub name_none_2 : {f : FileFault} {v : ℕ} {w : Name} → r' ≡ NoByte f v → w ≡ next_name r' → Naming s a p b sg w
-        name_none_2 {f} {v} e' i =
-            let z : Calls s a (q + 1) (NoByte f v) = rw e' at y' in
-            rw (i ∙ ap next_name e') (z.found, λ pl start sgn nam g pr. moved pl start sgn nam g pr ∙ call_none pl (nam b (after (sign_of c))) pr z)
+        pub name_none_2 : {f : FileFault} {v : ℕ} → r' ≡ refused f v → Naming s a p b sg (no_name f v)
+        name_none_2 {f} {v} e' =
+            let z : Calls s a (q + 1) (refused f v) = rw e' at y' in
+            (z.found, λ pl start sgn nam g pr. moved pl start sgn nam g pr ∙ call_none pl (nam b (after (sign_of c))) pr z)
 
-        pub name_moved : {d v m : ℕ} → r' ≡ Byte d v → m ≡ sign_code c → Naming s a p b sg (GotName b (2 + m) d v)
+        pub name_moved : {d v m : ℕ} → r' ≡ Ok (d, v) → m ≡ sign_code c → Naming s a p b sg (name_read b (2 + m) d v)
         name_moved {d} {v} e' i =
-            let z : Calls s a (q + 1) (Byte d v) = rw e' at y' in
+            let z : Calls s a (q + 1) (Ok (d, v)) = rw e' at y' in
             record {
               move = after (sign_of c);
               code = ap (λ (k : ℕ). 2 + k) i ∙ code_after c;

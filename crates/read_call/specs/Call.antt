@@ -1,5 +1,5 @@
 -- Calls: what reading one says of the machine, at every place where it may stand.
-use Rattle.std.specs.Prelude.{ℕ, ◌+◌, ◌≤◌, ◌<◌, ◌≡◌, Bool, true, false, ◌&&◌, List, [], ◌∷◌, eqb, length}
+use Rattle.std.specs.Prelude.{ℕ, ◌+◌, ◌≤◌, ◌<◌, ◌≡◌, Bool, true, false, ◌&&◌, List, [], ◌∷◌, eqb, length, Result, Ok, Err, Option as Maybe, Some, None}
 use Rattle.std.proofs.Math.Option.{Option, none}
 use Rattle.macros.specs.Macro.{Mark, Sign, Move, Call, pick, within, ascii_lower, digit, tags}
 use Rattle.macros.specs.Macro.Mark.{stack, counter}
@@ -16,20 +16,16 @@ use Rattle.read_scan.specs.Scan.MacroRead.{refused_at}
 use Rattle.form_bytes.specs.Fours.{four}
 use Rattle.form_table.specs.Form.{call_items, move_code}
 use Rattle.read_scan.specs.Scan.{fault_of, run, Here}
-use Rattle.read_ends.specs.Ends.{Zeroed}
+use Rattle.read_scan.specs.declared.FileFault.{FileFault}
+use Rattle.read_scan.specs.declared.ReadError.{ReadError}
+use Rattle.read_ends.specs.Ends.{Ended, Zeroed}
 use Rattle.read_text.specs.Text.{Ends}
 use Rattle.read_number.specs.Number.{Eats, most}
-use Rattle.read_scan.specs.declared.FileFault.TheVariants.{Incomplete}
-use Rattle.read_scan.specs.declared.Next.{Next}
-use Rattle.read_scan.specs.declared.Next.TheVariants.{Byte, Refused as NoByte}
 use Rattle.read_call.specs.declared.Site.{Site as CodeSite}
 use Rattle.read_call.specs.declared.Site.TheVariants.{BeforePattern, Replacement, Command}
 use Rattle.read_call.specs.declared.Name.{Name}
-use Rattle.read_call.specs.declared.Name.TheVariants.{Got as GotName, Refused as NoName}
 use Rattle.read_call.specs.declared.Tail.{Tail}
-use Rattle.read_call.specs.declared.Tail.TheVariants.{Text, Set, Insert, Wrong}
-use Rattle.read_ends.specs.declared.Ended.{Ended}
-use Rattle.read_ends.specs.declared.Ended.TheVariants.{Refused as NoEnd}
+use Rattle.read_call.specs.declared.Tail.TheVariants.{Text, Set, Insert}
 
 -- `#` if true, else `&`
 abbrev pub mark_of : Bool → Mark
@@ -67,12 +63,22 @@ pub record Letter (s : List ℕ) (a p b : ℕ) (sg : Bool) (i m c q : ℕ) : Typ
       → (pr : Prior)
       → run s a pr false p (calling pl start) ≡ run s a pr false q (calling pl (nam i move))
 
+-- a letter with its move's code, and the byte behind them with its place; or a refusal with its place
+abbrev pub Named : Type 0
+Named = Result Name ReadError
+
+abbrev pub name_read : ℕ → ℕ → ℕ → ℕ → Named
+name_read i m c q = Ok (record { letter = i; move_code = m; behind = c; place = q })
+
+abbrev pub no_name : FileFault → ℕ → Named
+no_name f q = Err (record { fault = f; place = q })
+
 -- what reading a letter says
-abbrev pub Naming : List ℕ → ℕ → ℕ → ℕ → Bool → Name → Type 0
-Naming s a p b sg (GotName i m c q) = Letter s a p b sg i m c q
-Naming s a p b sg (NoName f q) =
-    (q ≤ length s) × ((pl : CallSite) (start : Phase) (sgn : Sign → Phase) (nam : ℕ → Move → Phase)
-    → Names (site_of pl) sg b start sgn nam → (pr : Prior) → run s a pr false p (calling pl start) ≡ refused_at (fault_of f) q)
+abbrev pub Naming : List ℕ → ℕ → ℕ → ℕ → Bool → Named → Type 0
+Naming s a p b sg (Ok x) = Letter s a p b sg x.letter x.move_code x.behind x.place
+Naming s a p b sg (Err d) =
+    (d.place ≤ length s) × ((pl : CallSite) (start : Phase) (sgn : Sign → Phase) (nam : ℕ → Move → Phase)
+    → Names (site_of pl) sg b start sgn nam → (pr : Prior) → run s a pr false p (calling pl start) ≡ refused_at (fault_of d.fault) d.place)
 
 -- whether a letter may have a sign: a counter's only where it may insert
 abbrev pub signs_in : Bool → Site → Bool
@@ -91,10 +97,10 @@ pub record TagLetter (s : List ℕ) (a p i m d q : ℕ) : Type 0 where
       → run s a pr false p (calling pl (tagged w)) ≡ run s a pr false q (calling pl (tag_named w i move))
 
 -- what reading them says
-abbrev pub TagNaming : List ℕ → ℕ → ℕ → Name → Type 0
-TagNaming s a p (GotName i m d q) = TagLetter s a p i m d q
-TagNaming s a p (NoName f q) =
-    (q ≤ length s) × ((w : ℕ) (pl : CallSite) (pr : Prior) → run s a pr false p (calling pl (tagged w)) ≡ refused_at (fault_of f) q)
+abbrev pub TagNaming : List ℕ → ℕ → ℕ → Named → Type 0
+TagNaming s a p (Ok x) = TagLetter s a p x.letter x.move_code x.behind x.place
+TagNaming s a p (Err d) =
+    (d.place ≤ length s) × ((w : ℕ) (pl : CallSite) (pr : Prior) → run s a pr false p (calling pl (tagged w)) ≡ refused_at (fault_of d.fault) d.place)
 
 -- THE ENDS OF CALLS
 
@@ -130,29 +136,17 @@ SetFrom s a p old out n code i top r =
     → Ends s a p old out n 4 si k (λ pl. calling pl (ph none)) r
 
 -- what the byte c behind a letter with a move of the code m asks for, where sg says whether a sign may stand
-abbrev pub Asks : Mark → Site → Bool → ℕ → ℕ → Tail → Type 0
-Asks mk si sg c m Text = (i : ℕ) (v : Move) → m ≡ move_code v → call_byte si (named mk i v) c ≡ text_of i v
-Asks mk si sg c m (Set code top) =
+abbrev pub Asks : Mark → Site → Bool → ℕ → ℕ → Maybe Tail → Type 0
+Asks mk si sg c m (Some Text) = (i : ℕ) (v : Move) → m ≡ move_code v → call_byte si (named mk i v) c ≡ text_of i v
+Asks mk si sg c m (Some (Set code top)) =
     (top ≤ 999999999) × ((i : ℕ) (v : Move) → m ≡ move_code v → (ph : Option ℕ → Phase) × (d : ℕ → Call) × Sets code i top ph d
     × (call_byte si (named mk i v) c ≡ into (ph none)))
-Asks mk si sg c m (Insert code) =
+Asks mk si sg c m (Some (Insert code)) =
     (i : ℕ) (v : Move) → m ≡ move_code v → (call_byte si (named mk i v) c ≡ closed (insert mk i v))
     × (call_items (insert mk i v) ≡ code ∷ i ∷ [])
-Asks mk si sg c m Wrong =
+Asks mk si sg c m None =
     (i : ℕ) (v : Move) → m ≡ move_code v → (is_still v ≡ true → (is_sign c && sg) ≡ false) → call_byte si (named mk i v) c ≡ wrong
 
 -- behind a tag's number w, of which v is kept
 abbrev pub TagFrom : List ℕ → ℕ → ℕ → List ℕ → List ℕ → ℕ → ℕ → ℕ → Ended → Type 0
 TagFrom s a p old out n v k r = (w : ℕ) → v ≡ most w → (si : Site) → Ends s a p old out n 0 si k (λ pl. calling pl (tagged w)) r
-
--- REFUSALS HANDED ON
-
--- a refusal of a letter with its sign handed on
-abbrev pub name_end : Name → Ended
-name_end (GotName i m b q) = NoEnd Incomplete q
-name_end (NoName f q) = NoEnd f q
-
--- a refusal of a byte handed on, where a letter with its sign is read
-abbrev pub next_name : Next → Name
-next_name (Byte b q) = NoName Incomplete q
-next_name (NoByte f q) = NoName f q

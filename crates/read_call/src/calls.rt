@@ -4,7 +4,7 @@ ghost use Rattle.macros.specs.Macro.{digit};
 ghost use Rattle.macros.specs.Macro.Mark.{stack};
 ghost use Rattle.macros.specs.Read.{is_sign, may_insert, may_store_tag};
 ghost use Rattle.read_scan.specs.Scan.{Reached, Here};
-ghost use Rattle.read_call.specs.Call.{CallRead, CalledFrom, NamedFrom, Naming, TagNaming, SetFrom, TagFrom, Asks, Starts, signs_in, site_is, mark_of, sign_code, next_name, name_end};
+ghost use Rattle.read_call.specs.Call.{CallRead, CalledFrom, NamedFrom, Naming, TagNaming, SetFrom, TagFrom, Asks, Starts, signs_in, site_is, mark_of, sign_code};
 
 use crate::{MOST_COUNTER, MOST_ENTRIES, Name, Site, Tail};
 use form_bytes::put_number;
@@ -14,33 +14,11 @@ use form_items::codes::{
 };
 use form_items::put_item;
 use read_bytes::is_lower;
-use read_ends::{Ended, next_end, or_zeros};
-use read_number::{Number, digits, number_end, unclosed};
+use read_ends::or_zeros;
+use read_number::{Number, digits, unclosed};
+use read_scan::ReadError;
 use read_scan::scan::{call_byte, wrong_byte};
-use read_scan::{FileFault, Next};
 use read_text::text_call;
-
-// REFUSALS HANDED ON
-
-// A letter's refusal, as its call's.
-fn name_end(n: Name) -> Ended
-    ensures { result ≡ name_end n }
-{
-    match n {
-        Name::Got(_, _, _, q) => Ended::Refused(FileFault::Incomplete, q),
-        Name::Refused(f, q) => Ended::Refused(f, q),
-    }
-}
-
-// A byte's refusal, as a letter's.
-fn next_name(n: Next) -> Name
-    ensures { result ≡ next_name n }
-{
-    match n {
-        Next::Byte(_, q) => Name::Refused(FileFault::Incomplete, q),
-        Next::Refused(f, q) => Name::Refused(f, q),
-    }
-}
 
 // LETTERS AND THEIR SIGNS
 
@@ -48,13 +26,7 @@ fn next_name(n: Next) -> Name
 fn takes_sign(b: u8, signs: bool) -> bool
     ensures { result ≡ (is_sign b && signs) }
 {
-    if b == b'+' {
-        return signs;
-    }
-    if b == b'-' {
-        return signs;
-    }
-    false
+    signs && (b == b'+' || b == b'-')
 }
 
 // The code of a move by `+` or `-`.
@@ -68,26 +40,25 @@ fn sign_code(b: u8) -> u8
 }
 
 // A letter behind the sign b.
-fn signed_name(s: &[u8], a: usize, at: usize, b: u8, signs: bool) -> Name
+fn signed_name(s: &[u8], a: usize, at: usize, b: u8, signs: bool) -> Result<Name, ReadError>
     requires { Here s.now a at b × ((is_sign b && signs) ≡ true) }
     ensures { Naming s.now a at b signs result }
 {
-    let next = call_byte(s, a, at + 1);
-    let Next::Byte(c, q) = next else {
-        return next_name(next);
-    };
+    let (c, q) = call_byte(s, a, at + 1)?;
     if !is_lower(c) {
-        return Name::Refused(wrong_byte(c), q);
+        return Err(wrong_byte(c).at(q));
     }
-    let last = call_byte(s, a, q + 1);
-    let Next::Byte(d, z) = last else {
-        return next_name(last);
-    };
-    Name::Got(c, sign_code(b), d, z)
+    let (d, z) = call_byte(s, a, q + 1)?;
+    Ok(Name {
+        letter: c,
+        move_code: sign_code(b),
+        behind: d,
+        place: z,
+    })
 }
 
 // A letter, perhaps with a sign before or behind it; b is its first byte.
-fn name(s: &[u8], a: usize, at: usize, b: u8, signs: bool) -> Name
+fn name(s: &[u8], a: usize, at: usize, b: u8, signs: bool) -> Result<Name, ReadError>
     requires { Here s.now a at b × (b ≡ 32 → ⊥) }
     ensures { Naming s.now a at b signs result }
 {
@@ -95,20 +66,24 @@ fn name(s: &[u8], a: usize, at: usize, b: u8, signs: bool) -> Name
         return signed_name(s, a, at, b, signs);
     }
     if !is_lower(b) {
-        return Name::Refused(wrong_byte(b), at);
+        return Err(wrong_byte(b).at(at));
     }
-    let next = call_byte(s, a, at + 1);
-    let Next::Byte(c, q) = next else {
-        return next_name(next);
-    };
+    let (c, q) = call_byte(s, a, at + 1)?;
     if !takes_sign(c, signs) {
-        return Name::Got(b, STILL, c, q);
+        return Ok(Name {
+            letter: b,
+            move_code: STILL,
+            behind: c,
+            place: q,
+        });
     }
-    let last = call_byte(s, a, q + 1);
-    let Next::Byte(d, z) = last else {
-        return next_name(last);
-    };
-    Name::Got(b, BEHIND + sign_code(c), d, z)
+    let (d, z) = call_byte(s, a, q + 1)?;
+    Ok(Name {
+        letter: b,
+        move_code: BEHIND + sign_code(c),
+        behind: d,
+        place: z,
+    })
 }
 
 // NUMBERS
@@ -123,34 +98,28 @@ fn set_call(
     code: u8,
     i: u8,
     top: u64,
-) -> Ended
+) -> Result<(usize, usize), ReadError>
     requires { Reached s.now a at × (n + 4 + 2 * (a + 513 - at) ≤ length out.old) × (top ≤ 999999999) }
     ensures { SetFrom s.now a at out.old out.new n code i top result }
 {
-    let number = digits(s, a, at, true);
-    let Number::Got(v, some, b, q) = number else {
-        return number_end(number);
-    };
-    if unclosed(b, b')', some, v, top) {
-        return Ended::Refused(wrong_byte(b), q);
+    let number = digits(s, a, at, true)?;
+    if unclosed(number.behind, b')', number.value, top) {
+        return Err(wrong_byte(number.behind).at(number.place));
     }
     put_item(out, n, code, i);
-    put_number(out, n + 2, v as u32);
-    Ended::Upto(q + 1, n + 6)
+    put_number(out, n + 2, number.value.unwrap() as u32);
+    Ok((number.place + 1, n + 6))
 }
 
 // The `,` behind a tag's number, which must be the byte b, and the letter behind it.
-fn tag_name(s: &[u8], a: usize, at: usize, b: u8) -> Name
+fn tag_name(s: &[u8], a: usize, at: usize, b: u8) -> Result<Name, ReadError>
     requires { Here s.now a at b × (b ≡ 32 → ⊥) × (digit b ≡ false) }
     ensures { TagNaming s.now a at result }
 {
     if b != b',' {
-        return Name::Refused(wrong_byte(b), at);
+        return Err(wrong_byte(b).at(at));
     }
-    let next = call_byte(s, a, at + 1);
-    let Next::Byte(c, q) = next else {
-        return next_name(next);
-    };
+    let (c, q) = call_byte(s, a, at + 1)?;
     name(s, a, q, c, true)
 }
 
@@ -164,20 +133,17 @@ fn tag_call(
     n: usize,
     v: u64,
     tags: usize,
-) -> Ended
+) -> Result<(usize, usize), ReadError>
     requires { Here s.now a at b × (b ≡ 32 → ⊥) × (digit b ≡ false) × (n + 2 * (a + 513 - at) ≤ length out.old) × (tags ≤ 99) }
     ensures { TagFrom s.now a at out.old out.new n v tags result }
 {
-    let named = tag_name(s, a, at, b);
-    let Name::Got(i, m, d, z) = named else {
-        return name_end(named);
-    };
-    if unclosed(d, b')', true, v, tags as u64) {
-        return Ended::Refused(wrong_byte(d), z);
+    let named = tag_name(s, a, at, b)?;
+    if unclosed(named.behind, b')', Some(v), tags as u64) {
+        return Err(wrong_byte(named.behind).at(named.place));
     }
-    put_item(out, n, STORE_TAG + m, i);
+    put_item(out, n, STORE_TAG + named.move_code, named.letter);
     put_item(out, n + 2, STORED_TAG, v as u8);
-    Ended::Upto(z + 1, n + 4)
+    Ok((named.place + 1, n + 4))
 }
 
 // WHAT A CALL MAY DO
@@ -207,63 +173,63 @@ fn may_store_tag(site: Site) -> bool
 // CALLS
 
 // What the byte c behind a letter with the move m asks for in `&(..)`.
-fn stack_tail(c: u8, m: u8, site: Site) -> Tail
+fn stack_tail(c: u8, m: u8, site: Site) -> Option<Tail>
     requires { m ≤ 4 }
     ensures { Asks (mark_of false) (site_is site) (signs_in false (site_is site)) c m result }
 {
     if c == b':' {
-        return Tail::Text;
+        return Some(Tail::Text);
     }
     if c == b'=' {
         if 0 < m {
-            return Tail::Wrong;
+            return None;
         }
-        return Tail::Set(SET_POINTER, MOST_ENTRIES);
+        return Some(Tail::Set(SET_POINTER, MOST_ENTRIES));
     }
     if c != b')' {
-        return Tail::Wrong;
+        return None;
     }
     if may_insert(site) {
-        return Tail::Insert(INSERT_ENTRY + m);
+        return Some(Tail::Insert(INSERT_ENTRY + m));
     }
-    Tail::Wrong
+    None
 }
 
 // What the byte c behind a letter with the move m asks for in `#(..)`.
-fn counter_tail(c: u8, m: u8, site: Site) -> Tail
+fn counter_tail(c: u8, m: u8, site: Site) -> Option<Tail>
     requires { m ≤ 4 }
     ensures { Asks (mark_of true) (site_is site) (signs_in true (site_is site)) c m result }
 {
     let inserts = may_insert(site);
     if c == b',' {
         if 0 < m {
-            return Tail::Wrong;
+            return None;
         }
-        return Tail::Set(SET_INCREMENT, MOST_COUNTER);
+        return Some(Tail::Set(SET_INCREMENT, MOST_COUNTER));
     }
     if c == b'=' {
         if 0 < m {
-            return Tail::Wrong;
+            return None;
         }
-        return Tail::Set(SET_VALUE, MOST_COUNTER);
+        return Some(Tail::Set(SET_VALUE, MOST_COUNTER));
     }
     if c == b':' {
         if (0 < m) | !inserts {
-            return Tail::Wrong;
+            return None;
         }
-        return Tail::Set(DIVIDE, MOST_COUNTER);
+        return Some(Tail::Set(DIVIDE, MOST_COUNTER));
     }
     if c != b')' {
-        return Tail::Wrong;
+        return None;
     }
     if inserts {
-        return Tail::Insert(INSERT_VALUE + m);
+        return Some(Tail::Insert(INSERT_VALUE + m));
     }
-    Tail::Wrong
+    None
 }
 
 // What the byte c behind a letter with the move m asks for, in `&(..)` or, if counter, in `#(..)`.
-fn tail(c: u8, m: u8, counter: bool, site: Site) -> Tail
+fn tail(c: u8, m: u8, counter: bool, site: Site) -> Option<Tail>
     requires { m ≤ 4 }
     ensures { Asks (mark_of counter) (site_is site) (signs_in counter (site_is site)) c m result }
 {
@@ -293,23 +259,19 @@ fn named_call(
     n: usize,
     counter: bool,
     site: Site,
-) -> Ended
+) -> Result<(usize, usize), ReadError>
     requires { Here s.now a at b × (b ≡ 32 → ⊥) × Starts counter (site_is site) b × (n + 2 * (a + 513 - at) ≤ length out.old) }
     ensures { NamedFrom s.now a at out.old out.new n (mark_of counter) (site_is site) result }
 {
-    let named = name(s, a, at, b, signs_in(counter, site));
-    let Name::Got(i, m, c, z) = named else {
-        return name_end(named);
-    };
-    let asked = tail(c, m, counter, site);
-    match asked {
-        Tail::Text => text_call(s, out, a, z + 1, n, i, m),
-        Tail::Set(code, top) => set_call(s, out, a, z + 1, n, code, i, top),
-        Tail::Insert(code) => {
-            put_item(out, n, code, i);
-            Ended::Upto(z + 1, n + 2)
+    let named = name(s, a, at, b, signs_in(counter, site))?;
+    match tail(named.behind, named.move_code, counter, site) {
+        Some(Tail::Text) => text_call(s, out, a, named.place + 1, n, named.letter, named.move_code),
+        Some(Tail::Set(code, top)) => set_call(s, out, a, named.place + 1, n, code, named.letter, top),
+        Some(Tail::Insert(code)) => {
+            put_item(out, n, code, named.letter);
+            Ok((named.place + 1, n + 2))
         }
-        Tail::Wrong => Ended::Refused(wrong_byte(c), z),
+        None => Err(wrong_byte(named.behind).at(named.place)),
     }
 }
 
@@ -322,14 +284,11 @@ fn letter_call(
     n: usize,
     counter: bool,
     site: Site,
-) -> Ended
+) -> Result<(usize, usize), ReadError>
     requires { Reached s.now a at × (n + 2 * (a + 513 - at) ≤ length out.old) × (counter ≡ false → may_store_tag (site_is site) ≡ false) }
     ensures { NamedFrom s.now a at out.old out.new n (mark_of counter) (site_is site) result }
 {
-    let next = call_byte(s, a, at);
-    let Next::Byte(b, q) = next else {
-        return next_end(next);
-    };
+    let (b, q) = call_byte(s, a, at)?;
     named_call(s, out, a, q, b, n, counter, site)
 }
 
@@ -342,21 +301,18 @@ fn stack_call(
     n: usize,
     site: Site,
     tags: usize,
-) -> Ended
+) -> Result<(usize, usize), ReadError>
     requires { Reached s.now a at × (n + 2 * (a + 513 - at) ≤ length out.old) × (tags ≤ 99) }
     ensures { CalledFrom s.now a at out.old out.new n stack (site_is site) tags result }
 {
     if !may_store_tag(site) {
         return letter_call(s, out, a, at, n, false, site);
     }
-    let number = digits(s, a, at, true);
-    let Number::Got(v, some, b, q) = number else {
-        return number_end(number);
-    };
-    if some {
-        return tag_call(s, out, a, q, b, n, v, tags);
+    let number = digits(s, a, at, true)?;
+    match number.value {
+        Some(v) => tag_call(s, out, a, number.place, number.behind, n, v, tags),
+        None => named_call(s, out, a, number.place, number.behind, n, false, site),
     }
-    named_call(s, out, a, q, b, n, false, site)
 }
 
 // One call behind its `&(` or, if counter, `#(`.
@@ -369,7 +325,7 @@ fn one_call(
     counter: bool,
     site: Site,
     tags: usize,
-) -> Ended
+) -> Result<(usize, usize), ReadError>
     requires { Reached s.now a at × (n + 2 * (a + 513 - at) ≤ length out.old) × (tags ≤ 99) }
     ensures { CalledFrom s.now a at out.old out.new n (mark_of counter) (site_is site) tags result }
 {
@@ -389,7 +345,7 @@ pub fn call(
     counter: bool,
     site: Site,
     tags: usize,
-) -> Ended
+) -> Result<(usize, usize), ReadError>
     requires { Reached s.now a at × (n + 2 * (a + 513 - at) ≤ length out.old) × (tags ≤ 99) }
     ensures { CallRead s.now a at out.old out.new n (mark_of counter) (site_is site) tags result }
 {

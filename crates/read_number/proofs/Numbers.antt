@@ -25,11 +25,11 @@ use Rattle.read_scan.specs.declared.FileFault.{FileFault}
 use Rattle.read_scan.proofs.Bytes.{seen_byte, seen_none}
 use Rattle.read_scan.proofs.Laws.{here_on}
 
-most_low : (n : ℕ) → n < 1000000000 → most n ≡ n
+pub most_low : (n : ℕ) → n < 1000000000 → most n ≡ n
 unfolding most pick
 most_low n h = simp (lt-ltb _ _ h)
 
-most_high : (n : ℕ) → 1000000000 ≤ n → most n ≡ 1000000000
+pub most_high : (n : ℕ) → 1000000000 ≤ n → most n ≡ 1000000000
 unfolding most pick
 most_high n h = simp (le-ltb _ _ h)
 
