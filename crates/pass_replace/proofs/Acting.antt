@@ -1,14 +1,14 @@
 -- What an action does, by its code, and one action after the other.
-use Prim.Native.Nat.{ℕ, zero, suc, ◌+◌, ◌-◌, ◌≤◌, ◌<◌}
-use mathlib.Core.Path.{◌≡◌, refl, sym, ap, ◌∙◌, subst}
+use Prim.Native.Nat.{ℕ, zero, suc, ◌-◌, ◌≤◌, ◌<◌}
+use mathlib.Core.Path.{◌≡◌, refl, sym, ap, ◌∙◌}
 use mathlib.Core.Bool.{true, false}
 use mathlib.Core.List.{List, [], ◌∷◌}
 use native.Mathlib.Omega.{arith}
-use borrow.Author.Tests.{lt-ltb, le-ltb, ne_eqb}
-use lib.ListN.{length, get_or, drop, length-drop, drop_of_length-le}
-use lib.Seq.{drop-drop}
+use borrow.Author.Tests.{lt-ltb, le-ltb, ne_eqb, eqb-true, eqb-false}
+use lib.Dec.{eqb}
+use lib.ListN.{length, get_or, drop}
 use Rattle.macros.specs.Bounds.{most_line_bytes}
-use Rattle.macros.specs.Macro.{pick, within}
+use Rattle.macros.specs.Macro.{pick}
 use Rattle.macros.specs.Formed.{Letter}
 use Rattle.lines.specs.State.{counter_of}
 use Rattle.lines.specs.Dividing.{divided_text}
@@ -18,7 +18,7 @@ use Rattle.form_state.specs.Access.{IsState, OfState}
 use Rattle.form_table.specs.Actions.{number_in, text_in, action_size}
 use Rattle.pass_texts.proofs.Inserting.{puts_does}
 use Rattle.form_table.proofs.Actions.{some_size}
-use Rattle.pass_steps.specs.Moments.{size_of, Does, Inserts, Changes}
+use Rattle.pass_steps.specs.Moments.{Does, Inserts, Changes}
 use Rattle.pass_replace.specs.Tags.{tag_in}
 use Rattle.pass_replace.specs.Acting.{tagged_in, act_in, stored_in, divides_in, access_in, action_in, acts_in, Fits}
 use Rattle.pass_call.specs.Moving.{moves_in, sets_in}
@@ -149,6 +149,13 @@ module _ (f : List ℕ → Work → Done) {size k : ℕ} {items rest out b out�
         record {
           on = λ out₃ b₃ u x. to_do.on out₃ b₃ u (does_by (λ w. acts_cons f rest w h ∙ ap (λ (y : ℕ). f rest w >>= act_in f 0 (drop y rest)) (sym q)) (does_then p x));
         }
+
+-- whether items are left
+pub some_left : {n : ℕ} → false ≡ eqb n 0 → 0 < n
+some_left e = let f = eqb-false _ _ (sym e) in omega arith
+
+pub none_left : {n : ℕ} → true ≡ eqb n 0 → n ≡ 0
+none_left e = eqb-true _ _ (sym e)
 
 -- an action that fits stands where nothing but such actions do
 pub fit_first : {t : List ℕ} → Fits t → 0 < length t → Fit t

@@ -5,18 +5,17 @@ use mathlib.Core.Bool.{Bool, true, false}
 use mathlib.Core.List.{List, [], ◌∷◌, ◌++◌}
 use native.Mathlib.Nat.{add-zero}
 use native.Mathlib.Omega.{arith}
-use borrow.Author.Tests.{ltb-true, ltb-false, lt-ltb, le-ltb, ne_eqb}
+use borrow.Author.Tests.{ltb-true, ltb-false, ne_eqb}
 use lib.Dec.{eqb, ltb}
 use lib.ListN.{length, get_or, take, drop, length-drop, length-take, drop_of_length-le}
 use lib.Seq.{drop-cons, drop-drop, get_or-drop, slice, slice_empty}
-use Rattle.macros.specs.Macro.{Closure, Member, PatternUnit, Piece, pick}
+use Rattle.macros.specs.Macro.{Closure, Member, PatternUnit, Piece}
 use Rattle.macros.specs.Macro.Member.{single, range}
 use Rattle.macros.specs.Macro.Mark.{stack, counter}
 use Rattle.macros.specs.Macro.PatternUnit.{literal, kind, class, call_of}
 use Rattle.macros.specs.Macro.Piece.{element, start, end, left, right}
 use Rattle.form_table.specs.Form.{closure_code, unit_code, member_items, members_items, unit_rest, piece_items, pattern_items}
 use Rattle.lines.specs.Matching.{closing, tag_text}
-use Rattle.lines.proofs.KeepTests.{by_pick}
 use Rattle.pass_replace.specs.Contract.{EndsFrom}
 use Rattle.pass_replace.specs.Tags.{close_step, close_in, tag_step, tag_in, Spans, Divided}
 use Rattle.pass_steps.specs.Texts.{Cut}

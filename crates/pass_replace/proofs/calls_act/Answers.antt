@@ -7,8 +7,8 @@ use Rattle.pass_replace.proofs.calls_act.Goals as goal
 pub two_at-n-requires : goal.two_at-n-requires
 two_at-n-requires c = omega (arith, slot_size c.requires)
 
-pub returns-then-n-lt1 : goal.returns-then-n-lt1
-returns-then-n-lt1 c = prepares_none c.two_at-n.ensures.0 c.if-n-lt1.true
+pub returns-then-n-eq0 : goal.returns-then-n-eq0
+returns-then-n-eq0 c = prepares_none c.two_at-n.ensures.0 c.if-n-eq0.true
 
 pub slice_bounds-act-end-4 : goal.slice_bounds-act-end-4
 slice_bounds-act-end-4 c = let pre = c.requires in omega (arith, calls_short pre, slot_size pre, c.two_at-n.ensures.0)

@@ -1,5 +1,4 @@
 use Prim.Native.Nat.{◌≤◌}
-use mathlib.Core.Path.{◌≡◌}
 use lib.ListN.{length}
 use Rattle.form_state.specs.Access.{IsState}
 use Rattle.pass_replace.specs.Acting.{acts_in, Fits}
@@ -9,7 +8,6 @@ use Rattle.pass_replace.proofs.actions.act.Given as goal
 abbrev pub invariant-loop-rest : goal.invariant-loop-rest
 invariant-loop-rest l =
     record {
-      long : length l.out ≡ length l.initial.out;
       state : IsState l.state;
       room : l.size ≤ 1054;
       fits : Fits l.rest;
