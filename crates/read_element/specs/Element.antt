@@ -1,5 +1,5 @@
 -- What the answers about an element say of the machine, behind any pieces read before.
-use Rattle.std.specs.Prelude.{ℕ, ◌+◌, ◌-◌, ◌*◌, ◌≤◌, ◌<◌, ◌≡◌, Bool, true, false, List, [], ◌∷◌, eqb, length}
+use Rattle.std.specs.Prelude.{ℕ, ◌+◌, ◌-◌, ◌*◌, ◌≤◌, ◌<◌, ◌≡◌, Bool, true, false, List, [], ◌∷◌, eqb, length, Result, Ok, Err}
 use Rattle.macros.specs.Macro.{Closure, Member, Mark, PatternUnit, Piece, pick}
 use Rattle.macros.specs.Macro.Mark.{stack, counter}
 use Rattle.macros.specs.Macro.PatternUnit.{class}
@@ -13,22 +13,17 @@ use Rattle.form_table.specs.Form.{unit_rest, piece_items}
 use Rattle.form_element.specs.Element.{unit_of, code_closure, element_of}
 use Rattle.read_scan.specs.Scan.{fault_of, run, Reached}
 use Rattle.form_items.specs.Items.{Wrote}
-use Rattle.read_scan.specs.declared.FileFault.TheVariants.{Incomplete}
-use Rattle.read_scan.specs.declared.Next.{Next}
-use Rattle.read_scan.specs.declared.Next.TheVariants.{Byte, Refused as NoByte}
+use Rattle.read_scan.specs.declared.ReadError.{ReadError}
 use Rattle.form_element.specs.declared.Unit.{Unit as CodeUnit}
 use Rattle.form_element.specs.declared.Unit.TheVariants.{Literal, Kind, Class, ClassNot, StackCall, CounterCall, Start, End, Left, Right}
 use Rattle.form_element.specs.declared.Closure.{Closure as CodeClosure}
 use Rattle.form_element.specs.declared.Element.{Element}
-use Rattle.read_ends.specs.Ends.{Zeroed}
-use Rattle.read_ends.specs.declared.Ended.{Ended}
-use Rattle.read_ends.specs.declared.Ended.TheVariants.{Upto, Refused as NoEnd}
+use Rattle.read_ends.specs.Ends.{Ended, Zeroed}
 use Rattle.read_element.specs.declared.Item.{Item}
-use Rattle.read_element.specs.declared.Item.TheVariants.{Got, Refused as NoItem}
 
 -- an element, the place behind it and the end of what is written of it
 abbrev pub got_item : CodeUnit → CodeClosure → ℕ → ℕ → Item
-got_item u c q n = Got (record { unit = u; closure = c }) q n
+got_item u c q n = record { element = record { unit = u; closure = c }; place = q; end = n }
 
 -- the mark that the sign `&` or `#` is
 abbrev pub mark_at : ℕ → Mark
@@ -44,14 +39,14 @@ pub record Joined (s : List ℕ) (a p : ℕ) (u : CodeUnit) (e : Element) (q : �
       → run s a pr false p (pattern (unit v) ps) ≡ run s a pr false q (pattern nothing (element v its ∷ ps))
 
 -- the element with its closure, or the refusal
-abbrev pub JoinsBy : List ℕ → ℕ → ℕ → CodeUnit → ℕ → Item → Type 0
-JoinsBy s a p u n (Got e q m) = (m ≡ n) × Joined s a p u e q
-JoinsBy s a p u n (NoItem f q) =
-    (q ≤ length s) × ((v : PatternUnit) (ps : List Piece) (pr : Prior)
-    → run s a pr false p (pattern (unit v) ps) ≡ refused_at (fault_of f) q)
+abbrev pub JoinsBy : List ℕ → ℕ → ℕ → CodeUnit → ℕ → Result Item ReadError → Type 0
+JoinsBy s a p u n (Ok i) = (i.end ≡ n) × Joined s a p u i.element i.place
+JoinsBy s a p u n (Err e) =
+    (e.place ≤ length s) × ((v : PatternUnit) (ps : List Piece) (pr : Prior)
+    → run s a pr false p (pattern (unit v) ps) ≡ refused_at (fault_of e.fault) e.place)
 
 -- what reading a closure from p on says, by the answer
-pub record Joins (s : List ℕ) (a p : ℕ) (u : CodeUnit) (n : ℕ) (r : Item) : Type 0 where
+pub record Joins (s : List ℕ) (a p : ℕ) (u : CodeUnit) (n : ℕ) (r : Result Item ReadError) : Type 0 where
   pub is : JoinsBy s a p u n r
 
 -- from the state F at p the machine reads the element e up to q, at v or further; what stands behind its item is written from n up to m
@@ -68,17 +63,17 @@ pub record Made (s : List ℕ) (a p v : ℕ) (F : List Piece → Part) (old out 
   pub used : m ≡ n + length (unit_rest its_unit)
 
 -- the element and what is written behind its item, or the refusal
-abbrev pub MakesBy : List ℕ → ℕ → ℕ → ℕ → (List Piece → Part) → List ℕ → List ℕ → ℕ → Item → Type 0
-MakesBy s a p v F old out n (Got e q m) = Made s a p v F old out n e q m
-MakesBy s a p v F old out n (NoItem f q) =
-    (q ≤ length s) × ((ps : List Piece) (pr : Prior) → run s a pr false p (F ps) ≡ refused_at (fault_of f) q)
+abbrev pub MakesBy : List ℕ → ℕ → ℕ → ℕ → (List Piece → Part) → List ℕ → List ℕ → ℕ → Result Item ReadError → Type 0
+MakesBy s a p v F old out n (Ok i) = Made s a p v F old out n i.element i.place i.end
+MakesBy s a p v F old out n (Err e) =
+    (e.place ≤ length s) × ((ps : List Piece) (pr : Prior) → run s a pr false p (F ps) ≡ refused_at (fault_of e.fault) e.place)
 
 -- what reading an element from the state F at p on says, by the answer
-pub record Makes (s : List ℕ) (a p v : ℕ) (F : List Piece → Part) (old out : List ℕ) (n : ℕ) (r : Item) : Type 0 where
+pub record Makes (s : List ℕ) (a p v : ℕ) (F : List Piece → Part) (old out : List ℕ) (n : ℕ) (r : Result Item ReadError) : Type 0 where
   pub is : MakesBy s a p v F old out n r
 
 -- the same of an element that has nothing behind its item, whatever the lent bytes are
-abbrev pub MakesOne : List ℕ → ℕ → ℕ → (List Piece → Part) → ℕ → Item → Type 0
+abbrev pub MakesOne : List ℕ → ℕ → ℕ → (List Piece → Part) → ℕ → Result Item ReadError → Type 0
 MakesOne s a p F n r = (out : List ℕ) → Makes s a p p F out out n r
 
 -- the state behind `?`
@@ -144,9 +139,9 @@ pub record Pieced (s : List ℕ) (a p : ℕ) (old out : List ℕ) (n q m : ℕ) 
 
 -- the piece with its items, or the refusal
 abbrev pub PiecesBy : List ℕ → ℕ → ℕ → List ℕ → List ℕ → ℕ → Ended → Type 0
-PiecesBy s a p old out n (Upto q m) = Pieced s a p old out n q m
-PiecesBy s a p old out n (NoEnd f q) =
-    (q ≤ length s) × ((ps : List Piece) (pr : Prior) → run s a pr false p (pattern nothing ps) ≡ refused_at (fault_of f) q)
+PiecesBy s a p old out n (Ok (q, m)) = Pieced s a p old out n q m
+PiecesBy s a p old out n (Err e) =
+    (e.place ≤ length s) × ((ps : List Piece) (pr : Prior) → run s a pr false p (pattern nothing ps) ≡ refused_at (fault_of e.fault) e.place)
 
 -- what reading one piece from p on says, by the answer
 pub record Pieces (s : List ℕ) (a p : ℕ) (old out : List ℕ) (n : ℕ) (r : Ended) : Type 0 where
@@ -156,18 +151,3 @@ pub record Pieces (s : List ℕ) (a p : ℕ) (old out : List ℕ) (n : ℕ) (r :
 pub record PieceRead (s : List ℕ) (a p : ℕ) (old out : List ℕ) (n : ℕ) (r : Ended) : Type 0 where
   pub from : Pieces s a p old out n r
   pub zeros : Zeroed old out r
-
--- a refusal of a byte handed on
-abbrev pub item_fault : Next → Item
-item_fault (Byte b q) = NoItem Incomplete q
-item_fault (NoByte f q) = NoItem f q
-
--- a refusal of a class's members handed on
-abbrev pub class_fault : Ended → Item
-class_fault (Upto q j) = NoItem Incomplete q
-class_fault (NoEnd f q) = NoItem f q
-
--- a refusal of an element handed on
-abbrev pub element_fault : Item → Ended
-element_fault (Got e q m) = NoEnd Incomplete q
-element_fault (NoItem f q) = NoEnd f q

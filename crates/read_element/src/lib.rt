@@ -4,11 +4,11 @@
 pub mod element;
 
 use form_element::Element;
-use read_scan::FileFault;
 
 // An element, the place behind it, and the end of what is written of it.
-#[derive(Clone, Copy)]
-pub(crate) enum Item {
-    Got(Element, usize, usize),
-    Refused(FileFault, usize),
+#[derive(Clone, Copy, Debug, PartialEq, Eq)]
+pub(crate) struct Item {
+    pub(crate) element: Element,
+    pub(crate) place: usize,
+    pub(crate) end: usize,
 }

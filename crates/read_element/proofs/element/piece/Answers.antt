@@ -1,12 +1,5 @@
-use mathlib.Core.Path.{◌∙◌}
 use Rattle.read_element.proofs.Elements.{piece_left}
 use Rattle.read_element.proofs.element.piece.Goals as goal
-
-pub one_piece-read-requires : goal.one_piece-read-requires
-one_piece-read-requires c = c.requires
-
-pub shape_of-out : goal.shape_of-out
-shape_of-out c = c.or_zeros.auto.out ∙ c.one_piece-read.auto.out
 
 pub returns : goal.returns
 returns c =
