@@ -5,29 +5,28 @@ use mathlib.Core.Bool.{Bool, true, false, ◌&&◌, ◌||◌, true≢false, and-
 use mathlib.Core.List.{List, [], ◌∷◌}
 use mathlib.Core.Option.{Option, none, some}
 use mathlib.Core.Logic.{⊎_elim, inl, inr, ◌⊎◌}
-use Prim.Native.Nat.{ℕ, ◌+◌, ◌-◌, ◌*◌, ◌≤◌, ◌<◌}
+use Prim.Native.Nat.{ℕ, ◌+◌, ◌≤◌, ◌<◌}
 use native.Mathlib.Omega.{arith}
-use lib.Dec.{eqb, leb, ltb}
+use lib.Dec.{eqb, ltb}
 use lib.ListN.{length}
-use borrow.Author.Tests.{eq-eqb, ne_eqb, eqb-true, le-leb, lt-leb, ltb-true, ltb-false}
-use Rattle.macros.specs.Refusals.FileRefusal.{bad_call}
-use Rattle.macros.specs.Macro.{Mark, Move, Call, Sign, pick, within, ascii_lower, digit, tags, among}
+use borrow.Author.Tests.{ne_eqb, eqb-true, le-leb, lt-leb, ltb-true, ltb-false}
+use Rattle.macros.specs.Macro.{Move, Call, pick, within, ascii_lower, digit, among}
 use Rattle.macros.specs.Macro.Mark.{stack, counter}
-use Rattle.macros.specs.Macro.Move.{still, before, after}
-use Rattle.macros.specs.Macro.Call.{insert, store_tag, set_to, store_text, set_increment}
-use Rattle.macros.specs.Formed.{number_fits, limit}
-use Rattle.macros.specs.Read.{Part, Prior, Site, CallSite, Phase, call_byte, site_of, may_insert, may_store_tag, behind_call, is_sign, sign_of, is_still, breaks, number_end as closing}
-use Rattle.macros.specs.ReadSoFar.Part.{calling, call_text}
-use Rattle.macros.specs.ReadSoFar.Phase.{begun, signed, named, equals, increment, tagged, comma, tag_signed, tag_named, texted}
-use Rattle.macros.specs.ReadCalls.Turn.{into, text_of, closed, wrong}
+use Rattle.macros.specs.Macro.Move.{still, after}
+use Rattle.macros.specs.Macro.Call.{store_tag}
+use Rattle.macros.specs.Formed.{number_fits}
+use Rattle.macros.specs.Read.{Prior, Site, CallSite, Phase, call_byte, site_of, may_insert, may_store_tag, is_sign, sign_of, is_still, breaks, number_end as closing}
+use Rattle.macros.specs.ReadSoFar.Part.{calling}
+use Rattle.macros.specs.ReadSoFar.Phase.{begun, signed, named, tagged, comma, tag_signed, tag_named}
+use Rattle.macros.specs.ReadCalls.Turn.{into, closed, wrong}
 use Rattle.read_scan.specs.Scan.MacroRead.{refused_at}
 use Rattle.form_bytes.specs.Fours.{four}
 use Rattle.form_table.specs.Form.{call_items, move_code}
-use Rattle.read_scan.specs.Scan.{run, Here, Calls, Reached, fault_of, wrong_call}
-use Rattle.read_number.specs.Number.{Counts, Digits, Kept, Behind, most, Outside, Inside, Unclosed}
+use Rattle.read_scan.specs.Scan.{run, Here, Calls, fault_of, wrong_call}
+use Rattle.read_number.specs.Number.{Counts, Kept, most, Outside, Inside, Unclosed}
 use Rattle.form_items.specs.Items.{Wrote}
-use Rattle.read_call.specs.Call.{Names, Letter, Naming, Sets, SetFrom, TagFrom, TagNaming, TagLetter, Named, name_read, no_name}
-use Rattle.read_text.specs.Text.{Comes, Called, Ends}
+use Rattle.read_call.specs.Call.{Names, Naming, Sets, SetFrom, TagFrom, TagNaming, TagLetter, Named, name_read, no_name}
+use Rattle.read_text.specs.Text.{Comes, Ends}
 use Rattle.std.specs.Prelude.{Result, Ok, Err, Option as Maybe, Some, None}
 use Rattle.std.specs.Option.{unwrap_or}
 use Rattle.read_scan.specs.Bytes.{Next, refused}
@@ -36,11 +35,10 @@ use Rattle.read_ends.specs.Ends.{Ended}
 use Rattle.read_scan.specs.declared.FileFault.{FileFault}
 use Rattle.read_scan.specs.declared.FileFault.TheVariants.{BadCall}
 use Rattle.read_number.specs.declared.Number.{Number}
-use Rattle.read_scan.proofs.Laws.{here_on, here_stop, reached_behind}
-use Rattle.read_number.proofs.Numbers.{most_low, most_high, eats_equals, eats_increment}
+use Rattle.read_number.proofs.Numbers.{most_low, most_high}
 use Rattle.form_items.proofs.Writing.{wrote_more}
 use Rattle.read_text.proofs.Turns.{call_next, call_none, here_wrong, here_into}
-use Rattle.read_text.proofs.Closing.{ends_from, ends_none, ends_wrong, ends_unfit, ends_closed}
+use Rattle.read_text.proofs.Closing.{ends_wrong, ends_unfit, ends_closed}
 
 -- NUMBERS
 

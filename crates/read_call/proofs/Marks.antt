@@ -1,30 +1,28 @@
 -- Calls behind `&(` and `#(`.
 -- Assumes nothing.
-use mathlib.Core.Path.{◌≡◌, refl, ap, sym, ◌∙◌}
-use mathlib.Core.Bool.{Bool, true, false, not, ◌&&◌, ◌||◌, true≢false, and-true, and-false}
+use mathlib.Core.Path.{◌≡◌, refl, sym, ◌∙◌}
+use mathlib.Core.Bool.{Bool, true, false, not, ◌&&◌, ◌||◌, and-false}
 use mathlib.Core.List.{List, [], ◌∷◌}
 use mathlib.Core.Option.{Option, none, some}
-use Prim.Native.Nat.{ℕ, ◌+◌, ◌-◌, ◌*◌, ◌≤◌, ◌<◌}
+use Prim.Native.Nat.{ℕ, ◌+◌, ◌≤◌, ◌<◌}
 use native.Mathlib.Omega.{arith}
-use lib.Dec.{eqb, ltb}
-use lib.ListN.{length}
+use lib.Dec.{ltb}
 use borrow.Author.Tests.{ne_eqb, ltb-true, ltb-false}
-use Rattle.macros.specs.Macro.{Mark, Move, Call, Sign, pick, within, ascii_lower, digit}
+use Rattle.macros.specs.Macro.{Mark, Move, pick, within, digit}
 use Rattle.macros.specs.Macro.Mark.{stack, counter}
-use Rattle.macros.specs.Macro.Move.{still, before, after}
 use Rattle.macros.specs.Macro.Call.{insert, set_to, set_increment, divide}
 use Rattle.macros.specs.Formed.{number_fits, limit}
-use Rattle.macros.specs.Read.{Site, CallSite, call_byte, site_of, may_insert, may_store_tag, is_sign, is_still}
+use Rattle.macros.specs.Read.{Site, call_byte, may_insert, may_store_tag, is_sign, is_still}
 use Rattle.macros.specs.ReadSoFar.Part.{calling, call_text}
 use Rattle.macros.specs.ReadSoFar.Phase.{begun, signed, named, equals, increment, divisor, tagged}
 use Rattle.macros.specs.ReadCalls.Turn.{into, text_of, closed, wrong}
 use Rattle.form_table.specs.Form.{call_items, move_code}
-use Rattle.read_scan.specs.Scan.{run, Here, Calls, fault_of, wrong_call}
-use Rattle.read_number.specs.Number.{Counts, Digits, Kept, most}
+use Rattle.read_scan.specs.Scan.{Calls, fault_of, wrong_call}
+use Rattle.read_number.specs.Number.{Counts, Kept}
 use Rattle.form_items.specs.Items.{Wrote}
-use Rattle.read_call.specs.Call.{Names, Letter, Naming, CalledFrom, NamedFrom, Sets, SetFrom, TagFrom, Asks, Starts, signs_in, mark_of, Named, name_read, no_name}
-use Rattle.read_text.specs.Text.{Comes, Ends, StoreFrom}
-use Rattle.std.specs.Prelude.{Result, Ok, Err, Option as Maybe, Some, None}
+use Rattle.read_call.specs.Call.{Names, Letter, Naming, CalledFrom, NamedFrom, Sets, SetFrom, TagFrom, Asks, Starts, signs_in, mark_of, Named, no_name}
+use Rattle.read_text.specs.Text.{Comes, StoreFrom}
+use Rattle.std.specs.Prelude.{Result, Ok, Option as Maybe, Some, None}
 use Rattle.read_scan.specs.Bytes.{Next, refused}
 use Rattle.read_scan.specs.declared.ReadError.{ReadError}
 use Rattle.read_ends.specs.Ends.{Ended}
@@ -204,8 +202,8 @@ module _ (s : List ℕ) (a p : ℕ) (old out : List ℕ) (n : ℕ) (si : Site) (
 
 -- A LETTER AND WHAT FOLLOWS
 
-pub letter_at : (s : List ℕ) (a q b : ℕ) (sg : Bool) {r : Named} {i m c u : ℕ} → Naming s a q b sg r → r ≡ name_read i m c u → Letter s a q b sg i m c u
-letter_at s a q b sg z e = rw e at z
+pub letter_at : (s : List ℕ) (a q b : ℕ) {x y : Bool} {i m c u : ℕ} → x ≡ y → Letter s a q b x i m c u → Letter s a q b y i m c u
+letter_at s a q b e t = rw e at t
 
 pub signed_at : (s : List ℕ) (a p b : ℕ) {x y : Bool} → x ≡ y → (r : Named) → Naming s a p b x r → Naming s a p b y r
 signed_at s a p b e r z = rw e at z

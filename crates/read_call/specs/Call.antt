@@ -1,7 +1,7 @@
 -- Calls: what reading one says of the machine, at every place where it may stand.
 use Rattle.std.specs.Prelude.{ℕ, ◌+◌, ◌≤◌, ◌<◌, ◌≡◌, Bool, true, false, ◌&&◌, List, [], ◌∷◌, eqb, length, Result, Ok, Err, Option as Maybe, Some, None}
 use Rattle.std.proofs.Math.Option.{Option, none}
-use Rattle.macros.specs.Macro.{Mark, Sign, Move, Call, pick, within, ascii_lower, digit, tags}
+use Rattle.macros.specs.Macro.{Mark, Sign, Move, Call, pick, within, ascii_lower, digit}
 use Rattle.macros.specs.Macro.Mark.{stack, counter}
 use Rattle.macros.specs.Macro.Move.{still, before, after}
 use Rattle.macros.specs.Macro.Call.{insert}

@@ -266,7 +266,16 @@ fn named_call(
     let named = name(s, a, at, b, signs_in(counter, site))?;
     match tail(named.behind, named.move_code, counter, site) {
         Some(Tail::Text) => text_call(s, out, a, named.place + 1, n, named.letter, named.move_code),
-        Some(Tail::Set(code, top)) => set_call(s, out, a, named.place + 1, n, code, named.letter, top),
+        Some(Tail::Set(code, top)) => set_call(
+            s,
+            out,
+            a,
+            named.place + 1,
+            n,
+            code,
+            named.letter,
+            top,
+        ),
         Some(Tail::Insert(code)) => {
             put_item(out, n, code, named.letter);
             Ok((named.place + 1, n + 2))
