@@ -1,26 +1,25 @@
 -- A macro more in the file, or the refusal.
 -- Assumes nothing.
-use Prim.Native.Nat.{ℕ, zero, suc, ◌+◌, ◌-◌, ◌≤◌, ◌<◌}
+use Prim.Native.Nat.{ℕ, suc, ◌+◌, ◌≤◌, ◌<◌, min}
 use mathlib.Core.Path.{◌≡◌, refl, ap, sym, ◌∙◌, subst}
 use mathlib.Core.Bool.{Bool, true, false, ◌&&◌}
 use mathlib.Core.List.{List, [], ◌∷◌, ◌++◌, append_assoc}
 use native.Mathlib.Omega.{arith}
 use native.Mathlib.Decide.{dec_le}
 use borrow.Author.Tests.{lt-ltb, le-ltb, le-leb, lt-leb}
-use lib.Dec.{leb, ltb}
 use lib.ListN.{length, take, drop, length-append, length-drop, take-append-drop}
 use lib.Seq.{length-take-le, take-append-le}
 use Rattle.macros.specs.Bounds.{most_file_bytes, most_macro_bytes}
 use Rattle.macros.specs.Macro.{Macro, Table, pick}
 use Rattle.macros.specs.Refusals.FileRefusal.{file_too_long, macro_too_long}
-use Rattle.macros.specs.Write.{Written, written, write_from}
-use Rattle.macros.specs.Write.Written.{refused, file}
+use Rattle.macros.specs.Write.{written, write_from}
+use Rattle.macros.specs.Write.Written.{refused}
 use Rattle.write_put.specs.Puts.{Puts}
 use Rattle.write_file.specs.Slots.{limit_of, fault_of, answer_of, refusal_of, Adds}
 use Rattle.write_file.specs.declared.WritingFault.{WritingFault}
 use Rattle.write_file.specs.declared.WritingFault.TheVariants.{MacroTooLong, FileTooLong}
-use Rattle.write_file.specs.declared.Answer.{Answer}
-use Rattle.write_file.specs.declared.Answer.TheVariants.{Written as WrittenOut, Refused}
+use Rattle.std.specs.Prelude.{Ok}
+use Rattle.write_file.specs.Slots.{Outcome, no_file}
 
 -- THE DEFINITION BY CASES
 
@@ -74,22 +73,29 @@ limit_room n h = by (dec_le n 32256)
     by (yes l) = let e = limit_low n l in omega arith
     by (no f) = let e = limit_high n (omega arith) in omega arith
 
+pub limit_least : (n : ℕ) → min (n + most_macro_bytes) most_file_bytes ≡ limit_of n
+limit_least n = by (dec_le n 32256)
+  where
+    by : Dec (n ≤ 32256) → min (n + most_macro_bytes) most_file_bytes ≡ limit_of n
+    by (yes l) = let e = limit_low n l in omega arith
+    by (no f) = let e = limit_high n (omega arith) in omega arith
+
 before : (old : List ℕ) (n : ℕ) → n ≤ most_file_bytes → length old ≡ most_file_bytes → length (take n old) ≡ n
 before old n w size = length-take-le n old (omega arith)
 
 -- THE ANSWER
 
 module _ (start limit n end : ℕ) where
-  pub answer_over : limit < n → answer_of start limit n end ≡ Refused (fault_of start) limit
+  pub answer_over : limit < n → answer_of start limit n end ≡ no_file (fault_of start) limit
   unfolding answer_of pick
   answer_over h = rw (lt-ltb limit n h)
 
   module _ (h : n ≤ limit) where
-    pub answer_no_feed : most_file_bytes < end → answer_of start limit n end ≡ Refused FileTooLong most_file_bytes
+    pub answer_no_feed : most_file_bytes < end → answer_of start limit n end ≡ no_file FileTooLong most_file_bytes
     unfolding answer_of pick
     answer_no_feed l = rw (le-ltb limit n h, lt-ltb most_file_bytes end l)
 
-    pub answer_fits : end ≤ most_file_bytes → answer_of start limit n end ≡ WrittenOut end
+    pub answer_fits : end ≤ most_file_bytes → answer_of start limit n end ≡ Ok end
     unfolding answer_of pick
     answer_fits l = rw (le-ltb limit n h, le-ltb most_file_bytes end l)
 
@@ -112,7 +118,7 @@ module _ (old : List ℕ) {text part last : List ℕ} {start limit n end : ℕ} 
       omega arith
 
   -- the macro does not fit
-  adds_none : limit < n → Adds old start text last (Refused (fault_of start) limit)
+  adds_none : limit < n → Adds old start text last (no_file (fault_of start) limit)
   adds_none h = record { comes = λ m ms t. by m ms (ap length t) (dec_le start 32256); within = tt }
     where
       by : (m : Macro) (ms : Table) → length (written m) ≡ length text → Dec (start ≤ 32256) → write_from (take start old) (m ∷ ms) ≡ refused (refusal_of (fault_of start)) limit
@@ -140,7 +146,7 @@ module _ (old : List ℕ) {text part last : List ℕ} {start limit n end : ℕ} 
     counted = let r = room in p.ends.count (omega arith)
 
     -- the macro fits, and its line feed does not
-    adds_no_feed : most_file_bytes < end → Adds old start text last (Refused FileTooLong most_file_bytes)
+    adds_no_feed : most_file_bytes < end → Adds old start text last (no_file FileTooLong most_file_bytes)
     adds_no_feed l =
         record {
           comes = λ m ms t.
@@ -164,7 +170,7 @@ module _ (old : List ℕ) {text part last : List ℕ} {start limit n end : ℕ} 
         ∙ ap (λ (z : List ℕ). z ++ text) (sym (take-append-le start (take limit old) (drop limit old) (omega arith)) ∙ ap (take start) (take-append-drop limit old))
 
     -- both fit
-    adds_one : end ≤ most_file_bytes → Adds old start text last (WrittenOut end)
+    adds_one : end ≤ most_file_bytes → Adds old start text last (Ok end)
     adds_one l =
         record {
           comes = λ m ms t.
@@ -184,11 +190,11 @@ module _ (old : List ℕ) {text part last : List ℕ} {start limit n end : ℕ} 
           within = l;
         }
 
-  pub adds : {r : Answer} → r ≡ answer_of start limit n end → Adds old start text last r
+  pub adds : {r : Outcome} → r ≡ answer_of start limit n end → Adds old start text last r
   adds {r} e = by (dec_le n limit) (dec_le end most_file_bytes)
     where
-      told : (x : Answer) → answer_of start limit n end ≡ x → Adds old start text last x → Adds old start text last r
-      told x f y = subst (λ (z : Answer). Adds old start text last z) (sym (e ∙ f)) y
+      told : (x : Outcome) → answer_of start limit n end ≡ x → Adds old start text last x → Adds old start text last r
+      told x f y = subst (λ (z : Outcome). Adds old start text last z) (sym (e ∙ f)) y
 
       by : Dec (n ≤ limit) → Dec (end ≤ most_file_bytes) → Adds old start text last r
       by (no f) g = let h : limit < n = omega arith in told _ (answer_over start limit n end h) (adds_none h)

@@ -1,14 +1,14 @@
 -- The macros of a table, one after the other, and the copy of the file.
 -- Assumes nothing.
-use Prim.Native.Nat.{ℕ, zero, suc, ◌+◌, ◌-◌, ◌*◌, ◌≤◌, ◌<◌}
+use Prim.Native.Nat.{ℕ, ◌+◌, ◌-◌, ◌*◌, ◌≤◌}
 use mathlib.Core.Path.{◌≡◌, refl, ap, sym, ◌∙◌, subst}
-use mathlib.Core.List.{List, [], ◌∷◌, ◌++◌}
-use native.Mathlib.Numerals.{add-one}
+use mathlib.Core.List.{List, [], ◌++◌, append-nil}
 use native.Mathlib.Omega.{arith}
-use lib.ListN.{length, get_or, take, drop, set, replicate, length-append, length-replicate, drop_of_length-le, get_or-replicate, get_or-append}
-use lib.Seq.{take_all, take-suc, take-suc-set, length-take-le, get_or-take, get_or-append-add}
+use lib.ListN.{length, get_or, take, drop, replicate, length-append, length-drop, drop_of_length-le}
+use lib.Seq.{length-take-le, take_at, drop_at}
+use borrow.Rule.Slice.PartMut.{put_mid}
 use Rattle.macros.specs.Bounds.{most_file_bytes, most_macros}
-use Rattle.macros.specs.Macro.{Macro, Table}
+use Rattle.macros.specs.Macro.{Table}
 use Rattle.macros.specs.Write.{Written, write_from, write_out}
 use Rattle.macros.specs.Write.Written.{refused, file}
 use Rattle.form_table.specs.Form.{slot_bytes}
@@ -16,8 +16,8 @@ use Rattle.write_file.specs.Slots.{slot_text, refusal_of, onward, Within, Adds, 
 use Rattle.write_file.specs.Contract.{meaning, reply, laid_out, WritesOut}
 use Rattle.write_file.specs.Contract.Reply.{size}
 use Rattle.write_file.specs.declared.WritingFault.{WritingFault}
-use Rattle.write_file.specs.declared.Answer.{Answer}
-use Rattle.write_file.specs.declared.Answer.TheVariants.{Written as WrittenOut, Refused}
+use Rattle.std.specs.Prelude.{Ok}
+use Rattle.write_file.specs.Slots.{Outcome, no_file}
 use Rattle.write_file.proofs.Tabled.{Slot, unused, used}
 
 -- n bytes of the file are k macros of the table
@@ -30,11 +30,11 @@ reach_none t f ms h = (omega arith, refl)
 
 module _ (t f : List ℕ) (n k : ℕ) (reached : Reaches t f n k) where
   -- the first unused slot
-  pub reach_end : n ≤ most_file_bytes → get_or t (slot_bytes * k) 0 ≡ 0 → Lists t f (WrittenOut n)
+  pub reach_end : n ≤ most_file_bytes → get_or t (slot_bytes * k) 0 ≡ 0 → Lists t f (Ok n)
   reach_end w e = record { comes = λ ms h. (reached ms h).1 ∙ ap (write_from (take n f)) (unused t ms h k (reached ms h).0 e); within = w }
 
   -- the last slot
-  pub reach_all : n ≤ most_file_bytes → most_macros ≤ k → Lists t f (WrittenOut n)
+  pub reach_all : n ≤ most_file_bytes → most_macros ≤ k → Lists t f (Ok n)
   reach_all w l =
       record {
         comes = λ ms h. let c = h.0.count in (reached ms h).1 ∙ ap (write_from (take n f)) (drop_of_length-le ms {i = k} (omega arith));
@@ -45,7 +45,7 @@ module _ (t f : List ℕ) (n k : ℕ) (reached : Reaches t f n k) where
     pub here : (ms : Table) → Holds t ms → Slot t ms k
     here ms h = used t ms h k (reached ms h).0 b
 
-    module _ {new : List ℕ} {r : Answer} (a : Adds f n (slot_text (take (slot_bytes * k + slot_bytes - slot_bytes * k) (drop (slot_bytes * k) t))) new r) where
+    module _ {new : List ℕ} {r : Outcome} (a : Adds f n (slot_text (take (slot_bytes * k + slot_bytes - slot_bytes * k) (drop (slot_bytes * k) t))) new r) where
       through : (ms : Table) (h : Holds t ms) → write_out ms ≡ onward new (here ms h).others r
       through ms h =
           (reached ms h).1
@@ -53,18 +53,18 @@ module _ (t f : List ℕ) (n k : ℕ) (reached : Reaches t f n k) where
           ∙ a.comes (here ms h).macro (here ms h).others (here ms h).text
 
       -- a macro more
-      pub reach_next : {j : ℕ} → r ≡ WrittenOut j → Reaches t new j (k + 1)
+      pub reach_next : {j : ℕ} → r ≡ Ok j → Reaches t new j (k + 1)
       reach_next {j} e =
           λ ms h. (
             (here ms h).more,
             through ms h ∙ ap (onward new (here ms h).others) e ∙ ap (write_from (take j new)) (sym (here ms h).next),
           )
 
-      pub next_within : {j : ℕ} → r ≡ WrittenOut j → j ≤ most_file_bytes
+      pub next_within : {j : ℕ} → r ≡ Ok j → j ≤ most_file_bytes
       next_within e = subst Within e a.within
 
       -- a refusal
-      pub reach_stop : {fault : WritingFault} {p : ℕ} → r ≡ Refused fault p → Lists t new r
+      pub reach_stop : {fault : WritingFault} {p : ℕ} → r ≡ no_file fault p → Lists t new r
       reach_stop e =
           record {
             comes = λ ms h. through ms h ∙ ap (onward new (here ms h).others) e ∙ ap (onward new []) (sym e);
@@ -73,48 +73,28 @@ module _ (t f : List ℕ) (n k : ℕ) (reached : Reaches t f n k) where
 
 -- THE COPY
 
-padded_length : (n : ℕ) (s : List ℕ) → n ≤ most_file_bytes → length s ≡ most_file_bytes → length (padded n s) ≡ most_file_bytes
+-- the file's first n bytes and zeros behind them, copied and filled
+pub laid : (n k : ℕ) (f out copied filled : List ℕ) → n ≤ most_file_bytes → length f ≡ most_file_bytes → length out ≡ most_file_bytes → copied ≡ take n f
+    → k ≡ length (copied ++ drop n out) - n → filled ≡ replicate (length (take k (drop n (copied ++ drop n out)))) 0 → put_mid n k (copied ++ drop n out) filled ≡ padded n f
 unfolding padded
-padded_length n s h l =
-    let a = length-append (take n s) (replicate (most_file_bytes - n) 0) in
-    let b = length-take-le n s (omega arith) in
-    let c = length-replicate {A = ℕ} (most_file_bytes - n) 0 in
-    omega arith
-
-pub padded_file : (n i : ℕ) (s : List ℕ) → n ≤ most_file_bytes → length s ≡ most_file_bytes → i < n → get_or s i 0 ≡ get_or (padded n s) i 0
-unfolding padded
-padded_file n i s h l g =
-    let b = length-take-le n s (omega arith) in
-    sym (get_or-append (take n s) (replicate (most_file_bytes - n) 0) 0 i (omega arith) ∙ get_or-take n s i 0 g)
-
-pub padded_zero : (n i : ℕ) (s : List ℕ) → n ≤ most_file_bytes → length s ≡ most_file_bytes → n ≤ i → i < most_file_bytes → 0 ≡ get_or (padded n s) i 0
-unfolding padded
-padded_zero n i s h l g w =
-    let b = length-take-le n s (omega arith) in
-    let e : i ≡ length (take n s) + (i - n) = omega arith in
-    sym (ap (λ (j : ℕ). get_or (take n s ++ replicate (most_file_bytes - n) 0) j 0) e
-    ∙ get_or-append-add (take n s) (replicate (most_file_bytes - n) 0) (i - n) 0
-    ∙ get_or-replicate (most_file_bytes - n) (i - n) 0 0 (omega arith))
-
-module _ (n : ℕ) (s : List ℕ) (h : n ≤ most_file_bytes) (l : length s ≡ most_file_bytes) where
-  pub copy_next : (out : List ℕ) (i b : ℕ) → length out ≡ most_file_bytes → take i out ≡ take i (padded n s) → i < most_file_bytes → b ≡ get_or (padded n s) i 0
-      → take (i + 1) (set out i b) ≡ take (i + 1) (padded n s)
-  copy_next out i b o e g f =
-      let p = padded_length n s h l in
-      rw add-one
-      (take-suc-set out i b (omega arith) ∙ ap (λ (x : List ℕ). x ++ (b ∷ [])) e ∙ ap (λ (x : ℕ). take i (padded n s) ++ (x ∷ [])) f ∙ sym (take-suc (padded n s) i 0 (omega arith)))
-
-  pub copy_done : (out : List ℕ) (i : ℕ) → length out ≡ most_file_bytes → take i out ≡ take i (padded n s) → most_file_bytes ≤ i → out ≡ padded n s
-  copy_done out i o e g =
-      let p = padded_length n s h l in
-      sym (take_all i out (omega arith)) ∙ e ∙ take_all i (padded n s) (omega arith)
+laid n k f out copied filled h l m e g i =
+    let c : length copied ≡ n = ap length e ∙ length-take-le n f (omega arith) in
+    let d : length (drop n out) ≡ most_file_bytes - n = length-drop n out ∙ omega arith in
+    let both = length-append copied (drop n out) in
+    let q : k ≡ most_file_bytes - n = omega arith in
+    let front : take n (copied ++ drop n out) ≡ copied = take_at copied (drop n out) n c in
+    let back : drop n (copied ++ drop n out) ≡ drop n out = drop_at copied (drop n out) n c in
+    let none : drop k (drop n out) ≡ [] = drop_of_length-le (drop n out) {i = k} (omega arith) in
+    let zeros : filled ≡ replicate (most_file_bytes - n) 0 =
+    i ∙ ap (λ (z : List ℕ). replicate (length (take k z)) 0) back ∙ ap (λ (j : ℕ). replicate j 0) (length-take-le k (drop n out) (omega arith) ∙ q) in
+    rw (front, back, none, zeros, e) (simp append-nil)
 
 -- THE CONTRACT
 
-pub written_within : {t f : List ℕ} {r : Answer} {n : ℕ} → Lists t f r → r ≡ WrittenOut n → n ≤ most_file_bytes
+pub written_within : {t f : List ℕ} {r : Outcome} {n : ℕ} → Lists t f r → r ≡ Ok n → n ≤ most_file_bytes
 written_within a e = subst Within e a.within
 
-pub write_file : {t old f new : List ℕ} {r : Answer} {n : ℕ} → Lists t f r → r ≡ WrittenOut n → length f ≡ most_file_bytes → new ≡ padded n f → WritesOut t old new (WrittenOut n)
+pub write_file : {t old f new : List ℕ} {r : Outcome} {n : ℕ} → Lists t f r → r ≡ Ok n → length f ≡ most_file_bytes → new ≡ padded n f → WritesOut t old new (Ok n)
 unfolding meaning reply laid_out padded write_from
 write_file {t} {old} {f} {new} {r} {n} a e l c =
     record {
@@ -128,7 +108,7 @@ write_file {t} {old} {f} {new} {r} {n} a e l c =
     come : (ms : Table) → Holds t ms → write_out ms ≡ file (take n f)
     come ms h = a.comes ms h ∙ ap (onward f []) e
 
-pub write_none : {t old f : List ℕ} {r : Answer} {fault : WritingFault} {p : ℕ} → Lists t f r → r ≡ Refused fault p → WritesOut t old old r
+pub write_none : {t old f : List ℕ} {r : Outcome} {fault : WritingFault} {p : ℕ} → Lists t f r → r ≡ no_file fault p → WritesOut t old old r
 unfolding meaning reply laid_out
 write_none {t} {old} {f} {r} {fault} {p} a e =
     record {

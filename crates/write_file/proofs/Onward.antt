@@ -1,6 +1,6 @@
 -- One macro more behind a file, by lengths alone.
 -- Assumes nothing.
-use Prim.Native.Nat.{ℕ, suc, ◌+◌, ◌≤◌, ◌<◌}
+use Prim.Native.Nat.{min, ℕ, suc, ◌+◌, ◌≤◌, ◌<◌}
 use mathlib.Core.Path.{◌≡◌, refl, ap, sym, ◌∙◌}
 use mathlib.Core.Bool.{Bool, true, false, ◌&&◌}
 use mathlib.Core.List.{List, [], ◌∷◌, ◌++◌}
@@ -17,20 +17,19 @@ use Rattle.macros.specs.Write.{Written, written, write_from, write_out}
 use Rattle.macros.specs.Write.Written.{refused, file}
 use Rattle.macros.specs.WriteRefusals.{WritesWell}
 use Rattle.macros.specs.WriteRefusals.WritesWell.{whole, long, full}
-use Rattle.macros.specs.Accepted.{Spellable}
 use Rattle.macros.proofs.WriteRefusals.{writes_whole}
-use Rattle.form_table.specs.Form.{slot, header_bytes}
+use Rattle.form_table.specs.Form.{header_bytes}
 use Rattle.write_put.specs.Puts.{Counts}
 use Rattle.write_pattern.specs.Items.{pattern_text}
 use Rattle.write_actions.specs.Items.{actions_text}
 use Rattle.write_file.specs.Slots.{before_end, pattern_end, replacement_end, commands_end, part, before_text, left_text, right_text}
-use Rattle.write_file.specs.Slots.{limit_of, fault_of, answer_of, capped, refusal_of, slot_text, Parts}
-use Rattle.write_file.specs.Contract.{Reply, meaning, reply, SomeMacro, SoFar, WritesOn}
+use Rattle.write_file.specs.Slots.{limit_of, answer_of, capped, refusal_of, slot_text, Parts}
+use Rattle.write_file.specs.Contract.{meaning, reply, SomeMacro, SoFar, WritesOn}
 use Rattle.write_file.specs.Contract.Reply.{size, refusal}
 use Rattle.write_file.specs.declared.WritingFault.{WritingFault}
 use Rattle.write_file.specs.declared.WritingFault.TheVariants.{MacroTooLong, FileTooLong}
-use Rattle.write_file.specs.declared.Answer.{Answer}
-use Rattle.write_file.specs.declared.Answer.TheVariants.{Written as WrittenOut, Refused}
+use Rattle.std.specs.Prelude.{Ok}
+use Rattle.write_file.specs.Slots.{Outcome, no_file}
 use Rattle.write_file.proofs.Files.{long_macro, long_file, no_feed_lem, fitting, limit_low, limit_high, fault_low, fault_high, answer_over, answer_no_feed, answer_fits}
 use Rattle.write_file.proofs.Slotted.{slot_text_lem, slot_parts}
 use Rattle.write_file.proofs.Tabled.{body_room}
@@ -53,13 +52,20 @@ unfolding slot_text before_text left_text right_text
 six_more s = simp length-append (omega arith)
 
 module _ (s : List ℕ) {n : ℕ} (p : Counts 6 (parts_text s) n) where
-  pub size_over : 512 < n → 513 ≡ capped (length (slot_text s))
+  size_over : 512 < n → 513 ≡ capped (length (slot_text s))
   unfolding capped pick
   size_over h = let f = p.ends.full (omega arith) in rw (lt-ltb 512 (length (slot_text s)) (omega (arith, six_more s))) refl
 
-  pub size_within : n ≤ 512 → n ≡ capped (length (slot_text s))
+  size_within : n ≤ 512 → n ≡ capped (length (slot_text s))
   unfolding capped pick
   size_within h = let f = p.ends.count (omega arith) in rw (le-ltb 512 (length (slot_text s)) (omega (arith, six_more s))) (omega (arith, six_more s))
+
+  pub size_least : min n 513 ≡ capped (length (slot_text s))
+  size_least = by (dec_le n 512)
+    where
+      by : Dec (n ≤ 512) → min n 513 ≡ capped (length (slot_text s))
+      by (yes h) = let e : min n 513 ≡ n = omega arith in e ∙ size_within h
+      by (no h) = let e : min n 513 ≡ 513 = omega arith in e ∙ size_over (omega arith)
 
 pub capped_small : (n : ℕ) → capped n ≤ 513
 unfolding capped
@@ -108,7 +114,7 @@ file_within ms s e = by (write_out ms) (writes_whole ms) e
     by w (long t h n) f = let z : ◌≡◌ {A = ℕ} 0 1 = cc in absurd (omega arith)
     by w (full h n) f = let z : ◌≡◌ {A = ℕ} 0 1 = cc in absurd (omega arith)
 
-pub so_far_within : {a : Answer} {start : ℕ} → SoFar a → a ≡ WrittenOut start → start ≤ most_file_bytes
+pub so_far_within : {a : Outcome} {start : ℕ} → SoFar a → a ≡ Ok start → start ≤ most_file_bytes
 unfolding meaning reply
 so_far_within {a} {start} x e = by (write_out x.0) refl (sym (ap meaning e) ∙ x.1)
   where
@@ -127,16 +133,16 @@ unfolding capped pick
 capped_under n l = rw (le-ltb most_macro_bytes n l) refl
 
 module _ (start size : ℕ) where
-  abbrev answer : Answer
+  abbrev answer : Outcome
   answer = answer_of start (limit_of start) (start + capped size) (start + capped size + 1)
 
-  answer_long : most_macro_bytes < size → start ≤ 32256 → answer ≡ Refused MacroTooLong (start + most_macro_bytes)
+  answer_long : most_macro_bytes < size → start ≤ 32256 → answer ≡ no_file MacroTooLong (start + most_macro_bytes)
   answer_long a b =
       let k = capped_over size a in
       let j = limit_low start b in
       answer_over start (limit_of start) _ _ (omega arith) ∙ rw (fault_low start b, j) refl
 
-  answer_past : 32256 < start → most_file_bytes < start + capped size → answer ≡ Refused FileTooLong most_file_bytes
+  answer_past : 32256 < start → most_file_bytes < start + capped size → answer ≡ no_file FileTooLong most_file_bytes
   answer_past b d =
       let j = limit_high start b in
       answer_over start (limit_of start) _ _ (omega arith) ∙ rw (fault_high start b, j) refl
@@ -149,27 +155,27 @@ module _ (start size : ℕ) where
         by (yes b) = omega (arith, capped_under size a, limit_low start b)
         by (no b) = omega (arith, capped_under size a, limit_high start (omega arith))
 
-    answer_fit : start + suc size ≤ most_file_bytes → answer ≡ WrittenOut (start + suc size)
+    answer_fit : start + suc size ≤ most_file_bytes → answer ≡ Ok (start + suc size)
     answer_fit d =
         let k = capped_under size a in
         let e : start + capped size + 1 ≡ start + suc size = omega arith in
-        answer_fits start (limit_of start) _ _ (within_limit (omega arith)) (omega arith) ∙ ap WrittenOut e
+        answer_fits start (limit_of start) _ _ (within_limit (omega arith)) (omega arith) ∙ ap Ok e
 
-    answer_full : most_file_bytes < start + suc size → answer ≡ Refused FileTooLong most_file_bytes
+    answer_full : most_file_bytes < start + suc size → answer ≡ no_file FileTooLong most_file_bytes
     answer_full d = by (dec_le (start + size) most_file_bytes)
       where
-        by : Dec (start + size ≤ most_file_bytes) → answer ≡ Refused FileTooLong most_file_bytes
+        by : Dec (start + size ≤ most_file_bytes) → answer ≡ no_file FileTooLong most_file_bytes
         by (yes b) = answer_no_feed start (limit_of start) _ _ (within_limit b) (omega (arith, capped_under size a))
         by (no b) = answer_past (omega arith) (omega (arith, capped_under size a))
 
 module _ (s : List ℕ) (m : Macro) (h : length s ≤ most_file_bytes) where
-  meant : {r a : Answer} {w : Written} → r ≡ a → meaning a ≡ reply w → write_from s (m ∷ []) ≡ w → meaning r ≡ reply (write_from s (m ∷ []))
+  meant : {r a : Outcome} {w : Written} → r ≡ a → meaning a ≡ reply w → write_from s (m ∷ []) ≡ w → meaning r ≡ reply (write_from s (m ∷ []))
   meant e f g = ap meaning e ∙ (f ∙ ap reply (sym g))
 
   with_feed : length s + suc (length (written m)) ≡ length (s ++ (written m ++ (10 ∷ [])))
   with_feed = simp length-append (omega arith)
 
-  answered : {r : Answer} → r ≡ answer (length s) (length (written m)) → meaning r ≡ reply (write_from s (m ∷ []))
+  answered : {r : Outcome} → r ≡ answer (length s) (length (written m)) → meaning r ≡ reply (write_from s (m ∷ []))
   unfolding meaning reply write_from
   answered {r} e = by (dec_le (length (written m)) most_macro_bytes) (dec_le (length s) 32256) (dec_le (length s + suc (length (written m))) most_file_bytes)
     where
@@ -186,7 +192,7 @@ module _ (s : List ℕ) (m : Macro) (h : length s ≤ most_file_bytes) where
 same_size : {a b : ℕ} → size a ≡ size b → a ≡ b
 same_size e = cc
 
-pub writes_on : {so r : Answer} {t : List ℕ} {start n : ℕ} → so ≡ WrittenOut start → n ≡ capped (length (slot_text t))
+pub writes_on : {so r : Outcome} {t : List ℕ} {start n : ℕ} → so ≡ Ok start → n ≡ capped (length (slot_text t))
     → r ≡ answer_of start (limit_of start) (start + n) (start + n + 1) → WritesOn so t r
 unfolding meaning reply behind
 writes_on {so} {r} {t} {start} {n} e f g ms m a i x = by (write_out ms) refl (sym (ap meaning e) ∙ x)
@@ -201,7 +207,7 @@ writes_on {so} {r} {t} {start} {n} e f g ms m a i x = by (write_out ms) refl (sy
         answered s m (file_within ms s j) (g ∙ rw (z, y) refl) ∙ ap reply (sym (out_append ms m (file s) j))
     by (refused c p) j k = no_size k
 
-pub writes_no_more : {so : Answer} {t : List ℕ} {f : WritingFault} {p : ℕ} → so ≡ Refused f p → WritesOn so t so
+pub writes_no_more : {so : Outcome} {t : List ℕ} {f : WritingFault} {p : ℕ} → so ≡ no_file f p → WritesOn so t so
 unfolding meaning reply behind
 writes_no_more {so} {t} {f} {p} e ms m a i x = by (write_out ms) refl (sym (ap meaning e) ∙ x)
   where

@@ -1,11 +1,11 @@
 -- What a slot and a table are written out as.
-use Rattle.std.specs.Prelude.{ℕ, suc, ◌+◌, ◌-◌, ◌%◌, ◌≤◌, ◌<◌, ◌≡◌, List, [], ◌∷◌, ◌++◌, leb, ltb, eqb, length, get_or, take, drop, replicate}
+use Rattle.std.specs.Prelude.{Result, Ok, Err, ℕ, suc, ◌+◌, ◌-◌, ◌%◌, ◌≤◌, ◌≡◌, List, [], ◌∷◌, ◌++◌, leb, ltb, eqb, length, get_or, take, drop, replicate}
 use Rattle.macros.specs.Bounds.{most_file_bytes, most_macro_bytes}
 use Rattle.macros.specs.Macro.{Macro, Table, pick}
 use Rattle.macros.specs.Refusals.{FileRefusal}
 use Rattle.macros.specs.Refusals.FileRefusal.{file_too_long, macro_too_long}
 use Rattle.macros.specs.Write.{Written, written, write_from, write_out}
-use Rattle.macros.specs.Write.Written.{refused, file}
+use Rattle.macros.specs.Write.Written.{refused}
 use Rattle.macros.specs.Accepted.{Accepted}
 use Rattle.form_table.specs.Check.{two_at}
 use Rattle.form_table.specs.Form.{form, header_bytes, slot_bytes}
@@ -13,8 +13,7 @@ use Rattle.write_pattern.specs.Items.{pattern_text}
 use Rattle.write_actions.specs.Items.{actions_text, Whole}
 use Rattle.write_file.specs.declared.WritingFault.{WritingFault}
 use Rattle.write_file.specs.declared.WritingFault.TheVariants.{MacroTooLong, FileTooLong}
-use Rattle.write_file.specs.declared.Answer.{Answer}
-use Rattle.write_file.specs.declared.Answer.TheVariants.{Written as WrittenOut, Refused}
+use Rattle.write_file.specs.declared.WriteError.{WriteError}
 
 -- where the calls before the pattern, the pattern, the replacement and the commands end
 unfoldable pub before_end : List ℕ → ℕ
@@ -68,6 +67,13 @@ abbrev pub refusal_of : WritingFault → FileRefusal
 refusal_of MacroTooLong = macro_too_long
 refusal_of FileTooLong = file_too_long
 
+-- the file's length, or a refusal with its place
+abbrev pub Outcome : Type 0
+Outcome = Result ℕ WriteError
+
+abbrev pub no_file : WritingFault → ℕ → Outcome
+no_file f p = Err (record { fault = f; place = p })
+
 -- where a macro that begins at n has its 513th byte, or the file its 32,769th
 unfoldable pub limit_of : ℕ → ℕ
 limit_of n = pick (leb n 32256) (n + most_macro_bytes) most_file_bytes
@@ -76,26 +82,26 @@ unfoldable pub fault_of : ℕ → WritingFault
 fault_of n = pick (leb n 32256) MacroTooLong FileTooLong
 
 -- the answer for a macro that begins at start, with its limit, and ends at n, or behind its line feed at end
-unfoldable pub answer_of : ℕ → ℕ → ℕ → ℕ → Answer
+unfoldable pub answer_of : ℕ → ℕ → ℕ → ℕ → Outcome
 answer_of start limit n end =
-    pick (ltb limit n) (Refused (fault_of start) limit) (pick (ltb most_file_bytes end) (Refused FileTooLong most_file_bytes) (WrittenOut end))
+    pick (ltb limit n) (no_file (fault_of start) limit) (pick (ltb most_file_bytes end) (no_file FileTooLong most_file_bytes) (Ok end))
 
 -- a macro's bytes; 513 stand for any more than 512
 unfoldable pub capped : ℕ → ℕ
 capped n = pick (ltb most_macro_bytes n) (suc most_macro_bytes) n
 
 -- what comes of the macros behind a macro with this answer
-abbrev pub onward : List ℕ → Table → Answer → Written
-onward new ms (WrittenOut k) = write_from (take k new) ms
-onward new ms (Refused f p) = refused (refusal_of f) p
+abbrev pub onward : List ℕ → Table → Outcome → Written
+onward new ms (Ok k) = write_from (take k new) ms
+onward new ms (Err e) = refused (refusal_of e.fault) e.place
 
 -- a place in the file
-abbrev pub Within : Answer → Type 0
-Within (WrittenOut k) = k ≤ most_file_bytes
-Within (Refused f p) = Unit {0}
+abbrev pub Within : Outcome → Type 0
+Within (Ok k) = k ≤ most_file_bytes
+Within (Err e) = Unit {0}
 
 -- one macro, with its line feed, behind the first n of the file
-pub record Adds (old : List ℕ) (n : ℕ) (text new : List ℕ) (r : Answer) : Type 0 where
+pub record Adds (old : List ℕ) (n : ℕ) (text new : List ℕ) (r : Outcome) : Type 0 where
   pub comes : (m : Macro) (ms : Table) → written m ≡ text → write_from (take n old) (m ∷ ms) ≡ onward new ms r
   pub within : Within r
 
@@ -104,7 +110,7 @@ abbrev pub Holds : List ℕ → Table → Type 0
 Holds t ms = Accepted ms × (form ms ≡ t)
 
 -- the whole table
-pub record Lists (t new : List ℕ) (r : Answer) : Type 0 where
+pub record Lists (t new : List ℕ) (r : Outcome) : Type 0 where
   pub comes : (ms : Table) → Holds t ms → write_out ms ≡ onward new [] r
   pub within : Within r
 

@@ -6,7 +6,7 @@ ghost use Rattle.write_file.specs.Slots.{before_end, pattern_end, symbol_byte, b
 ghost use Rattle.write_file.specs.Slots.{limit_of, fault_of, answer_of, capped, Parts, Adds, Lists};
 ghost use Rattle.write_file.specs.Contract.{SomeTable, SomeMacro, SoFar, WritesOn};
 
-use crate::{Answer, WritingFault};
+use crate::{WriteError, WritingFault};
 use form_items::layout::{BEFORE_AT, COMMANDS_AT, HEADER_BYTES, PATTERN_AT, REPLACEMENT_AT};
 use form_items::two_at;
 use write_actions::{count_actions, put_actions};
@@ -96,10 +96,7 @@ fn limit_of(start: usize) -> usize
     requires { start ≤ 32768 }
     ensures { result ≡ limit_of start }
 {
-    if start <= 32256 {
-        return start + 512;
-    }
-    32768
+    (start + 512).min(32768)
 }
 
 // Which of the two it is: 18 if both.
@@ -112,21 +109,27 @@ fn fault_of(start: usize) -> WritingFault
     WritingFault::FileTooLong
 }
 
-// The answer for a macro that ends at n, with its line feed at `end`.
-fn answer_of(start: usize, limit: usize, n: usize, end: usize) -> Answer
+// What writing comes to with a macro that ends at n, and its line feed at `end`.
+fn answer_of(start: usize, limit: usize, n: usize, end: usize) -> Result<usize, WriteError>
     ensures { result ≡ answer_of start limit n end }
 {
     if limit < n {
-        return Answer::Refused(fault_of(start), limit);
+        return Err(WriteError {
+            fault: fault_of(start),
+            place: limit,
+        });
     }
     if 32768 < end {
-        return Answer::Refused(WritingFault::FileTooLong, 32768);
+        return Err(WriteError {
+            fault: WritingFault::FileTooLong,
+            place: 32768,
+        });
     }
-    Answer::Written(end)
+    Ok(end)
 }
 
 // One macro with its line feed; a macro that does not fit is refused, wherever its line feed goes.
-fn write_macro(file: &mut [u8], start: usize, slot: &[u8]) -> Answer
+fn write_macro(file: &mut [u8], start: usize, slot: &[u8]) -> Result<usize, WriteError>
     requires { (start ≤ 32768) × (length file.old ≡ 32768) × Parts slot.now }
     ensures { Adds file.old start (slot_text slot.now) file.new result }
 {
@@ -137,26 +140,19 @@ fn write_macro(file: &mut [u8], start: usize, slot: &[u8]) -> Answer
 }
 
 // The macros up to the first unused slot, oldest first.
-pub(crate) fn write_slots(file: &mut [u8], table: &[u8]) -> Answer
+pub(crate) fn write_slots(file: &mut [u8], table: &[u8]) -> Result<usize, WriteError>
     requires { (length file.old ≡ 32768) × SomeTable table.now }
     ensures { Lists table.now file.new result }
 {
     let mut n = 0;
-    let mut k = 0;
-    while k < 96 {
+    for k in 0..96 {
         let a = 1024 * k;
         if table[a] == 0 {
-            return Answer::Written(n);
+            return Ok(n);
         }
-        let e = a + 1024;
-        let answer = write_macro(file, n, &table[a..e]);
-        let Answer::Written(next) = answer else {
-            return answer;
-        };
-        n = next;
-        k += 1;
+        n = write_macro(file, n, &table[a..a + 1024])?;
     }
-    Answer::Written(n)
+    Ok(n)
 }
 
 // ONE MACRO MORE, without its bytes
@@ -174,20 +170,15 @@ fn written_size(slot: &[u8]) -> usize
     let matched = count_pattern(called, &slot[b..p]);
     let replaced = count_actions(matched, &slot[p..r]);
     let n = count_actions(replaced, &slot[r..e]);
-    if 512 < n {
-        return 513;
-    }
-    n
+    n.min(513)
 }
 
 // What writing out comes to with a slot's macro behind those that came to `so`.
-pub fn write_on(so: Answer, slot: &[u8]) -> Answer
+pub fn write_on(so: Result<usize, WriteError>, slot: &[u8]) -> Result<usize, WriteError>
     requires { SoFar so × SomeMacro slot.now }
     ensures { WritesOn so slot.now result }
 {
-    let Answer::Written(start) = so else {
-        return so;
-    };
+    let start = so?;
     let size = written_size(slot);
     answer_of(start, limit_of(start), start + size, start + size + 1)
 }

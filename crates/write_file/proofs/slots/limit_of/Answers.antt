@@ -1,12 +1,6 @@
-use borrow.Author.Tests.{le-leb, lt-leb}
-use Rattle.macros.specs.Macro.{pick}
-use Rattle.write_file.specs.Slots.{limit_of}
+use mathlib.Core.Path.{◌∙◌}
+use Rattle.write_file.proofs.Files.{limit_least}
 use Rattle.write_file.proofs.slots.limit_of.Goals as goal
 
-pub returns-then-start-le32256 : goal.returns-then-start-le32256
-unfolding limit_of pick
-returns-then-start-le32256 c = simp (le-leb _ _ c.if-start-le32256.true)
-
 pub returns : goal.returns
-unfolding limit_of pick
-returns c = simp (lt-leb _ _ c.if-start-le32256.false)
+returns c = c.min.ensures ∙ limit_least c.args.start

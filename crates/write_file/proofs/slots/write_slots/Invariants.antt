@@ -1,4 +1,4 @@
-use Prim.Native.Nat.{◌-◌, ◌≤◌}
+use Prim.Native.Nat.{◌≤◌}
 use mathlib.Core.Path.{◌≡◌}
 use lib.ListN.{length}
 use Rattle.write_file.proofs.Listed.{Reaches}
@@ -6,6 +6,3 @@ use Rattle.write_file.proofs.slots.write_slots.Given as goal
 
 abbrev pub invariant-loop-k : goal.invariant-loop-k
 invariant-loop-k l = (l.k ≤ 96) × (l.n ≤ 32768) × (length l.file ≡ length l.initial.file) × Reaches l.table l.file l.n l.k
-
-abbrev pub decreases-loop-k : goal.decreases-loop-k
-decreases-loop-k l = 96 - l.k

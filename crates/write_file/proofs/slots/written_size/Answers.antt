@@ -1,10 +1,10 @@
-use mathlib.Core.Path.{refl, ap}
+use mathlib.Core.Path.{refl, ap, ◌∙◌}
 use native.Mathlib.Omega.{arith}
 use Rattle.write_pattern.specs.Items.{pattern_text}
 use Rattle.write_actions.specs.Items.{actions_text}
 use Rattle.write_put.proofs.Putting.{count_as, count_also}
 use Rattle.write_file.proofs.Slotted.{ordered, part_here, replacement_here, commands_here, pattern_fits}
-use Rattle.write_file.proofs.Onward.{size_over, size_within}
+use Rattle.write_file.proofs.Onward.{size_least}
 use Rattle.write_file.proofs.slots.written_size.Goals as goal
 
 pub before_end-b-requires : goal.before_end-b-requires
@@ -61,15 +61,6 @@ slice_bounds-count_actions-end-3 c = omega (arith, ordered c.args.slot.now c.req
 pub count_actions-n-requires : goal.count_actions-n-requires
 count_actions-n-requires c = rw (commands_here c.args.slot.now c.pattern_end-p.ensures c.two_at.ensures.0 c.two_at-2.ensures.0) c.requires.commands
 
-pub returns-then-n-gt512 : goal.returns-then-n-gt512
-returns-then-n-gt512 c =
-    let slot = c.args.slot.now in
-    let one = count_as (ap (actions_text 0) (part_here slot refl c.before_end-b.ensures)) c.count_actions-called.ensures in
-    let two = count_as (ap (pattern_text 0) (part_here slot c.before_end-b.ensures c.pattern_end-p.ensures)) c.count_pattern-matched.ensures in
-    let three = count_as (ap (actions_text 0) (replacement_here slot c.pattern_end-p.ensures c.two_at.ensures.0)) c.count_actions-replaced.ensures in
-    let four = count_as (ap (actions_text 0) (commands_here slot c.pattern_end-p.ensures c.two_at.ensures.0 c.two_at-2.ensures.0)) c.count_actions-n.ensures in
-    size_over slot (count_also one (count_also two (count_also three four))) c.if-n-gt512.true
-
 pub returns : goal.returns
 returns c =
     let slot = c.args.slot.now in
@@ -77,4 +68,4 @@ returns c =
     let two = count_as (ap (pattern_text 0) (part_here slot c.before_end-b.ensures c.pattern_end-p.ensures)) c.count_pattern-matched.ensures in
     let three = count_as (ap (actions_text 0) (replacement_here slot c.pattern_end-p.ensures c.two_at.ensures.0)) c.count_actions-replaced.ensures in
     let four = count_as (ap (actions_text 0) (commands_here slot c.pattern_end-p.ensures c.two_at.ensures.0 c.two_at-2.ensures.0)) c.count_actions-n.ensures in
-    size_within slot (count_also one (count_also two (count_also three four))) c.if-n-gt512.false
+    c.min.ensures ∙ size_least slot (count_also one (count_also two (count_also three four)))
