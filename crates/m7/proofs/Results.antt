@@ -35,10 +35,9 @@ use Rattle.read_file.specs.declared.Reading.TheVariants.{Table as TableOf, Refus
 use Rattle.write_file.specs.Contract.{Reply, meaning, laid_out, SomeTable, WritesOut}
 use Rattle.write_file.specs.Contract.{reply as reply_of}
 use Rattle.write_file.specs.Contract.Reply.{size, refusal}
-use Rattle.write_file.specs.Slots.{refusal_of, Holds}
-use Rattle.write_file.specs.declared.WritingFault.{WritingFault}
-use Rattle.write_file.specs.declared.Answer.{Answer as Writing}
-use Rattle.write_file.specs.declared.Answer.TheVariants.{Written as WrittenOut, Refused as NotWritten}
+use Rattle.write_file.specs.Slots.{Outcome, refusal_of, Holds}
+use Rattle.write_file.specs.declared.WriteError.{WriteError}
+use Rattle.std.specs.Prelude.{Ok, Err}
 use Rattle.line_memory.specs.Memory.{IsTable, padded}
 use Rattle.line_memory.proofs.Copying.{padded_whole}
 use Rattle.line_answer.specs.declared.Answer.{Answer}
@@ -197,7 +196,7 @@ module _ (t old : List ℕ) where
     pub some_table : checks t ≡ true → SomeTable t
     some_table z = let s = (check_exact t o).0 z in (s.0, (s.1, s.2))
 
-    module _ (z : checks t ≡ true) {b : List ℕ} {r : Writing} (w : WritesOut t old b r) where
+    module _ (z : checks t ≡ true) {b : List ℕ} {r : Outcome} (w : WritesOut t old b r) where
       write_fits : size_in (meaning r) ≤ most_file_bytes
       write_fits = let s = some_table z in let e = ap size_in (w.answers s.0 s.1) ∙ size_extent (write_out s.0) in omega (arith, out_extent s.0)
 
@@ -209,21 +208,21 @@ module _ (t old : List ℕ) where
             written = λ y ms f. let k : Holds t ms = (f.accepted, f.form) in record { answers = e ∙ ap answer_of (w.answers ms k) ∙ told old (write_out ms); holds = w.holds ms k ∙ laid old (write_out ms) };
           }
 
-      pub write_size : {n : ℕ} → r ≡ WrittenOut n → n ≤ most_file_bytes
+      pub write_size : {n : ℕ} → r ≡ Ok n → n ≤ most_file_bytes
       unfolding size_in meaning
-      write_size e = subst (λ (x : Writing). size_in (meaning x) ≤ most_file_bytes) e write_fits
+      write_size e = subst (λ (x : Outcome). size_in (meaning x) ≤ most_file_bytes) e write_fits
 
-      pub write_place : {f : WritingFault} {p : ℕ} → r ≡ NotWritten f p → p ≤ most_file_bytes
+      pub write_place : {f : WriteError} → r ≡ Err f → f.place ≤ most_file_bytes
       unfolding size_in meaning
-      write_place e = subst (λ (x : Writing). size_in (meaning x) ≤ most_file_bytes) e write_fits
+      write_place e = subst (λ (x : Outcome). size_in (meaning x) ≤ most_file_bytes) e write_fits
 
-      pub write_taken : {n : ℕ} {a : Answer} → r ≡ WrittenOut n → a ≡ reply 0 0 n → Writes t old a b
+      pub write_taken : {n : ℕ} {a : Answer} → r ≡ Ok n → a ≡ reply 0 0 n → Writes t old a b
       unfolding answer_of meaning
-      write_taken e f = write_gives (f ∙ ap (λ (x : Writing). answer_of (meaning x)) (sym e))
+      write_taken e f = write_gives (f ∙ ap (λ (x : Outcome). answer_of (meaning x)) (sym e))
 
-      pub write_refused : {f : WritingFault} {p k : ℕ} {a : Answer} → r ≡ NotWritten f p → k ≡ file_number (refusal_of f) → a ≡ reply k p 0 → Writes t old a b
+      pub write_refused : {f : WriteError} {k : ℕ} {a : Answer} → r ≡ Err f → k ≡ file_number (refusal_of f.fault) → a ≡ reply k f.place 0 → Writes t old a b
       unfolding answer_of meaning
-      write_refused {p = p} e n f = write_gives (f ∙ ap (λ (x : ℕ). reply x p 0) n ∙ ap (λ (x : Writing). answer_of (meaning x)) (sym e))
+      write_refused {f = f} e n g = write_gives (g ∙ ap (λ (x : ℕ). reply x f.place 0) n ∙ ap (λ (x : Outcome). answer_of (meaning x)) (sym e))
 
 -- THE FRESH STATE
 

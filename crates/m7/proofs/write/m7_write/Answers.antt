@@ -39,35 +39,35 @@ taken-requires c =
     let old = c.args.file.now in
     let o = octets_given t c.shared_slice_known-1.given in
     let z = sym c.is_table.ensures ∙ c.if-not-is_table.false in
-    let h = write_size t old c.if-table-ne-TABLE_BYTES.false c.if-file-ne-FILE_BYTES.false o z c.write_table-writing.ensures c.in-Written.is in
+    let h = write_size t old c.if-table-ne-TABLE_BYTES.false c.if-file-ne-FILE_BYTES.false o z c.write_table-writing.ensures c.in-Ok.is in
     omega (arith, h)
 
-pub shape_of-file-in-Written : goal.shape_of-file-in-Written
-shape_of-file-in-Written c = c.write_table-writing.auto.out
+pub shape_of-file-in-Ok : goal.shape_of-file-in-Ok
+shape_of-file-in-Ok c = c.write_table-writing.auto.out
 
-pub returns-in-Written : goal.returns-in-Written
-returns-in-Written c =
+pub returns-in-Ok : goal.returns-in-Ok
+returns-in-Ok c =
     let t = c.args.table.now in
     let old = c.args.file.now in
     let o = octets_given t c.shared_slice_known-1.given in
     let z = sym c.is_table.ensures ∙ c.if-not-is_table.false in
-    write_taken t old c.if-table-ne-TABLE_BYTES.false c.if-file-ne-FILE_BYTES.false o z c.write_table-writing.ensures c.in-Written.is c.taken.ensures
+    write_taken t old c.if-table-ne-TABLE_BYTES.false c.if-file-ne-FILE_BYTES.false o z c.write_table-writing.ensures c.in-Ok.is c.taken.ensures
 
-pub refusal-requires-in-Refused : goal.refusal-requires-in-Refused
-refusal-requires-in-Refused c =
+pub refusal-requires-in-Err : goal.refusal-requires-in-Err
+refusal-requires-in-Err c =
     let t = c.args.table.now in
     let old = c.args.file.now in
     let o = octets_given t c.shared_slice_known-1.given in
     let z = sym c.is_table.ensures ∙ c.if-not-is_table.false in
-    write_place t old c.if-table-ne-TABLE_BYTES.false c.if-file-ne-FILE_BYTES.false o z c.write_table-writing.ensures c.in-Refused.is
+    write_place t old c.if-table-ne-TABLE_BYTES.false c.if-file-ne-FILE_BYTES.false o z c.write_table-writing.ensures c.in-Err.is
 
-pub shape_of-file-in-Refused : goal.shape_of-file-in-Refused
-shape_of-file-in-Refused c = c.write_table-writing.auto.out
+pub shape_of-file-in-Err : goal.shape_of-file-in-Err
+shape_of-file-in-Err c = c.write_table-writing.auto.out
 
-pub returns-in-Refused : goal.returns-in-Refused
-returns-in-Refused c =
+pub returns-in-Err : goal.returns-in-Err
+returns-in-Err c =
     let t = c.args.table.now in
     let old = c.args.file.now in
     let o = octets_given t c.shared_slice_known-1.given in
     let z = sym c.is_table.ensures ∙ c.if-not-is_table.false in
-    write_refused t old c.if-table-ne-TABLE_BYTES.false c.if-file-ne-FILE_BYTES.false o z c.write_table-writing.ensures c.in-Refused.is c.writing_number.ensures c.refusal-in-Refused.ensures
+    write_refused t old c.if-table-ne-TABLE_BYTES.false c.if-file-ne-FILE_BYTES.false o z c.write_table-writing.ensures c.in-Err.is c.from.ensures c.refusal-in-Err.ensures
