@@ -10,75 +10,53 @@ use form_items::put_item;
 use read_bytes::{escaped_byte, is_break};
 use read_call::Site;
 use read_call::calls::call;
-use read_ends::{Ended, next_end, or_zeros};
-use read_number::{Number, digits, number_end, unclosed};
+use read_ends::or_zeros;
+use read_number::{digits, unclosed};
 use read_scan::scan::{any_byte, next_byte};
-use read_scan::{FileFault, Next};
+use read_scan::{FileFault, ReadError};
 
 // BETWEEN PATTERN AND REPLACEMENT: "other text is ignored, but a `'` or `;` out of turn is 12"
 
 // The symbol, `=` or `<`, with its place.
-fn find_symbol(s: &[u8], a: usize, first: usize) -> Next
+fn find_symbol(s: &[u8], a: usize, first: usize) -> Result<(u8, usize), ReadError>
     requires { Reached s.now a first }
     ensures { SymbolAt s.now a first result }
 {
     let mut at = first;
     loop {
-        let next = next_byte(s, a, at);
-        let Next::Byte(b, q) = next else {
-            return next;
-        };
-        if b == b'=' {
-            return Next::Byte(b, q);
+        let (b, q) = next_byte(s, a, at)?;
+        match b {
+            b'=' | b'<' => return Ok((b, q)),
+            b'\'' | b';' => return Err(FileFault::Incomplete.at(q)),
+            _ => at = q + 1,
         }
-        if b == b'<' {
-            return Next::Byte(b, q);
-        }
-        if b == b'\'' {
-            return Next::Refused(FileFault::Incomplete, q);
-        }
-        if b == b';' {
-            return Next::Refused(FileFault::Incomplete, q);
-        }
-        at = q + 1;
     }
 }
 
-// The replacement's first quote with its place.
-fn find_quote(s: &[u8], a: usize, first: usize) -> Next
+// The place of the replacement's first quote.
+fn find_quote(s: &[u8], a: usize, first: usize) -> Result<usize, ReadError>
     requires { Reached s.now a first }
     ensures { QuoteAt s.now a first result }
 {
     let mut at = first;
     loop {
-        let next = next_byte(s, a, at);
-        let Next::Byte(b, q) = next else {
-            return next;
-        };
-        if b == b'\'' {
-            return Next::Byte(b, q);
+        let (b, q) = next_byte(s, a, at)?;
+        match b {
+            b'\'' => return Ok(q),
+            b';' => return Err(FileFault::Incomplete.at(q)),
+            _ => at = q + 1,
         }
-        if b == b';' {
-            return Next::Refused(FileFault::Incomplete, q);
-        }
-        at = q + 1;
     }
 }
 
 // The symbol, with the place of the replacement's first quote.
-pub fn find_replacement(s: &[u8], a: usize, first: usize) -> Next
+pub fn find_replacement(s: &[u8], a: usize, first: usize) -> Result<(u8, usize), ReadError>
     requires { Reached s.now a first }
     ensures { FrontAt s.now a first result }
 {
-    let sign = find_symbol(s, a, first);
-    let Next::Byte(b, y) = sign else {
-        return sign;
-    };
-    let quote = find_quote(s, a, y + 1);
-    let Next::Byte(_, z) = quote else {
-        return quote;
-    };
-    Next::Byte(b, z)
+    let (b, y) = find_symbol(s, a, first)?;
+    let z = find_quote(s, a, y + 1)?;
+    Ok((b, z))
 }
 
 // REPLACEMENT
@@ -87,23 +65,15 @@ pub fn find_replacement(s: &[u8], a: usize, first: usize) -> Next
 pub fn is_mark(b: u8) -> bool
     ensures { IsMark b result }
 {
-    if b == b'&' {
-        return true;
-    }
-    if b == b'#' {
-        return true;
-    }
-    false
+    matches!(b, b'&' | b'#')
 }
 
 // The sign of a stack's call or, if counter, of a counter's.
+#[tactic(auto, unfolding(macros::specs::Macro::mark_byte))]
 fn mark_byte(counter: bool) -> u8
     ensures { result ≡ mark_byte (mark_of counter) }
 {
-    if counter {
-        return b'#';
-    }
-    b'&'
+    if counter { b'#' } else { b'&' }
 }
 
 // The `&` or, if counter, the `#` at a place: a literal, if no `(` follows.
@@ -115,65 +85,74 @@ fn marked(
     n: usize,
     counter: bool,
     tags: usize,
-) -> Ended
+) -> Result<(usize, usize), ReadError>
     requires { Here s.now a at (mark_byte (mark_of counter)) × (n + 2 * (a + 513 - at) ≤ length out.old) × (tags ≤ 99) }
     ensures { ActionFrom s.now a at out.old out.new n tags result }
 {
-    let next = next_byte(s, a, at + 1);
-    let Next::Byte(b, q) = next else {
-        return next_end(next);
-    };
+    let (b, q) = next_byte(s, a, at + 1)?;
     if b == b'(' {
         return call(s, out, a, q + 1, n, counter, Site::Replacement, tags);
     }
     put_item(out, n, TEXT, mark_byte(counter));
-    Ended::Upto(q, n + 2)
+    Ok((q, n + 2))
 }
 
 // What a byte that `{n}` cannot have shows: it is no open part of its own.
 fn tag_fault(b: u8) -> FileFault
     ensures { fault_of result ≡ wrong_tag b }
 {
-    if b == b';' {
-        return FileFault::Incomplete;
+    match b {
+        b';' | b'\n' => FileFault::Incomplete,
+        _ => FileFault::BadCall,
     }
-    if b == 10 {
-        return FileFault::Incomplete;
-    }
-    FileFault::BadCall
 }
 
 // `{n}`, whose `{` stands at a place: if the pattern has no such tag, the `}` is a wrong byte, 16.
-fn tag_part(s: &[u8], out: &mut [u8], a: usize, at: usize, n: usize, tags: usize) -> Ended
+fn tag_part(
+    s: &[u8],
+    out: &mut [u8],
+    a: usize,
+    at: usize,
+    n: usize,
+    tags: usize,
+) -> Result<(usize, usize), ReadError>
     requires { Here s.now a at 123 × (n + 2 * (a + 513 - at) ≤ length out.old) × (tags ≤ 99) }
     ensures { ActionFrom s.now a at out.old out.new n tags result }
 {
-    let number = digits(s, a, at + 1, false);
-    let Number::Got(v, some, b, q) = number else {
-        return number_end(number);
-    };
-    if unclosed(b, b'}', some, v, tags as u64) {
-        return Ended::Refused(tag_fault(b), q);
+    let number = digits(s, a, at + 1, false)?;
+    if unclosed(number.behind, b'}', number.value, tags as u64) {
+        return Err(tag_fault(number.behind).at(number.place));
     }
-    put_item(out, n, TAG, v as u8);
-    Ended::Upto(q + 1, n + 2)
+    put_item(out, n, TAG, number.value.unwrap() as u8);
+    Ok((number.place + 1, n + 2))
 }
 
 // The byte behind the `\` at a place.
-fn escape_part(s: &[u8], out: &mut [u8], a: usize, at: usize, n: usize) -> Ended
+fn escape_part(
+    s: &[u8],
+    out: &mut [u8],
+    a: usize,
+    at: usize,
+    n: usize,
+) -> Result<(usize, usize), ReadError>
     requires { Here s.now a at 92 × (n + 2 * (a + 513 - at) ≤ length out.old) }
     ensures { EscapeFrom s.now a at out.old out.new n result }
 {
-    let raw = any_byte(s, a, at + 1);
-    let Next::Byte(e, z) = raw else {
-        return next_end(raw);
-    };
+    let (e, z) = any_byte(s, a, at + 1)?;
     put_item(out, n, TEXT, escaped_byte(e));
-    Ended::Upto(z + 1, n + 2)
+    Ok((z + 1, n + 2))
 }
 
 // One part of a replacement, from its first byte b on, which is no quote.
-fn action(s: &[u8], out: &mut [u8], a: usize, at: usize, b: u8, n: usize, tags: usize) -> Ended
+fn action(
+    s: &[u8],
+    out: &mut [u8],
+    a: usize,
+    at: usize,
+    b: u8,
+    n: usize,
+    tags: usize,
+) -> Result<(usize, usize), ReadError>
     requires { Here s.now a at b × (b ≡ 39 → ⊥) × (n + 2 * (a + 513 - at) ≤ length out.old) × (tags ≤ 99) }
     ensures { ActionFrom s.now a at out.old out.new n tags result }
 {
@@ -187,10 +166,10 @@ fn action(s: &[u8], out: &mut [u8], a: usize, at: usize, b: u8, n: usize, tags: 
         return marked(s, out, a, at, n, b == b'#', tags);
     }
     if is_break(b) {
-        return Ended::Refused(FileFault::Incomplete, at);
+        return Err(FileFault::Incomplete.at(at));
     }
     put_item(out, n, TEXT, b);
-    Ended::Upto(at + 1, n + 2)
+    Ok((at + 1, n + 2))
 }
 
 // A replacement, from behind its first quote to behind its last; its items from `start` on.
@@ -201,26 +180,18 @@ fn replacement_items(
     first: usize,
     start: usize,
     tags: usize,
-) -> Ended
+) -> Result<(usize, usize), ReadError>
     requires { Reached s.now a first × (start + 2 * (a + 513 - first) ≤ length out.old) × (tags ≤ 99) }
     ensures { ReplacedFrom s.now a first out.old out.new start tags result }
 {
     let mut at = first;
     let mut n = start;
     loop {
-        let next = next_byte(s, a, at);
-        let Next::Byte(b, q) = next else {
-            return next_end(next);
-        };
+        let (b, q) = next_byte(s, a, at)?;
         if b == b'\'' {
-            return Ended::Upto(q + 1, n);
+            return Ok((q + 1, n));
         }
-        let part = action(s, out, a, q, b, n, tags);
-        let Ended::Upto(z, e) = part else {
-            return part;
-        };
-        at = z;
-        n = e;
+        (at, n) = action(s, out, a, q, b, n, tags)?;
     }
 }
 
@@ -232,7 +203,7 @@ pub fn replacement(
     first: usize,
     start: usize,
     tags: usize,
-) -> Ended
+) -> Result<(usize, usize), ReadError>
     requires { Reached s.now a first × (start + 2 * (a + 513 - first) ≤ length out.old) × (tags ≤ 99) }
     ensures { ReplacementRead s.now a first out.old out.new start tags result }
 {

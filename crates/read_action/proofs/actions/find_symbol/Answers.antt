@@ -1,35 +1,29 @@
-use mathlib.Core.Path.{refl}
+use mathlib.Core.Logic.{⊎_elim}
 use native.Mathlib.Omega.{arith}
-use Rattle.read_scan.proofs.Laws.{reached_behind}
-use Rattle.read_action.proofs.Waiting.{symbol_none, symbol_byte_lem, symbol_61, symbol_60, symbol_39, symbol_59, symbol_on}
+use Rattle.read_scan.proofs.Laws.{handed_on, reached_behind}
+use Rattle.read_action.proofs.Waiting.{symbol_none, symbol_sign, symbol_39, symbol_59, symbol_on}
 use Rattle.read_action.proofs.actions.find_symbol.Goals as goal
+use Rattle.read_action.proofs.actions.find_symbol.Goals.{in_default-via-then-b-lt59, in_default-via-else-b-lt59+else-b-lt62}
 
-pub loop-b-init : goal.loop-b-init
-loop-b-init c = let pre = c.requires in (omega arith, pre, λ ps ms. refl)
+pub returns-in_err-b : goal.returns-in_err-b
+returns-in_err-b c = let loop = c.loop-b in rw (handed_on c.from_residual.ensures) (symbol_none _ _ _ _ loop.invariant.2 loop.invariant.0 c.in_err-b.ensures)
 
-pub next_byte-next-requires : goal.next_byte-next-requires
-next_byte-next-requires c = c.loop-b.invariant.1
+pub returns-in-39 : goal.returns-in-39
+returns-in-39 c =
+    let loop = c.loop-b in
+    rw c.at.ensures (⊎_elim (λ h. symbol_39 _ _ _ _ loop.invariant.2 loop.invariant.0 c.in_ok-b.ensures h) (λ h. symbol_59 _ _ _ _ loop.invariant.2 loop.invariant.0 c.in_ok-b.ensures h) c.in-39.is)
 
-pub returns-in_default : goal.returns-in_default
-returns-in_default c = let args = c.args in let loop = c.loop-b in let next-byte = c.next_byte-next in symbol_none args.s.now args.a args.first loop.at loop.invariant.2 loop.invariant.0 next-byte.ensures c.in_default.is
-
-pub returns-then-b-eq61 : goal.returns-then-b-eq61
-returns-then-b-eq61 c = let args = c.args in let loop = c.loop-b in let next-byte = c.next_byte-next in symbol_61 args.s.now args.a args.first loop.at loop.invariant.2 loop.invariant.0 next-byte.ensures c.in-Byte.is c.if-b-eq61.true
-
-pub returns-then-b-eq60 : goal.returns-then-b-eq60
-returns-then-b-eq60 c = let args = c.args in let loop = c.loop-b in let next-byte = c.next_byte-next in symbol_60 args.s.now args.a args.first loop.at loop.invariant.2 loop.invariant.0 next-byte.ensures c.in-Byte.is c.if-b-eq60.true
-
-pub returns-then-b-eq39 : goal.returns-then-b-eq39
-returns-then-b-eq39 c = let args = c.args in let loop = c.loop-b in let next-byte = c.next_byte-next in symbol_39 args.s.now args.a args.first loop.at loop.invariant.2 loop.invariant.0 next-byte.ensures c.in-Byte.is c.if-b-eq39.true
-
-pub returns-then-b-eq59 : goal.returns-then-b-eq59
-returns-then-b-eq59 c = let args = c.args in let loop = c.loop-b in let next-byte = c.next_byte-next in symbol_59 args.s.now args.a args.first loop.at loop.invariant.2 loop.invariant.0 next-byte.ensures c.in-Byte.is c.if-b-eq59.true
-
-pub overflow_add-at : goal.overflow_add-at
-overflow_add-at c = let args = c.args in let loop = c.loop-b in let next-byte = c.next_byte-next in let f = (symbol_byte_lem args.s.now args.a args.first loop.at loop.invariant.2 loop.invariant.0 next-byte.ensures c.in-Byte.is).found in let x = f.1.stands in omega (arith, x.there, c)
-
-pub loop-b-smaller : goal.loop-b-smaller
-loop-b-smaller c = let args = c.args in let loop = c.loop-b in let next-byte = c.next_byte-next in let f = (symbol_byte_lem args.s.now args.a args.first loop.at loop.invariant.2 loop.invariant.0 next-byte.ensures c.in-Byte.is).found in let x = f.1.stands in omega (arith, f.0, x.there)
+pub returns-in-61 : goal.returns-in-61
+returns-in-61 c = let loop = c.loop-b in symbol_sign _ _ _ _ loop.invariant.2 loop.invariant.0 c.in_ok-b.ensures (grind arith) (omega arith)
 
 pub loop-b-preserved : goal.loop-b-preserved
-loop-b-preserved c = let args = c.args in let loop = c.loop-b in let next-byte = c.next_byte-next in let if1 = c.if-b-eq61 in let if2 = c.if-b-eq60 in let if3 = c.if-b-eq39 in let f = (symbol_byte_lem args.s.now args.a args.first loop.at loop.invariant.2 loop.invariant.0 next-byte.ensures c.in-Byte.is).found in let x = f.1.stands in (omega (arith, f.0, loop.invariant.0), reached_behind x, symbol_on args.s.now args.a args.first loop.at loop.invariant.2 loop.invariant.0 next-byte.ensures c.in-Byte.is if1.false if2.false if3.false c.if-b-eq59.false)
+loop-b-preserved c =
+    let loop = c.loop-b in
+    let y = c.in_ok-b.ensures in (
+      omega (arith, y.found.0, loop.invariant.0),
+      reached_behind y.found.1.stands,
+      elim c.in_default.branch [
+        | in_default-via-then-b-lt59 w ↦ symbol_on _ _ _ _ loop.invariant.2 loop.invariant.0 y (λ e. grind (arith, e)) (λ e. grind (arith, e)) (λ e. grind (arith, e)) (λ e. grind (arith, e))
+        | in_default-via-else-b-lt59+else-b-lt62 w ↦ symbol_on _ _ _ _ loop.invariant.2 loop.invariant.0 y (λ e. grind (arith, e)) (λ e. grind (arith, e)) (λ e. grind (arith, e)) (λ e. grind (arith, e))
+      ],
+    )
