@@ -1,5 +1,6 @@
 -- The match at a place, from the matcher's answer.
 -- Assumes nothing.
+use Rattle.std.specs.Prelude.{Option as CodeOption, Some, None}
 use mathlib.Core.Path.{◌≡◌, refl, sym, ap, ◌∙◌, subst}
 use mathlib.Core.Bool.{Bool, true, false, false≢true, not}
 use mathlib.Core.List.{List, [], ◌∷◌}
@@ -30,8 +31,6 @@ use Rattle.pass_unit.specs.Pattern.{IsPattern, IsRest}
 use Rattle.pass_one.specs.Finding.{Ready, pick_last, last_of, FoundAt, counted_of, Differs, LastPlace, Finds}
 use Rattle.pass_one.specs.Trying.{answer, last_stop, Said, Trying, Tried}
 use Rattle.pass_unit.proofs.TextLaws.{byte_here_lem, byte_past}
-use Rattle.pass_one.specs.declared.Found.{Found}
-use Rattle.pass_one.specs.declared.Found.TheVariants.{Matched, NoMatch}
 
 -- the whole pattern begins at 0
 whole : (items : List ℕ) (es : List Piece) → IsPattern items es → IsRest items 0 es
@@ -69,12 +68,12 @@ unfolding barred last_of
 is_barred last p q a b l = rw (le-leb last most_line_bytes (omega arith), eq-eqb last p a, eq-eqb q p b)
 
 module _ (es : List Piece) (last p : ℕ) (ends : List ℕ) where
-  no_match_lem : (a : Option Division) → Said es (stops_of a) 0 p ends NoMatch → FoundAt (counting (last_of last) p a) p es ends NoMatch
+  no_match_lem : (a : Option Division) → Said es (stops_of a) 0 p ends None → FoundAt (counting (last_of last) p a) p es ends None
   unfolding counting
   no_match_lem none s = tt
   no_match_lem (some d) s = absurd (let f = s.found in let z : ◌≡◌ {A = ℕ} 0 1 = cc in omega arith)
 
-  a_match : (a : Option Division) (m : ℕ) → Said es (stops_of a) 0 p ends (Matched m) → (m ≡ p → last ≡ p → ⊥) → FoundAt (counting (last_of last) p a) p es ends (Matched m)
+  a_match : (a : Option Division) (m : ℕ) → Said es (stops_of a) 0 p ends (Some m) → (m ≡ p → last ≡ p → ⊥) → FoundAt (counting (last_of last) p a) p es ends (Some m)
   unfolding counting unless_barred
   a_match none m s f = absurd (let g = s.found in let z : ◌≡◌ {A = ℕ} 0 1 = cc in omega arith)
   a_match (some d) m s f =
@@ -83,7 +82,7 @@ module _ (es : List Piece) (last p : ℕ) (ends : List ℕ) where
       let e : end_of p d ≡ m = last_stop_lem p d ∙ k in
       rw (not_barred last p (end_of p d) (λ x y. f (sym e ∙ x) y)) (e, s.ended)
 
-  empty_match : (a : Option Division) (m : ℕ) → Said es (stops_of a) 0 p ends (Matched m) → m ≡ p → last ≡ p → p ≤ most_line_bytes → FoundAt (counting (last_of last) p a) p es ends NoMatch
+  empty_match : (a : Option Division) (m : ℕ) → Said es (stops_of a) 0 p ends (Some m) → m ≡ p → last ≡ p → p ≤ most_line_bytes → FoundAt (counting (last_of last) p a) p es ends None
   unfolding counting unless_barred
   empty_match none m s x y l = absurd (let g = s.found in let z : ◌≡◌ {A = ℕ} 0 1 = cc in omega arith)
   empty_match (some d) m s x y l =
@@ -92,7 +91,7 @@ module _ (es : List Piece) (last p : ℕ) (ends : List ℕ) where
       rw (is_barred last p (end_of p d) y (last_stop_lem p d ∙ k ∙ x) l) tt
 
 module _ (items b t : List ℕ) (last p : ℕ) (marks marks' ends' : List ℕ) where
-  find_none : Tried items b t 0 p marks marks' ends' NoMatch → Finds items b t last p marks marks' ends' NoMatch
+  find_none : Tried items b t 0 p marks marks' ends' None → Finds items b t last p marks marks' ends' None
   unfolding match
   find_none k = record {
     found = λ es i st h. no_match_lem es last p ends' (chosen st es p (drop p t)) (k.said es (whole items es i) st h);
@@ -101,7 +100,7 @@ module _ (items b t : List ℕ) (last p : ℕ) (marks marks' ends' : List ℕ) w
     inside = k.kept.noted.inside;
   }
 
-  find_one : (m : ℕ) → Tried items b t 0 p marks marks' ends' (Matched m) → (m ≡ p → last ≡ p → ⊥) → Finds items b t last p marks marks' ends' (Matched m)
+  find_one : (m : ℕ) → Tried items b t 0 p marks marks' ends' (Some m) → (m ≡ p → last ≡ p → ⊥) → Finds items b t last p marks marks' ends' (Some m)
   unfolding match
   find_one m k f = record {
     found = λ es i st h. a_match es last p ends' (chosen st es p (drop p t)) m (k.said es (whole items es i) st h) f;
@@ -110,7 +109,7 @@ module _ (items b t : List ℕ) (last p : ℕ) (marks marks' ends' : List ℕ) w
     inside = k.kept.noted.inside;
   }
 
-  find_empty : (m : ℕ) → Tried items b t 0 p marks marks' ends' (Matched m) → m ≡ p → last ≡ p → p ≤ most_line_bytes → Finds items b t last p marks marks' ends' NoMatch
+  find_empty : (m : ℕ) → Tried items b t 0 p marks marks' ends' (Some m) → m ≡ p → last ≡ p → p ≤ most_line_bytes → Finds items b t last p marks marks' ends' None
   unfolding match
   find_empty m k x y l = record {
     found = λ es i st h. empty_match es last p ends' (chosen st es p (drop p t)) m (k.said es (whole items es i) st h) x y l;
@@ -119,17 +118,17 @@ module _ (items b t : List ℕ) (last p : ℕ) (marks marks' ends' : List ℕ) w
     inside = k.kept.noted.inside;
   }
 
-  pub find_counted : p ≤ most_line_bytes → (f r : Found) → Tried items b t 0 p marks marks' ends' f → r ≡ counted_of f last p → Finds items b t last p marks marks' ends' r
-  find_counted l NoMatch r k e = subst (Finds items b t last p marks marks' ends') (sym e) (find_none k)
-  find_counted l (Matched q) r k e = subst (Finds items b t last p marks marks' ends') (sym e) (by (ℕ_discrete q p) (ℕ_discrete last p))
+  pub find_counted : p ≤ most_line_bytes → (f r : CodeOption ℕ) → Tried items b t 0 p marks marks' ends' f → r ≡ counted_of f last p → Finds items b t last p marks marks' ends' r
+  find_counted l None r k e = subst (Finds items b t last p marks marks' ends') (sym e) (find_none k)
+  find_counted l (Some q) r k e = subst (Finds items b t last p marks marks' ends') (sym e) (by (ℕ_discrete q p) (ℕ_discrete last p))
     where
-      by : Dec (q ≡ p) → Dec (last ≡ p) → Finds items b t last p marks marks' ends' (counted_of (Matched q) last p)
+      by : Dec (q ≡ p) → Dec (last ≡ p) → Finds items b t last p marks marks' ends' (counted_of (Some q) last p)
       by (yes x) (yes y) = rw (eq-eqb q p x, eq-eqb last p y) (find_empty q k x y l)
       by (yes x) (no y) = rw (eq-eqb q p x, ne_eqb last p y) (find_one q k (λ u v. y v))
       by (no x) d = rw (ne_eqb q p x) (find_one q k (λ u v. x u))
 
   -- without a match before
-  pub find_first : (m : ℕ) → p ≤ most_line_bytes → Tried items b t 0 p marks marks' ends' (Matched m) → Finds items b t past_places p marks marks' ends' (Matched m)
+  pub find_first : (m : ℕ) → p ≤ most_line_bytes → Tried items b t 0 p marks marks' ends' (Some m) → Finds items b t past_places p marks marks' ends' (Some m)
   unfolding match
   find_first m l k = record {
     found = λ es i st h. a_match es past_places p ends' (chosen st es p (drop p t)) m (k.said es (whole items es i) st h) (λ x y. omega arith);
@@ -139,14 +138,14 @@ module _ (items b t : List ℕ) (last p : ℕ) (marks marks' ends' : List ℕ) w
   }
 
   -- no division begins here
-  pub tried_none : Tried items b t 0 p marks marks' ends' NoMatch → (es : List Piece) → IsPattern items es → (st : State) → Holds b st → chosen st es p (drop p t) ≡ none
+  pub tried_none : Tried items b t 0 p marks marks' ends' None → (es : List Piece) → IsPattern items es → (st : State) → Holds b st → chosen st es p (drop p t) ≡ none
   tried_none k es i st h = said_none (chosen st es p (drop p t)) (k.said es (whole items es i) st h)
     where
-      said_none : (a : Option Division) → Said es (stops_of a) 0 p ends' NoMatch → a ≡ none
+      said_none : (a : Option Division) → Said es (stops_of a) 0 p ends' None → a ≡ none
       said_none none s = refl
       said_none (some d) s = absurd (let f = s.found in let z : ◌≡◌ {A = ℕ} 0 1 = cc in omega arith)
 
-  pub find_differs : (kinds ends : List ℕ) → Ready items kinds b t p marks ends → (x : Bool) → Differs items t p x → x ≡ true → Finds items b t last p marks marks ends NoMatch
+  pub find_differs : (kinds ends : List ℕ) → Ready items kinds b t p marks ends → (x : Bool) → Differs items t p x → x ≡ true → Finds items b t last p marks marks ends None
   unfolding match counting
   find_differs kinds ends r x d e = record {
     found = λ es i st h. rw (d.none_here e es i st) tt;

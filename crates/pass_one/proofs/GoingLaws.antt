@@ -1,4 +1,5 @@
 -- The walk over all places: what holds before each, and what it comes to.
+use Rattle.std.specs.Prelude.{Option as CodeOption, Some, None, Result, Ok}
 use Prim.Native.Nat.{ℕ, zero, suc, ◌+◌, ◌*◌, ◌≤◌, ◌<◌}
 use mathlib.Core.Path.{◌≡◌, refl, sym, ap, ◌∙◌, subst}
 use mathlib.Core.Bool.{Bool, true, false, false≢true}
@@ -15,20 +16,15 @@ use Rattle.lines.specs.Choosing.{chosen}
 use Rattle.lines.specs.Replacing.{Work, start_in}
 use Rattle.lines.specs.Pass.{match, counting, pass}
 use Rattle.form_state.specs.Access.{Holds}
+use Rattle.refusals.specs.declared.WorkError.{WorkError}
 use Rattle.pass_replace.specs.Contract.{IsSlot}
 use Rattle.pass_steps.specs.Moments.{IsMoment}
 use Rattle.pass_replace.proofs.Preparing.{zeros}
+use Rattle.refusals.specs.declared.WorkFault.{WorkFault}
 use Rattle.pass_moment.specs.declared.Passed.{Passed}
-use Rattle.pass_moment.specs.declared.Passed.TheVariants.{Over}
-use Rattle.pass_one.specs.declared.Found.{Found}
-use Rattle.pass_one.specs.declared.Found.TheVariants.{Matched, NoMatch}
-use Rattle.pass_one.specs.declared.walking.First.{First}
-use Rattle.pass_one.specs.declared.walking.First.TheVariants.{At, Nowhere}
 use Rattle.pass_moment.specs.declared.Moment.{Moment}
 use Rattle.pass_one.specs.Marks.{rows_bytes, Sound}
 use Rattle.pass_one.specs.Contract.{Lent, HeldBy, Passes, size_of}
-use Rattle.pass_moment.specs.declared.Refusal.{Refusal}
-use Rattle.pass_moment.specs.declared.Refusal.TheVariants.{NotRefused, RefusedBy}
 use Rattle.pass_lack.specs.Lacking.{differs_in, flags_of, SomeAbsent}
 use Rattle.pass_unit.specs.Pattern.{IsPattern}
 use Rattle.pass_one.specs.Finding.{Ready, LastPlace, Finds}
@@ -45,14 +41,14 @@ use Rattle.pass_one.proofs.PlaceLaws.{drop_on, finds_none, goes_free, makes}
 -- THE LOOP
 
 -- the bytes of the new line
-size_is : (f : Refusal) (had : Bool) (n : ℕ) → size_of (answer_of f had n) ≡ n
-size_is NotRefused had n = refl
-size_is (RefusedBy f) had n = refl
+size_is : (f : CodeOption WorkFault) (had : Bool) (n : ℕ) → size_of (answer_of f had n) ≡ n
+size_is None had n = refl
+size_is (Some f) had n = refl
 
 -- a moment past the last place, after an occurrence
-held_by : (b b' out out' : List ℕ) (f : Refusal) (o : Bool) (n : ℕ) (v : Work) → IsMoment out' b' n v → o ≡ true → HeldBy b b' out out' (answer_of f o n) v
-held_by b b' out out' NotRefused o n v x e = record { size = x.size; state = x.state; line = λ j. x.line; still = λ j. absurd (false≢true (sym j ∙ e)) }
-held_by b b' out out' (RefusedBy f) o n v x e = x
+held_by : (b b' out out' : List ℕ) (f : CodeOption WorkFault) (o : Bool) (n : ℕ) (v : Work) → IsMoment out' b' n v → o ≡ true → HeldBy b b' out out' (answer_of f o n) v
+held_by b b' out out' None o n v x e = record { size = x.size; state = x.state; line = λ j. x.line; still = λ j. absurd (false≢true (sym j ∙ e)) }
+held_by b b' out out' (Some f) o n v x e = x
 
 -- none is found where no division begins
 none_at : (items b t : List ℕ) (m : Macro) (st : State) (p i : ℕ) → NoneBelow items b t p → IsPattern items m.pattern → Holds b st → i < p → i ≤ length t → match_at m t past_places i (start_in st) ≡ none
@@ -101,8 +97,8 @@ module _ (s items kinds t : List ℕ) (h : Origin) (y : Came s items kinds t h) 
     here = let e = ap (λ (x : Moment). x.place) k.moment in omega (arith, e, y.first.place)
 
     -- the first match
-    pub found_there : Finds items h.state t a.last a.place h.marks h.marks h.ends (Matched h.stop)
-    found_there = subst (λ (x : Moment). Finds items h.state t x.last x.place h.marks h.marks h.ends (Matched h.stop)) (sym k.moment) y.first.found
+    pub found_there : Finds items h.state t a.last a.place h.marks h.marks h.ends (Some h.stop)
+    found_there = subst (λ (x : Moment). Finds items h.state t x.last x.place h.marks h.marks h.ends (Some h.stop)) (sym k.moment) y.first.found
 
     pub stepped : (o l : List ℕ) (r z : Moment) → StepsOver t o l h.place r z → StepsOver t o l a.place r z
     stepped o l r z x = subst (λ (m : Moment). StepsOver t o l m.place r z) (sym k.moment) x
@@ -131,7 +127,7 @@ module _ (s items kinds t : List ℕ) (h : Origin) (y : Came s items kinds t h) 
 
       -- no match begins here
       pub skipped : (x : Bool) → x ≡ differs_in items t a.place → x ≡ true → GoesBy s items t b b out out marks marks seen ends a a
-      skipped x d e = goes_free s items kinds t b out marks ends a trying seen g.sees NoMatch marks ends (finds_none s items kinds t b out marks ends a trying x (differs_is items t a.place d) e) refl
+      skipped x d e = goes_free s items kinds t b out marks ends a trying seen g.sees None marks ends (finds_none s items kinds t b out marks ends a trying x (differs_is items t a.place d) e) refl
 
       module _ (b' out' marks' seen' ends' : List ℕ) (r : Moment) (z : Goes s items t b b' out out' marks marks' seen' ends' a r) where
         came : (m : Macro) → IsSlot s m → (st : State) → Holds h.state st → Reached t b' out' r m st
@@ -159,7 +155,7 @@ module _ (s items kinds t : List ℕ) (h : Origin) (y : Came s items kinds t h) 
             }
 
     -- past the last place
-    pub pass_done : length t < a.place → a.occurred ≡ true → (r : Passed) → r ≡ passed_of a → Passes s t h.state b h.out out r
+    pub pass_done : length t < a.place → a.occurred ≡ true → (r : Result Passed WorkError) → r ≡ passed_of a → Passes s t h.state b h.out out r
     pass_done l had r k =
         let z : size_of (passed_of a) ≡ a.size = size_is a.refusal a.occurred a.size in
         subst (Passes s t h.state b h.out out) (sym k)
@@ -177,7 +173,7 @@ module _ (s items kinds t : List ℕ) (h : Origin) (y : Came s items kinds t h) 
   pub making : Makes s items t h.state out h.marks h.ends a h.stop
   making =
       makes s items kinds t h.state out h.marks h.ends a (trying s items kinds t h y h.state out h.marks h.seen h.ends a (begin s items kinds t h y out a k lo sn) (here s items kinds t h y out a k))
-      h.marks h.ends h.stop (Matched h.stop) (found_there s items kinds t h y out a k) refl refl refl
+      h.marks h.ends h.stop (Some h.stop) (found_there s items kinds t h y out a k) refl refl refl
 
   -- and is made
   pub behind_first_lem : (b out₂ marks seen out₃ : List ℕ) (r z : Moment) → GoesBy s items t h.state b out out₂ h.marks marks seen h.ends a r → StepsOver t out₂ out₃ h.place r z
@@ -206,7 +202,7 @@ module _ (items kinds t b marks ends : List ℕ) (y : Ready items kinds b t 0 ma
   search = record { below = λ es i st h j k l. absurd (omega arith); size = refl; count = y.count; inside = y.inside; sound = y.sound; outside = refl }
 
   module _ (marks' ends' : List ℕ) (p : ℕ) (g : Searching items b t marks marks' ends' p) where
-    pub nowhere : (top : ℕ) → LastPlace items t top → top < p → Searches items b t marks marks' ends' Nowhere
+    pub nowhere : (top : ℕ) → LastPlace items t top → top < p → Searches items b t marks marks' ends' None
     nowhere top z h = record {
       first = λ es i st x j k l. below_or (chosen st es j (drop j t) ≡ none) j p (λ u. g.below es i st x j u l) (λ u. z.none_past es i st j (omega arith) l);
       outside = g.outside;
@@ -237,8 +233,8 @@ module _ (items kinds t b marks ends : List ℕ) (y : Ready items kinds b t 0 ma
         outside = g.outside;
       }
 
-      module _ (marks'' ends'' : List ℕ) (lm : length marks'' ≡ length marks') (ln : length ends'' ≡ length ends') (f : Found) (k : Tried items b t 0 p marks' marks'' ends'' f) where
-        pub search_on : f ≡ NoMatch → Searching items b t marks marks'' ends'' (p + 1)
+      module _ (marks'' ends'' : List ℕ) (lm : length marks'' ≡ length marks') (ln : length ends'' ≡ length ends') (f : CodeOption ℕ) (k : Tried items b t 0 p marks' marks'' ends'' f) where
+        pub search_on : f ≡ None → Searching items b t marks marks'' ends'' (p + 1)
         search_on e =
             let k₂ = subst (Tried items b t 0 p marks' marks'' ends'') e k in
             record {
@@ -250,7 +246,7 @@ module _ (items kinds t b marks ends : List ℕ) (y : Ready items kinds b t 0 ma
               outside = k.kept.outside ∙ g.outside;
             }
 
-        pub found_first : (q : ℕ) → f ≡ Matched q → Searches items b t marks marks'' ends'' (At p q)
+        pub found_first : (q : ℕ) → f ≡ Some q → Searches items b t marks marks'' ends'' (Some (p, q))
         found_first q e =
             let h = y.short in
             let k₂ = subst (Tried items b t 0 p marks' marks'' ends'') e k in
@@ -270,7 +266,7 @@ zeros_front (suc n) zero (suc k) = refl
 zeros_front (suc n) (suc i) (suc k) = zeros_front n i k
 
 -- no match at any place: nothing changes
-free : (s items t b out : List ℕ) → ItemsOf s items → length t ≤ most_line_bytes → NoneBelow items b t (length t + 1) → Passes s t b b out out (Over false (length t))
+free : (s items t b out : List ℕ) → ItemsOf s items → length t ≤ most_line_bytes → NoneBelow items b t (length t + 1) → Passes s t b b out out (Ok (record { occurred = false; size = length t }))
 free s items t b out is short n =
     record {
       comes = λ m i st h.
@@ -302,8 +298,8 @@ module _ (s items kinds t b out marks : List ℕ) (y : ToTry s items kinds t b o
     sound = sound_zero items b t marks (λ i l. y.zero i);
   }
 
-  module _ (marks' ends : List ℕ) (r : First) (z : Searches items b t marks marks' ends r) where
-    pub walking : (p q : ℕ) → r ≡ At p q → length marks' ≡ length marks → length ends ≡ body_bytes → Walking s items kinds t b out marks' ends p q
+  module _ (marks' ends : List ℕ) (r : CodeOption (ℕ × ℕ)) (z : Searches items b t marks marks' ends r) where
+    pub walking : (p q : ℕ) → r ≡ Some (p, q) → length marks' ≡ length marks → length ends ≡ body_bytes → Walking s items kinds t b out marks' ends p q
     walking p q e lm le =
         let z₂ = subst (Searches items b t marks marks' ends) e z in
         record {
@@ -320,7 +316,7 @@ module _ (s items kinds t b out marks : List ℕ) (y : ToTry s items kinds t b o
         }
 
     -- nothing changes
-    pub pass_free : r ≡ Nowhere → Passes s t b b out out (Over false (length t))
+    pub pass_free : r ≡ None → Passes s t b b out out (Ok (record { occurred = false; size = length t }))
     pass_free e = let z₂ = subst (Searches items b t marks marks' ends) e z in free s items t b out y.pattern y.short z₂.first
 
 module _ (s kinds present t b out items : List ℕ) (y : Lent s kinds present t b out) (is : ItemsOf s items) where
@@ -339,7 +335,7 @@ module _ (s kinds present t b out items : List ℕ) (y : Lent s kinds present t 
   }
 
   -- the line lacks a byte that the pattern must have
-  pub pass_lacks : SomeAbsent present items → Passes s t b b out out (Over false (length t))
+  pub pass_lacks : SomeAbsent present items → Passes s t b b out out (Ok (record { occurred = false; size = length t }))
   pass_lacks a =
       free s items t b out is y.short
       (λ es i st h j k l. absent_none t y.bytes es (subst (SomeAbsent (flags_of t)) (sym i.form) (subst (λ (f : List ℕ). SomeAbsent f items) y.flags a)) st j)

@@ -1,4 +1,5 @@
 -- A pass, one moment at a time: how the moments of pass_moment make the pass of the definitions.
+use Rattle.std.specs.Prelude.{Ok, Err, Option as CodeOption, None}
 use Prim.Native.Nat.{ℕ, zero, suc, ◌+◌, ◌-◌, ◌≤◌, ◌<◌}
 use mathlib.Core.Path.{◌≡◌, refl, sym, ap, ◌∙◌, subst}
 use mathlib.Core.Bool.{Bool, true, false, ◌||◌}
@@ -27,11 +28,8 @@ use Rattle.lines.proofs.MatchLaws.{Matches, match_matches}
 use Rattle.refusals.specs.Faults.{refusal_of}
 use Rattle.refusals.specs.declared.WorkFault.{WorkFault}
 use Rattle.refusals.specs.declared.WorkFault.TheVariants.{NewLineTooLong}
-use Rattle.refusals.specs.declared.Outcome.TheVariants.{Made, Refused as MadeRefused}
 use Rattle.pass_steps.specs.Moments.{IsMoment}
 use Rattle.pass_moment.specs.declared.Moment.{Moment}
-use Rattle.pass_moment.specs.declared.Refusal.{Refusal}
-use Rattle.pass_moment.specs.declared.Refusal.TheVariants.{NotRefused}
 use Rattle.pass_moment.specs.Moments.{past_places, moved_to, refused_at, after_of, answer_of, passed_of, Copies, StepsOver}
 use Rattle.pass_one.specs.Contract.{SaysOccurred, done_of as pass_done}
 use Rattle.pass_one.specs.Finding.{last_of}
@@ -105,9 +103,9 @@ module _ (m : Macro) (t : List ℕ) (x : Walk) (had : Bool) (a : Moment) (w : Wo
   is_over l e f = record { on = λ k. absurd (omega arith); over = λ k. (e, f) }
 
   -- a pass that went well
-  is_done : a.refusal ≡ NotRefused → length t < a.place → outcome x ≡ good w → a.occurred ≡ (had || occurred x) → Onward m t x had a w
+  is_done : a.refusal ≡ None → length t < a.place → outcome x ≡ good w → a.occurred ≡ (had || occurred x) → Onward m t x had a w
   is_done e l f g =
-      is_over l (f ∙ sym (ap (λ (k : Refusal). pass_done (answer_of k a.occurred a.size) w) e)) (subst (λ (k : Refusal). SaysOccurred (answer_of k a.occurred a.size) (had || occurred x)) (sym e) g)
+      is_over l (f ∙ sym (ap (λ (k : CodeOption WorkFault). pass_done (answer_of k a.occurred a.size) w) e)) (subst (λ (k : CodeOption WorkFault). SaysOccurred (answer_of k a.occurred a.size) (had || occurred x)) (sym e) g)
 
 module _ (m : Macro) (t : List ℕ) (last p : ℕ) (w : Work) where
   -- at a byte
@@ -200,7 +198,7 @@ module _ (m : Macro) (t b out : List ℕ) (a : Moment) (w : Work) (y : TriedAt t
 
       module _ (o : occur m t d w ≡ good v) where
         abbrev next : Moment
-        next = after_of (Made k) q
+        next = after_of (Ok k) q
 
         pub match_on : a.place < q → MovesTo m t b' out' a w next
         match_on l =
@@ -277,18 +275,18 @@ pass_copies m t b out out' a r w y e s =
     copies_by (λ (z : Moment) (l : List ℕ). MovesTo m t b l a w z) t out out' a r (s.still (omega arith)) (free_end m t b out a w y e) (free_full m t b out a w y e) (free_copied m t b out a w y e)
 
 pub pass_replaces : PassReplaces
-pass_replaces m t b b' out out' out'' a r w v d (MadeRefused f k) y e o x lo s =
+pass_replaces m t b b' out out' out'' a r w v d (Err e') y e o x lo s =
     let h = y.short in
     let p = y.place in
-    both (λ (z : Moment) (l : List ℕ). MovesTo m t b' l a w z) r _ out'' _ (s.further (omega arith)) (match_refused m t b out a w y d e (end_of a.place d) refl b' out' k v x f o)
-pass_replaces m t b b' out out' out'' a r w v d (Made k) y e o x lo s =
+    both (λ (z : Moment) (l : List ℕ). MovesTo m t b' l a w z) r _ out'' _ (s.further (omega arith)) (match_refused m t b out a w y d e (end_of a.place d) refl b' out' e'.size v x e'.fault o)
+pass_replaces m t b b' out out' out'' a r w v d (Ok k) y e o x lo s =
     let q = end_of a.place d in
     let i = match_within m t b out a w y d e q refl in
     below_or (MovesTo m t b' out'' a w r) a.place q
     (λ g. both (λ (z : Moment) (l : List ℕ). MovesTo m t b' l a w z) r _ out'' _ (s.further g) (match_on m t b out a w y d e q refl b' out' k v x o g))
     (λ g.
     let n : q ≡ a.place = omega arith in
-    copies_by (λ (z : Moment) (l : List ℕ). MovesTo m t b' l a w z) t out' out'' (after_of (Made k) q) r (s.still g)
+    copies_by (λ (z : Moment) (l : List ℕ). MovesTo m t b' l a w z) t out' out'' (after_of (Ok k) q) r (s.still g)
     (empty_end m t b out a w y d e q refl b' out' k v x o n)
     (empty_full m t b out a w y d e q refl b' out' k v x o n)
     (empty_copied m t b out a w y d e q refl b' out' k v x o n lo))

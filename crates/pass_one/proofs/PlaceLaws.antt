@@ -1,4 +1,5 @@
 -- A pass, one place at a time, as the code takes it.
+use Rattle.std.specs.Prelude.{Option as CodeOption, Some, None, Result, Ok, Err}
 use Prim.Native.Nat.{ℕ, ◌+◌, ◌-◌, ◌*◌, ◌≤◌, ◌<◌}
 use mathlib.Core.Path.{◌≡◌, refl, ap, ◌∙◌, subst}
 use mathlib.Core.Bool.{Bool, true}
@@ -14,14 +15,10 @@ use Rattle.lines.specs.Replacing.{Work}
 use Rattle.form_state.specs.Access.{IsState}
 use Rattle.refusals.specs.declared.WorkFault.{WorkFault}
 use Rattle.refusals.specs.declared.WorkFault.TheVariants.{NewLineTooLong}
-use Rattle.refusals.specs.declared.Outcome.{Outcome}
-use Rattle.refusals.specs.declared.Outcome.TheVariants.{Made, Refused as MadeRefused}
+use Rattle.refusals.specs.declared.WorkError.{WorkError}
 use Rattle.pass_replace.specs.Contract.{EndsFrom, IsSlot, IsDivided, Lent, Occurs}
 use Rattle.pass_steps.specs.Moments.{IsMoment, done_of, size_of}
-use Rattle.pass_one.specs.declared.Found.{Found}
-use Rattle.pass_one.specs.declared.Found.TheVariants.{Matched, NoMatch}
 use Rattle.pass_moment.specs.declared.Moment.{Moment}
-use Rattle.pass_moment.specs.declared.Refusal.TheVariants.{NotRefused}
 use Rattle.pass_one.specs.Finding.{Ready, FoundAt, counted_of, Finds, Differs}
 use Rattle.pass_one.specs.Trying.{Tried}
 use Rattle.pass_one.specs.Seen.{Seen, Renewing, Renewed}
@@ -41,15 +38,15 @@ drop_on a b i j e h =
     let r : drop (j - i) (drop i a) ≡ drop (j - i) (drop i b) = ap (drop (j - i)) e in
     rw (drop-drop, drop-drop, q) at r
 
-after_occurred : (o : Outcome) (q : ℕ) → (after_of o q).occurred ≡ true
-after_occurred (Made k) q = refl
-after_occurred (MadeRefused f k) q = refl
+after_occurred : (o : Result ℕ WorkError) (q : ℕ) → (after_of o q).occurred ≡ true
+after_occurred (Ok k) q = refl
+after_occurred (Err e) q = refl
 
-found_none : (a : Option Division) (p : ℕ) (es : List Piece) (ends : List ℕ) → FoundAt a p es ends NoMatch → a ≡ none
+found_none : (a : Option Division) (p : ℕ) (es : List Piece) (ends : List ℕ) → FoundAt a p es ends None → a ≡ none
 found_none none p es ends h = refl
 found_none (some d) p es ends h = absurd h
 
-found_some : (a : Option Division) (p q : ℕ) (es : List Piece) (ends : List ℕ) → FoundAt a p es ends (Matched q) → (d : Division) × (a ≡ some d) × (end_of p d ≡ q) × EndsFrom ends 0 es (stops d)
+found_some : (a : Option Division) (p q : ℕ) (es : List Piece) (ends : List ℕ) → FoundAt a p es ends (Some q) → (d : Division) × (a ≡ some d) × (end_of p d ≡ q) × EndsFrom ends 0 es (stops d)
 found_some none p q es ends h = absurd h
 found_some (some d) p q es ends h = (d, refl, h.0, h.1)
 
@@ -69,13 +66,13 @@ ready s items kinds t b out marks ends a y =
       sound = y.sound;
     }
 
-pub finds : (s items kinds t b out marks ends : List ℕ) (a : Moment) → AtPlace s items kinds t b out marks ends a → (marks' ends' : List ℕ) (f r : Found) → Tried items b t 0 a.place marks marks' ends' f → r ≡ counted_of f a.last a.place → Finds items b t a.last a.place marks marks' ends' r
+pub finds : (s items kinds t b out marks ends : List ℕ) (a : Moment) → AtPlace s items kinds t b out marks ends a → (marks' ends' : List ℕ) (f r : CodeOption ℕ) → Tried items b t 0 a.place marks marks' ends' f → r ≡ counted_of f a.last a.place → Finds items b t a.last a.place marks marks' ends' r
 finds s items kinds t b out marks ends a y marks' ends' f r k e = find_counted items b t a.last a.place marks marks' ends' (let p = y.place in let l = y.short in omega arith) f r k e
 
-pub finds_none : (s items kinds t b out marks ends : List ℕ) (a : Moment) → AtPlace s items kinds t b out marks ends a → (x : Bool) → Differs items t a.place x → x ≡ true → Finds items b t a.last a.place marks marks ends NoMatch
+pub finds_none : (s items kinds t b out marks ends : List ℕ) (a : Moment) → AtPlace s items kinds t b out marks ends a → (x : Bool) → Differs items t a.place x → x ≡ true → Finds items b t a.last a.place marks marks ends None
 finds_none s items kinds t b out marks ends a y x d e = find_differs items b t a.last a.place marks marks ends kinds ends (ready s items kinds t b out marks ends a y) x d e
 
-module _ (s items kinds t b out marks ends : List ℕ) (a : Moment) (y : AtPlace s items kinds t b out marks ends a) (seen : List ℕ) (sn : Seen items seen b) (r : Found) (marks' ends' : List ℕ) (fi : Finds items b t a.last a.place marks marks' ends' r) where
+module _ (s items kinds t b out marks ends : List ℕ) (a : Moment) (y : AtPlace s items kinds t b out marks ends a) (seen : List ℕ) (sn : Seen items seen b) (r : CodeOption ℕ) (marks' ends' : List ℕ) (fi : Finds items b t a.last a.place marks marks' ends' r) where
   abbrev found : Macro → Work → Option Division
   found m w = match_at m t a.last a.place w
 
@@ -83,14 +80,14 @@ module _ (s items kinds t b out marks ends : List ℕ) (a : Moment) (y : AtPlace
   tried w x = record { short = y.short; place = y.place; well = y.well; room = y.room; held = x }
 
   -- without a match
-  module _ (e : r ≡ NoMatch) where
+  module _ (e : r ≡ None) where
     abbrev Went : Moment → List ℕ → Type 0
     Went z l = Goes s items t b b out l marks marks' seen ends' a z
 
     none_here : (m : Macro) → IsSlot s m → (w : Work) → IsMoment out b a.size w → found m w ≡ none
     none_here m i w x = found_none (found m w) a.place m.pattern ends' (subst (FoundAt (found m w) a.place m.pattern ends') e (fi.found m.pattern (y.pattern.pattern m i) w.state x.state))
 
-    went : (z : Moment) (l : List ℕ) → ((m : Macro) → IsSlot s m → (w : Work) → IsMoment out b a.size w → MovesTo m t b l a w z) → drop z.size l ≡ drop z.size out → z.size ≤ most_line_bytes → a.size ≤ z.size → a.place < z.place → (z.place ≤ length t → z.refusal ≡ NotRefused) → Went z l
+    went : (z : Moment) (l : List ℕ) → ((m : Macro) → IsSlot s m → (w : Work) → IsMoment out b a.size w → MovesTo m t b l a w z) → drop z.size l ≡ drop z.size out → z.size ≤ most_line_bytes → a.size ≤ z.size → a.place < z.place → (z.place ≤ length t → z.refusal ≡ None) → Went z l
     went z l c p n g f h = record { comes = c; past = p; size = n; grows = g; further = f; well = h; sound = fi.sound; sees = sn; outside = fi.outside; inside = fi.inside }
 
     free_end_here : length t ≤ a.place → Went (moved_to a a.size) out
@@ -125,7 +122,7 @@ module _ (s items kinds t b out marks ends : List ℕ) (a : Moment) (y : AtPlace
     goes_free = record { copied = λ z l k. go_free z l (k.still (omega arith)); stays = λ o. o }
 
   -- with a match that ends at q
-  module _ (q : ℕ) (e : r ≡ Matched q) where
+  module _ (q : ℕ) (e : r ≡ Some q) where
     divided : (m : Macro) → IsSlot s m → (w : Work) → IsMoment out b a.size w → (d : Division) × (found m w ≡ some d) × (end_of a.place d ≡ q) × IsDivided s ends' m d
     divided m i w x =
         let f = found_some (found m w) a.place q m.pattern ends' (subst (FoundAt (found m w) a.place m.pattern ends') e (fi.found m.pattern (y.pattern.pattern m i) w.state x.state)) in
@@ -147,7 +144,7 @@ module _ (s items kinds t b out marks ends : List ℕ) (a : Moment) (y : AtPlace
         let f = divided m y.macro.1 y.moment.0 y.moment.1 in
         record { divided = (m, f.0, f.3); count = le ∙ y.count; inside = fi.inside; bytes = y.bytes; short = y.short; state = held; room = y.room; sized = y.size }
 
-    pub renewing : length marks' ≡ length marks → (b' out' : List ℕ) (o : Outcome) → Occurs s ends' t b b' out out' a.size o → Renewing items b' seen marks'
+    pub renewing : length marks' ≡ length marks → (b' out' : List ℕ) (o : Result ℕ WorkError) → Occurs s ends' t b b' out out' a.size o → Renewing items b' seen marks'
     renewing lm b' out' o oc =
         let m = y.macro.0 in
         let f = divided m y.macro.1 y.moment.0 y.moment.1 in
@@ -158,7 +155,7 @@ module _ (s items kinds t b out marks ends : List ℕ) (a : Moment) (y : AtPlace
       abbrev Acted : Moment → List ℕ → Type 0
       Acted z l = Goes s items t b b' out l marks marks'' seen' ends' a z
 
-      acted : (z : Moment) (l : List ℕ) → ((m : Macro) → IsSlot s m → (w : Work) → IsMoment out b a.size w → MovesTo m t b' l a w z) → drop z.size l ≡ drop z.size out → z.size ≤ most_line_bytes → a.size ≤ z.size → a.place < z.place → (z.place ≤ length t → z.refusal ≡ NotRefused) → Acted z l
+      acted : (z : Moment) (l : List ℕ) → ((m : Macro) → IsSlot s m → (w : Work) → IsMoment out b a.size w → MovesTo m t b' l a w z) → drop z.size l ≡ drop z.size out → z.size ≤ most_line_bytes → a.size ≤ z.size → a.place < z.place → (z.place ≤ length t → z.refusal ≡ None) → Acted z l
       acted z l c p n g f h =
           record {
             comes = c;
@@ -173,7 +170,7 @@ module _ (s items kinds t b out marks ends : List ℕ) (a : Moment) (y : AtPlace
             inside = fi.inside;
           }
 
-      grows : (o : Outcome) → Occurs s ends' t b b' out out' a.size o → a.size ≤ size_of o
+      grows : (o : Result ℕ WorkError) → Occurs s ends' t b b' out out' a.size o → a.size ≤ size_of o
       grows o oc =
           let m = y.macro.0 in
           let w = y.moment.0 in
@@ -182,28 +179,28 @@ module _ (s items kinds t b out marks ends : List ℕ) (a : Moment) (y : AtPlace
           let z = y.moment.1.size in
           grown o c.0 (subst (Grown a.size) c.1 (occur_grown a.size m t f.0 w (omega arith))) c.2.size
         where
-          grown : (o : Outcome) (v : Work) → Grown a.size (done_of o v) → v.size ≡ size_of o → a.size ≤ size_of o
-          grown (Made k) v h z = omega arith
-          grown (MadeRefused f k) v h z = omega arith
+          grown : (o : Result ℕ WorkError) (v : Work) → Grown a.size (done_of o v) → v.size ≡ size_of o → a.size ≤ size_of o
+          grown (Ok k) v h z = omega arith
+          grown (Err e) v h z = omega arith
 
-      act_refused : (f : WorkFault) (k : ℕ) → Occurs s ends' t b b' out out' a.size (MadeRefused f k) → Acted (refused_at f k) out'
-      act_refused f k oc =
+      act_refused : (e' : WorkError) → Occurs s ends' t b b' out out' a.size (Err e') → Acted (refused_at e'.fault e'.size) out'
+      act_refused e' oc =
           let h = y.short in
           let l = y.place in
-          acted (refused_at f k) out'
+          acted (refused_at e'.fault e'.size) out'
           (λ m i w x.
           let d = divided m i w x in
           let c = oc.comes m d.0 d.3 w x in
-          match_refused m t b out a w (tried w x) d.0 d.1 q d.2 b' out' k c.0 c.2 f c.1)
+          match_refused m t b out a w (tried w x) d.0 d.1 q d.2 b' out' e'.size c.0 c.2 e'.fault c.1)
           oc.past
           oc.within
-          (grows (MadeRefused f k) oc)
+          (grows (Err e') oc)
           (omega arith)
           (λ k. absurd (omega arith))
 
-      module _ (k : ℕ) (oc : Occurs s ends' t b b' out out' a.size (Made k)) where
+      module _ (k : ℕ) (oc : Occurs s ends' t b b' out out' a.size (Ok k)) where
         abbrev next : Moment
-        next = after_of (Made k) q
+        next = after_of (Ok k) q
 
         act_on : a.place < q → Acted next out'
         act_on l =
@@ -214,7 +211,7 @@ module _ (s items kinds t b out marks ends : List ℕ) (a : Moment) (y : AtPlace
             match_on m t b out a w (tried w x) d.0 d.1 q d.2 b' out' k c.0 c.2 c.1 l)
             oc.past
             oc.within
-            (grows (Made k) oc)
+            (grows (Ok k) oc)
             l
             (λ j. refl)
 
@@ -228,7 +225,7 @@ module _ (s items kinds t b out marks ends : List ℕ) (a : Moment) (y : AtPlace
               empty_end m t b out a w (tried w x) d.0 d.1 q d.2 b' out' k c.0 c.2 c.1 z l)
               oc.past
               oc.within
-              (grows (Made k) oc)
+              (grows (Ok k) oc)
               (omega arith)
               (λ j. refl)
 
@@ -242,13 +239,13 @@ module _ (s items kinds t b out marks ends : List ℕ) (a : Moment) (y : AtPlace
               empty_full m t b out a w (tried w x) d.0 d.1 q d.2 b' out' k c.0 c.2 c.1 z l j)
               oc.past
               oc.within
-              (grows (Made k) oc)
+              (grows (Ok k) oc)
               (omega arith)
               (λ i. absurd (omega arith))
 
           empty_copied_here : length out' ≡ most_line_bytes → q < length t → k < most_line_bytes → Acted (moved_to next (k + 1)) (set out' k (get_or t q 0))
           empty_copied_here lo l n =
-              let g = grows (Made k) oc in
+              let g = grows (Ok k) oc in
               acted (moved_to next (k + 1)) (set out' k (get_or t q 0))
               (λ m i w x.
               let d = divided m i w x in
@@ -260,14 +257,14 @@ module _ (s items kinds t b out marks ends : List ℕ) (a : Moment) (y : AtPlace
               (omega arith)
               (λ j. refl)
 
-      go_made : length out' ≡ most_line_bytes → (o : Outcome) → Occurs s ends' t b b' out out' a.size o → (z : Moment) (l : List ℕ) → StepsOver t out' l a.place (after_of o q) z → Acted z l
-      go_made lo (MadeRefused f k) oc z l c = let h = y.short in let p = y.place in both Acted z _ l _ (c.further (omega arith)) (act_refused f k oc)
-      go_made lo (Made k) oc z l c =
+      go_made : length out' ≡ most_line_bytes → (o : Result ℕ WorkError) → Occurs s ends' t b b' out out' a.size o → (z : Moment) (l : List ℕ) → StepsOver t out' l a.place (after_of o q) z → Acted z l
+      go_made lo (Err e') oc z l c = let h = y.short in let p = y.place in both Acted z _ l _ (c.further (omega arith)) (act_refused e' oc)
+      go_made lo (Ok k) oc z l c =
           below_or (Acted z l) a.place q
           (λ g. both Acted z _ l _ (c.further g) (act_on k oc g))
           (λ g. let i = within in let e : q ≡ a.place = omega arith in copies_by Acted t out' l (next k oc) z (c.still g) (empty_end_here k oc e) (empty_full_here k oc e) (empty_copied_here k oc e lo))
 
-    pub goes_acted : (b' out' marks'' seen' : List ℕ) (o : Outcome) → Occurs s ends' t b b' out out' a.size o → Renewed items b' seen seen' marks' marks'' → length out' ≡ most_line_bytes → (x : Moment) → x ≡ after_of o q
+    pub goes_acted : (b' out' marks'' seen' : List ℕ) (o : Result ℕ WorkError) → Occurs s ends' t b b' out out' a.size o → Renewed items b' seen seen' marks' marks'' → length out' ≡ most_line_bytes → (x : Moment) → x ≡ after_of o q
         → GoesBy s items t b b' out out' marks marks'' seen' ends' a x × (x.occurred ≡ true)
     goes_acted b' out' marks'' seen' o oc rn lo x h =
         let e : x.occurred ≡ true = ap (λ (u : Moment). u.occurred) h ∙ after_occurred o q in
@@ -276,7 +273,7 @@ module _ (s items kinds t b out marks ends : List ℕ) (a : Moment) (y : AtPlace
 -- WHERE A MATCH WAS FOUND
 
 -- the memories behind the matcher
-pub makes : (s items kinds t b out marks ends : List ℕ) (a : Moment) → AtPlace s items kinds t b out marks ends a → (marks' ends' : List ℕ) (q : ℕ) (r : Found) → Finds items b t a.last a.place marks marks' ends' r → r ≡ Matched q
+pub makes : (s items kinds t b out marks ends : List ℕ) (a : Moment) → AtPlace s items kinds t b out marks ends a → (marks' ends' : List ℕ) (q : ℕ) (r : CodeOption ℕ) → Finds items b t a.last a.place marks marks' ends' r → r ≡ Some q
     → length marks' ≡ length marks → length ends' ≡ length ends → Makes s items t b out marks' ends' a q
 makes s items kinds t b out marks ends a y marks' ends' q r g e lm le =
     let f = subst (Finds items b t a.last a.place marks marks' ends') e g in

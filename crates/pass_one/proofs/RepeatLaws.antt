@@ -1,5 +1,6 @@
 -- From the chosen division to the steps that the matcher takes, by end places.
 -- Assumes nothing.
+use Rattle.std.specs.Prelude.{Some, None}
 use mathlib.Core.Path.{◌≡◌, refl, sym, ap, ◌∙◌}
 use mathlib.Core.Bool.{Bool, true, false, false≢true}
 use mathlib.Core.List.{List, [], ◌∷◌}
@@ -22,7 +23,6 @@ use Rattle.lines.proofs.MoreLaws.{stops_of, or_else, more_false, more_true, more
 use Rattle.form_element.specs.Element.{code_unit, code_closure, closure_of}
 use Rattle.pass_unit.specs.Pieces.{members_of, fit_u, width_u, led_to, lead_of, again}
 use Rattle.pass_one.specs.Trying.{then_p, found_of}
-use Rattle.pass_unit.specs.declared.Lead.TheVariants.{After, Nothing}
 
 -- END PLACES
 
@@ -80,7 +80,7 @@ module _ (fit : List ℕ → Bool) (w : ℕ) (rest : Rest) where
         ∙ ap (λ (a : Option (List ℕ)). or_p (stops_of (more fit w rest (drop (p + w) t) 0 (p + w) (drop (p + w) t))) a) (then_p_lem 0 p (rest p (drop p t)))
 
     -- the copies that must stand
-    pub rep_nothing : (c : Closure) (b : Bool) → fit (drop p t) ≡ b → lead_of (code_closure c) b w p ≡ Nothing → stops_of (repeated c fit w rest p (drop p t)) ≡ none
+    pub rep_nothing : (c : Closure) (b : Bool) → fit (drop p t) ≡ b → lead_of (code_closure c) b w p ≡ None → stops_of (repeated c fit w rest p (drop p t)) ≡ none
     unfolding led_to pick repeated
     rep_nothing once true e h = absurd (let z : ◌≡◌ {A = ℕ} 0 1 = cc in omega arith)
     rep_nothing once false e h = rw (e, repeated)
@@ -99,7 +99,7 @@ module _ (fit : List ℕ → Bool) (w : ℕ) (rest : Rest) where
     unfolding spare
     wide_more n q x s l = ap (λ (j : ℕ). stops_of (more fit w rest (spare j x) n q s)) (let z : w ≡ suc (w - 1) = omega arith in z)
 
-    pub rep_once : (c : Closure) (b : Bool) (q : ℕ) → fit (drop p t) ≡ b → lead_of (code_closure c) b w p ≡ After q → again (code_closure c) w ≡ false
+    pub rep_once : (c : Closure) (b : Bool) (q : ℕ) → fit (drop p t) ≡ b → lead_of (code_closure c) b w p ≡ Some q → again (code_closure c) w ≡ false
         → stops_of (repeated c fit w rest p (drop p t)) ≡ then_p q (stops_of (rest q (drop q t)))
     unfolding led_to pick repeated
     rep_once once true q e h g = rw (e, repeated) (let z : p + w ≡ q = cc in rw (← z) (here 1))
@@ -108,7 +108,7 @@ module _ (fit : List ℕ → Bool) (w : ℕ) (rest : Rest) where
     rep_once one_or_more false q e h g = absurd (let z : ◌≡◌ {A = ℕ} 0 1 = cc in omega arith)
     rep_once zero_or_more b q e h g = let z : p ≡ q = cc in let l : w ≤ 0 = ltb-false 0 w g in rw (← z) (empty_more 0 p (drop p t) (drop p t) (omega arith) ∙ then_p_lem 0 p (rest p (drop p t)))
 
-    pub rep_star : (c : Closure) (b : Bool) (q : ℕ) → fit (drop p t) ≡ b → lead_of (code_closure c) b w p ≡ After q → again (code_closure c) w ≡ true
+    pub rep_star : (c : Closure) (b : Bool) (q : ℕ) → fit (drop p t) ≡ b → lead_of (code_closure c) b w p ≡ Some q → again (code_closure c) w ≡ true
         → stops_of (repeated c fit w rest p (drop p t)) ≡ stops_of (more fit w rest (drop q t) 0 q (drop q t))
     unfolding led_to pick repeated
     rep_star once b q e h g = absurd (false≢true g)

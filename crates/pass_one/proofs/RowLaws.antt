@@ -1,7 +1,9 @@
 -- Copies in a row, and what the pieces behind a closure give after them.
 -- Assumes nothing.
+use Rattle.std.specs.Prelude.{Option as CodeOption, Some, None}
+use Rattle.std.specs.Option.{is_some}
 use mathlib.Core.Path.{◌≡◌, refl, sym, ap, ◌∙◌, subst}
-use mathlib.Core.Bool.{Bool, true, false}
+use mathlib.Core.Bool.{Bool, true, false, false≢true}
 use mathlib.Core.List.{List, ◌∷◌}
 use mathlib.Core.Option.{Option, none, some}
 use Prim.Native.Nat.{ℕ, zero, suc, ◌+◌, ◌-◌, ◌*◌, ◌≤◌, ◌<◌}
@@ -25,13 +27,20 @@ use Rattle.pass_one.specs.Marks.{copies_from}
 use Rattle.pass_unit.specs.Pieces.{members_of, fit_u, width_u, IsUnit, Wide}
 use Rattle.pass_one.specs.Trying.{answer, after, then_p, found_of, Row, Furthest, Counting, Most, Repeating, Tried, Copied}
 use Rattle.form_element.specs.declared.Unit.{Unit as CodeUnit}
-use Rattle.pass_one.specs.declared.Found.{Found}
-use Rattle.pass_one.specs.declared.Found.TheVariants.{Matched, NoMatch}
 use Rattle.pass_unit.proofs.ItemLaws.{rest_next, rest_inside, rest_even}
 use Rattle.pass_one.proofs.MarkLaws.{sound_at, sound_set}
 use Rattle.pass_unit.proofs.CopyFits.{copy_inside}
 use Rattle.pass_one.proofs.RepeatLaws.{or_p, more_stop, more_step, fit_element, width_element}
 use Rattle.pass_one.proofs.TryLaws.{found_none, said_none, said_first, said_any, kept_on, kept_end}
+
+-- what the test of an answer says
+pub some_is : (f : CodeOption ℕ) → is_some f ≡ true → (m : ℕ) × (f ≡ Some m)
+some_is None e = absurd (false≢true e)
+some_is (Some m) e = (m, refl)
+
+pub none_is : (f : CodeOption ℕ) → is_some f ≡ false → f ≡ None
+none_is None e = refl
+none_is (Some m) e = absurd (false≢true (sym e))
 
 -- PLACES
 
@@ -165,18 +174,18 @@ module _ (items kinds b t : List ℕ) (at next w q n : ℕ) (marks ends : List �
     only : Furthest items b t at q
     only = subst (Furthest items b t at) (ap (λ (j : ℕ). q + j * w) one ∙ place_zero q w) k.most.furthest
 
-    pub copied_first : (m : ℕ) → at < length ends' → Tried items b t next q marks marks' ends' (Matched m) → Copied items b t at q marks marks' (set ends' at q) (Matched m)
+    pub copied_first : (m : ℕ) → at < length ends' → Tried items b t next q marks marks' ends' (Some m) → Copied items b t at q marks marks' (set ends' at q) (Some m)
     copied_first m z y = record {
       said = λ u c es i st h.
           said_first (element u c) es (after st u es t q) (answer st es t q) at next q q m ends' (k.behind (element u c) es i) z (only u c es i st h) (y.said es (rest_at (element u c) es i) st h);
       kept = kept_end items b t marks marks' ends' at q z start_place y.kept;
     }
 
-    module _ (y : Tried items b t next q marks marks' ends' NoMatch) where
+    module _ (y : Tried items b t next q marks marks' ends' None) where
       nothing : (u : PatternUnit) (c : Closure) (es : List Piece) → IsRest items at (element u c ∷ es) → (st : State) → Holds b st → after st u es t q ≡ none
       nothing u c es i st h = only u c es i st h ∙ ap (then_p q) (found_none q (answer st es t q) (y.said es (rest_at (element u c) es i) st h).found)
 
-      pub copied_none : (marks₂ : List ℕ) → marks₂ ≡ marked marks' at q → Copied items b t at q marks marks₂ ends' NoMatch
+      pub copied_none : (marks₂ : List ℕ) → marks₂ ≡ marked marks' at q → Copied items b t at q marks marks₂ ends' None
       copied_none marks₂ new =
           let s = k.stands in
           let l = start_place in
@@ -213,10 +222,10 @@ module _ (items kinds b t : List ℕ) (at next w q n : ℕ) (marks ends : List �
         (row_next j (omega arith)
         ∙ ap (λ (a : Option (List ℕ)). or_p a (then_p (q + j * w) (answer st es t (q + j * w)))) (ap (λ (y : ℕ). after st u es t (q + y * w)) (let z : j + 1 ≡ suc j = omega arith in z) ∙ e))
 
-    climb_found : (j m : ℕ) → j ≤ n → Matched m ≡ found_of (q + j * w) (after st u es t (q + j * w)) → after st u es t q ≡ after st u es t (q + j * w)
+    climb_found : (j m : ℕ) → j ≤ n → Some m ≡ found_of (q + j * w) (after st u es t (q + j * w)) → after st u es t q ≡ after st u es t (q + j * w)
     climb_found j m l f = go (after st u es t (q + j * w)) refl f
       where
-        go : (a : Option (List ℕ)) → after st u es t (q + j * w) ≡ a → Matched m ≡ found_of (q + j * w) a → after st u es t q ≡ a
+        go : (a : Option (List ℕ)) → after st u es t (q + j * w) ≡ a → Some m ≡ found_of (q + j * w) a → after st u es t q ≡ a
         go none e y = absurd (let z : ◌≡◌ {A = ℕ} 0 1 = cc in omega arith)
         go (some s) e y = climb j l s e
 
@@ -247,7 +256,7 @@ module _ (items kinds b t : List ℕ) (at next w q n : ℕ) (marks ends : List �
         }
 
     -- a match after j copies or more is one of the element
-    pub copied_upper : (marks' ends' : List ℕ) (f : Found) (m : ℕ) → f ≡ Matched m → Copied items b t at (q + j * w) marks marks' ends' f → Copied items b t at q marks marks' ends' f
+    pub copied_upper : (marks' ends' : List ℕ) (f : CodeOption ℕ) (m : ℕ) → f ≡ Some m → Copied items b t at (q + j * w) marks marks' ends' f → Copied items b t at q marks marks' ends' f
     copied_upper marks' ends' f m e y = record {
       said = λ u c es i st g.
           let s = y.said u c es i st g in
@@ -256,7 +265,7 @@ module _ (items kinds b t : List ℕ) (at next w q n : ℕ) (marks ends : List �
     }
 
     -- else fewer copies are left
-    module _ (some_more : 1 ≤ j) (marks' ends' : List ℕ) (y : Copied items b t at (q + j * w) marks marks' ends' NoMatch) where
+    module _ (some_more : 1 ≤ j) (marks' ends' : List ℕ) (y : Copied items b t at (q + j * w) marks marks' ends' None) where
       pub lower_repeating : Repeating items kinds b t at next w q (j - 1) marks' ends'
       lower_repeating = record {
         given = k.given;
@@ -277,5 +286,5 @@ module _ (items kinds b t : List ℕ) (at next w q n : ℕ) (marks ends : List �
         };
       }
 
-      pub copied_lower : (marks₂ ends₂ : List ℕ) (r : Found) → Copied items b t at q marks' marks₂ ends₂ r → Copied items b t at q marks marks₂ ends₂ r
+      pub copied_lower : (marks₂ ends₂ : List ℕ) (r : CodeOption ℕ) → Copied items b t at q marks' marks₂ ends₂ r → Copied items b t at q marks marks₂ ends₂ r
       copied_lower marks₂ ends₂ r c = record { said = c.said; kept = kept_on items b t marks marks' marks₂ ends' ends₂ y.kept c.kept }

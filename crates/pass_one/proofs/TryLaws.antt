@@ -1,5 +1,6 @@
 -- The steps of the matcher: what each answer says.
 -- Assumes nothing.
+use Rattle.std.specs.Prelude.{Option as CodeOption, Some, None}
 use mathlib.Core.Path.{◌≡◌, refl, sym, ap, ◌∙◌, subst}
 use mathlib.Core.Bool.{Bool, true, false, false≢true}
 use mathlib.Core.List.{List, [], ◌∷◌}
@@ -24,15 +25,11 @@ use Rattle.pass_unit.specs.Pattern.{IsRest, OfPiece}
 use Rattle.pass_marks.specs.Marks.{mark}
 use Rattle.form_element.specs.Element.{code_closure, element_of, AnyPiece}
 use Rattle.pass_unit.specs.Pieces.{members_of, fit_u, width_u, lead_of, again, Stands, IsElement, Wide}
-use Rattle.pass_one.specs.Trying.{answer, after, then_p, found_of, ended_in, Said, Given, Noted, Trying, Kept, Tried, Copied}
+use Rattle.pass_one.specs.Trying.{answer, after, then_p, found_of, Said, Given, Noted, Trying, Kept, Tried, Copied}
 use Rattle.form_element.specs.declared.Element.{Element}
 use Rattle.form_element.specs.declared.Unit.{Unit as CodeUnit}
 use Rattle.form_element.specs.declared.Closure.{Closure as CodeClosure}
 use Rattle.form_element.specs.declared.Closure.TheVariants.{Once, OneOrMore, ZeroOrMore}
-use Rattle.pass_unit.specs.declared.Lead.{Lead}
-use Rattle.pass_unit.specs.declared.Lead.TheVariants.{After, Nothing}
-use Rattle.pass_one.specs.declared.Found.{Found}
-use Rattle.pass_one.specs.declared.Found.TheVariants.{Matched, NoMatch}
 use Rattle.pass_unit.proofs.ItemLaws.{piece_even, rest_next, rest_inside, rest_end, rest_more, rest_long, element_is}
 use Rattle.pass_one.proofs.MarkLaws.{sound_at}
 use Rattle.pass_unit.proofs.CopyFits.{fit_inside}
@@ -57,16 +54,16 @@ inside_set ends n i v l h f j = go (ℕ_discrete j i)
 
 -- WHAT AN ANSWER SAYS
 
-pub found_none : (p : ℕ) (a : Option (List ℕ)) → NoMatch ≡ found_of p a → a ≡ none
+pub found_none : (p : ℕ) (a : Option (List ℕ)) → None ≡ found_of p a → a ≡ none
 found_none p none h = refl
 found_none p (some l) h = absurd (let z : ◌≡◌ {A = ℕ} 0 1 = cc in omega arith)
 
-pub said_none : (es : List Piece) (a : Option (List ℕ)) (at p : ℕ) (ends : List ℕ) → a ≡ none → Said es a at p ends NoMatch
+pub said_none : (es : List Piece) (a : Option (List ℕ)) (at p : ℕ) (ends : List ℕ) → a ≡ none → Said es a at p ends None
 said_none es a at p ends e = rw e (record { found = refl; ended = tt })
 
 -- a piece whose span ends at q, and the rest behind it
 pub said_first : (e : Piece) (es : List Piece) (a b : Option (List ℕ)) (at next p q m : ℕ) (ends : List ℕ) → next ≡ at + length (piece_items e) → at < length ends → a ≡ then_p q b
-    → Said es b next q ends (Matched m) → Said (e ∷ es) a at p (set ends at q) (Matched m)
+    → Said es b next q ends (Some m) → Said (e ∷ es) a at p (set ends at q) (Some m)
 said_first e es a none at next p q m ends n l i h = absurd (let f = h.found in let z : ◌≡◌ {A = ℕ} 0 1 = cc in omega arith)
 said_first e es a (some qs) at next p q m ends n l i h =
     rw i (record {
@@ -77,7 +74,7 @@ said_first e es a (some qs) at next p q m ends n l i h =
       );
     })
 
-pub said_any : (st : State) (u : PatternUnit) (e : Piece) (es : List Piece) (t : List ℕ) (a : Option (List ℕ)) (at p q : ℕ) (ends : List ℕ) (r : Found) → a ≡ after st u es t q
+pub said_any : (st : State) (u : PatternUnit) (e : Piece) (es : List Piece) (t : List ℕ) (a : Option (List ℕ)) (at p q : ℕ) (ends : List ℕ) (r : CodeOption ℕ) → a ≡ after st u es t q
     → Said (e ∷ es) (after st u es t q) at q ends r → Said (e ∷ es) a at p ends r
 said_any st u e es t a at p q ends r i h =
     rw i (record { found = h.found ∙ more_any (fits st u) (width st u) (chosen st es) (drop q t) 0 q (drop q t) q p; ended = h.ended })
@@ -104,12 +101,12 @@ kept_end items b t marks marks₁ ends at q l h k = record {
 -- THE PIECE AT A PLACE
 
 -- what was read of it
-pub record Read (items b t : List ℕ) (at p : ℕ) (x : Element) (w : ℕ) (l : Lead) : Type 0 where
+pub record Read (items b t : List ℕ) (at p : ℕ) (x : Element) (w : ℕ) (l : CodeOption ℕ) : Type 0 where
   pub is : IsElement items at x
   pub wide : Wide b x.unit w
   pub lead : OfPiece items at (λ e. OfState b (λ st. l ≡ lead_of x.closure (fit_u st x.unit (members_of e) p (drop p t)) w p))
 
-module _ (items b t : List ℕ) (at p : ℕ) (x : Element) (w : ℕ) (l : Lead) (r : Read items b t at p x w l) where
+module _ (items b t : List ℕ) (at p : ℕ) (x : Element) (w : ℕ) (l : CodeOption ℕ) (r : Read items b t at p x w l) where
   module _ (e : Piece) (es : List Piece) (i : IsRest items at (e ∷ es)) (st : State) (h : Holds b st) where
     read_closure : code_closure (piece_closure e) ≡ x.closure
     read_closure = sym (closure_piece e) ∙ r.is.closure e es i
@@ -117,7 +114,7 @@ module _ (items b t : List ℕ) (at p : ℕ) (x : Element) (w : ℕ) (l : Lead) 
     read_width : width_p st e ≡ w
     read_width = ap (width_u st) (r.is.unit.unit e es i) ∙ sym (r.wide st h)
 
-    read_lead : (m : Lead) → l ≡ m → lead_of (code_closure (piece_closure e)) (fit_p st e p (drop p t)) (width_p st e) p ≡ m
+    read_lead : (m : CodeOption ℕ) → l ≡ m → lead_of (code_closure (piece_closure e)) (fit_p st e p (drop p t)) (width_p st e) p ≡ m
     read_lead m g =
         ap (λ (c : CodeClosure). lead_of c (fit_p st e p (drop p t)) (width_p st e) p) read_closure
         ∙ ap (λ (j : ℕ). lead_of x.closure (fit_p st e p (drop p t)) j p) read_width
@@ -127,29 +124,29 @@ module _ (items b t : List ℕ) (at p : ℕ) (x : Element) (w : ℕ) (l : Lead) 
     read_again : (y : Bool) → again x.closure w ≡ y → again (code_closure (piece_closure e)) (width_p st e) ≡ y
     read_again y g = ap (λ (c : CodeClosure). again c (width_p st e)) read_closure ∙ ap (again x.closure) read_width ∙ g
 
-    answer_nothing : l ≡ Nothing → answer st (e ∷ es) t p ≡ none
-    answer_nothing g = piece_next st e es p (drop p t) ∙ rep_nothing (fit_p st e p) (width_p st e) (chosen st es) t p (piece_closure e) (fit_p st e p (drop p t)) refl (read_lead Nothing g)
+    answer_nothing : l ≡ None → answer st (e ∷ es) t p ≡ none
+    answer_nothing g = piece_next st e es p (drop p t) ∙ rep_nothing (fit_p st e p) (width_p st e) (chosen st es) t p (piece_closure e) (fit_p st e p (drop p t)) refl (read_lead None g)
 
-    answer_once : (q : ℕ) → l ≡ After q → again x.closure w ≡ false → answer st (e ∷ es) t p ≡ then_p q (answer st es t q)
+    answer_once : (q : ℕ) → l ≡ Some q → again x.closure w ≡ false → answer st (e ∷ es) t p ≡ then_p q (answer st es t q)
     answer_once q g f =
-        piece_next st e es p (drop p t) ∙ rep_once (fit_p st e p) (width_p st e) (chosen st es) t p (piece_closure e) (fit_p st e p (drop p t)) q refl (read_lead (After q) g) (read_again false f)
+        piece_next st e es p (drop p t) ∙ rep_once (fit_p st e p) (width_p st e) (chosen st es) t p (piece_closure e) (fit_p st e p (drop p t)) q refl (read_lead (Some q) g) (read_again false f)
 
-  answer_star : (u : PatternUnit) (c : Closure) (es : List Piece) → IsRest items at (element u c ∷ es) → (st : State) → Holds b st → (q : ℕ) → l ≡ After q → again x.closure w ≡ true
+  answer_star : (u : PatternUnit) (c : Closure) (es : List Piece) → IsRest items at (element u c ∷ es) → (st : State) → Holds b st → (q : ℕ) → l ≡ Some q → again x.closure w ≡ true
       → answer st (element u c ∷ es) t p ≡ after st u es t q
   answer_star u c es i st h q g f =
       piece_next st (element u c) es p (drop p t)
-      ∙ rep_star (fit_p st (element u c) p) (width_p st (element u c)) (chosen st es) t p c (fit_p st (element u c) p (drop p t)) q refl (read_lead (element u c) es i st h (After q) g)
+      ∙ rep_star (fit_p st (element u c) p) (width_p st (element u c)) (chosen st es) t p c (fit_p st (element u c) p (drop p t)) q refl (read_lead (element u c) es i st h (Some q) g)
       (read_again (element u c) es i st h true f)
       ∙ ap (λ (k : List ℕ → Bool). stops_of (more k (width_p st (element u c)) (chosen st es) (drop q t) 0 q (drop q t))) (fit_element st u c p)
       ∙ ap (λ (j : ℕ). stops_of (more (fits st u) j (chosen st es) (drop q t) 0 q (drop q t))) (width_element st u c)
 
-lead_inside : (c : CodeClosure) (f : Bool) (w p q n : ℕ) → p ≤ n → (f ≡ true → p + w ≤ n) → After q ≡ lead_of c f w p → q ≤ n
+lead_inside : (c : CodeClosure) (f : Bool) (w p q n : ℕ) → p ≤ n → (f ≡ true → p + w ≤ n) → Some q ≡ lead_of c f w p → q ≤ n
 lead_inside Once f w p q n l h e = let a = led_true f (p + w) q e in let b = h a.0 in let d = a.1 in omega arith
 lead_inside OneOrMore f w p q n l h e = let a = led_true f (p + w) q e in let b = h a.0 in let d = a.1 in omega arith
 lead_inside ZeroOrMore f w p q n l h e = let a : q ≡ p = cc in omega arith
 
 -- the place behind the copies that must stand is in the line
-pub read_inside : (items b t : List ℕ) (at p : ℕ) (x : Element) (w : ℕ) (l : Lead) (q : ℕ) → Read items b t at p x w l → IsState b → p ≤ length t → l ≡ After q → q ≤ length t
+pub read_inside : (items b t : List ℕ) (at p : ℕ) (x : Element) (w : ℕ) (l : CodeOption ℕ) (q : ℕ) → Read items b t at p x w l → IsState b → p ≤ length t → l ≡ Some q → q ≤ length t
 read_inside items b t at p x w l q r s h g =
     let i = r.is.unit.stands in
     let f = fit_u s.0 x.unit (members_of i.piece) p (drop p t) in
@@ -165,7 +162,7 @@ by_piece items at P n f (e ∷ es) i = f e es i
 
 -- ELEMENTS
 
-pub tried_done : (items kinds b t : List ℕ) (at p : ℕ) (marks ends : List ℕ) → Trying items kinds b t at p marks ends → at ≡ length items → Tried items b t at p marks marks ends (Matched p)
+pub tried_done : (items kinds b t : List ℕ) (at p : ℕ) (marks ends : List ℕ) → Trying items kinds b t at p marks ends → at ≡ length items → Tried items b t at p marks marks ends (Some p)
 unfolding chosen
 tried_done items kinds b t at p marks ends k e = record {
   said = λ es i st h. rw (rest_end items at es i e) (record { found = refl; ended = tt });
@@ -180,17 +177,27 @@ pub element_here : (items kinds b t : List ℕ) (at p : ℕ) (marks ends : List 
     → (x : Element) → AnyPiece items at (λ e. x ≡ element_of e) → IsElement items at x
 element_here items kinds b t at p marks ends k n x f = element_is items at (stands items kinds b t at p marks ends k n) x f
 
-module _ (items b t : List ℕ) (at p : ℕ) (n : at ≡ length items → ⊥) (x : Element) (w : ℕ) (l : Lead) (r : Read items b t at p x w l) where
-  pub tried_nothing : (marks ends : List ℕ) → Noted items b t marks ends → l ≡ Nothing → Tried items b t at p marks marks ends NoMatch
+-- what is read of it, and that the place behind the copies that must stand is in the line
+module _ (items kinds b t : List ℕ) (at p : ℕ) (marks ends : List ℕ) (k : Trying items kinds b t at p marks ends) (n : at ≡ length items → ⊥)
+    (x : Element) (f : AnyPiece items at (λ e. x ≡ element_of e)) (w : ℕ) (v : Wide b x.unit w) (l : CodeOption ℕ)
+    (g : OfPiece items at (λ e. OfState b (λ st. l ≡ lead_of x.closure (fit_u st x.unit (members_of e) p (drop p t)) w p))) where
+  pub read_here : Read items b t at p x w l
+  read_here = record { is = element_here items kinds b t at p marks ends k n x f; wide = v; lead = g }
+
+  pub behind_inside : (q : ℕ) → l ≡ Some q → q ≤ length t
+  behind_inside q h = read_inside items b t at p x w l q read_here k.given.state k.place h
+
+module _ (items b t : List ℕ) (at p : ℕ) (n : at ≡ length items → ⊥) (x : Element) (w : ℕ) (l : CodeOption ℕ) (r : Read items b t at p x w l) where
+  pub tried_nothing : (marks ends : List ℕ) → Noted items b t marks ends → l ≡ None → Tried items b t at p marks marks ends None
   tried_nothing marks ends k g = record {
     said =
-        by_piece items at (λ es. OfState b (λ st. Said es (answer st es t p) at p ends NoMatch)) n
+        by_piece items at (λ es. OfState b (λ st. Said es (answer st es t p) at p ends None)) n
         (λ e es i st h. said_none (e ∷ es) (answer st (e ∷ es) t p) at p ends (answer_nothing items b t at p x w l r e es i st h g));
     kept = kept_start items b t marks ends k;
   }
 
-  module _ (q : ℕ) (g : l ≡ After q) where
-    pub tried_more : again x.closure w ≡ true → (marks marks' ends' : List ℕ) (f : Found) → Copied items b t at q marks marks' ends' f → Tried items b t at p marks marks' ends' f
+  module _ (q : ℕ) (g : l ≡ Some q) where
+    pub tried_more : again x.closure w ≡ true → (marks marks' ends' : List ℕ) (f : CodeOption ℕ) → Copied items b t at q marks marks' ends' f → Tried items b t at p marks marks' ends' f
     tried_more a marks marks' ends' f c = record { said = by_piece items at (λ es. OfState b (λ st. Said es (answer st es t p) at p ends' f)) n go; kept = c.kept }
       where
         go : (e : Piece) (es : List Piece) → IsRest items at (e ∷ es) → OfState b (λ st. Said (e ∷ es) (answer st (e ∷ es) t p) at p ends' f)
@@ -204,31 +211,24 @@ module _ (items b t : List ℕ) (at p : ℕ) (n : at ≡ length items → ⊥) (
       rest_at : (e : Piece) (es : List Piece) → IsRest items at (e ∷ es) → IsRest items next es
       rest_at e es i = rw (after-it e es i) (rest_next items at e es i)
 
-      tried_first : (m : ℕ) → at < length ends' → q ≤ length t → Tried items b t next q marks marks' ends' (Matched m) → Tried items b t at p marks marks' (set ends' at q) (Matched m)
+      pub tried_first : (m : ℕ) → at < length ends' → q ≤ length t → Tried items b t next q marks marks' ends' (Some m) → Tried items b t at p marks marks' (set ends' at q) (Some m)
       tried_first m z v c = record {
         said =
-            by_piece items at (λ es. OfState b (λ st. Said es (answer st es t p) at p (set ends' at q) (Matched m))) n
+            by_piece items at (λ es. OfState b (λ st. Said es (answer st es t p) at p (set ends' at q) (Some m))) n
             (λ e es i st h.
             said_first e es (answer st (e ∷ es) t p) (answer st es t q) at next p q m ends' (after-it e es i) z (answer_once items b t at p x w l r e es i st h q g a) (c.said es (rest_at e es i) st h));
         kept = kept_end items b t marks marks' ends' at q z v c.kept;
       }
 
-      tried_fails : Tried items b t next q marks marks' ends' NoMatch → Tried items b t at p marks marks' ends' NoMatch
+      pub tried_fails : Tried items b t next q marks marks' ends' None → Tried items b t at p marks marks' ends' None
       tried_fails c = record {
         said =
-            by_piece items at (λ es. OfState b (λ st. Said es (answer st es t p) at p ends' NoMatch)) n
+            by_piece items at (λ es. OfState b (λ st. Said es (answer st es t p) at p ends' None)) n
             (λ e es i st h.
             said_none (e ∷ es) (answer st (e ∷ es) t p) at p ends'
             (answer_once items b t at p x w l r e es i st h q g a ∙ ap (then_p q) (found_none q (answer st es t q) (c.said es (rest_at e es i) st h).found)));
         kept = c.kept;
       }
-
-      pub tried_ended : (f : Found) → at < length ends' → q ≤ length t → Tried items b t next q marks marks' ends' f → (r : Found) (ends'' : List ℕ) → (r ≡ f) × (ends'' ≡ ended_in f at q ends') → Tried items b t at p marks marks' ends'' r
-      tried_ended f z v c r ends'' h = subst (Tried items b t at p marks marks' ends'') (sym h.0) (subst (λ (y : List ℕ). Tried items b t at p marks marks' y f) (sym h.1) (go f c))
-        where
-          go : (f : Found) → Tried items b t next q marks marks' ends' f → Tried items b t at p marks marks' (ended_in f at q ends') f
-          go NoMatch c = tried_fails c
-          go (Matched m) c = tried_first m z v c
 
 -- what the pieces behind ask
 pub next_trying : (items kinds b t : List ℕ) (at next q : ℕ) (marks ends : List ℕ) → Given items kinds b t → Noted items b t marks ends → Stands items at
@@ -245,7 +245,7 @@ next_inside items at next s f =
 
 -- COPIES
 
-pub copied_marked : (items b t : List ℕ) (at q : ℕ) (marks ends : List ℕ) → Noted items b t marks ends → q ≤ 1055 → mark marks at q ≡ 1 → Copied items b t at q marks marks ends NoMatch
+pub copied_marked : (items b t : List ℕ) (at q : ℕ) (marks ends : List ℕ) → Noted items b t marks ends → q ≤ 1055 → mark marks at q ≡ 1 → Copied items b t at q marks marks ends None
 copied_marked items b t at q marks ends k l e = record {
   said = λ u c es i st h. said_none (element u c ∷ es) (after st u es t q) at q ends (ap stops_of (sound_at items b t marks at q l k.sound e u c es i st h));
   kept = kept_start items b t marks ends k;

@@ -1,5 +1,5 @@
 -- What finding the match at a place promises (01, parts 3 and 5).
-use Rattle.std.specs.Prelude.{ℕ, ◌*◌, ◌≤◌, ◌<◌, ◌≡◌, Bool, true, false, List, eqb, leb, length, get_or, drop}
+use Rattle.std.specs.Prelude.{ℕ, ◌*◌, ◌≤◌, ◌<◌, ◌≡◌, Bool, true, false, List, eqb, leb, length, get_or, drop, Option as CodeOption, Some, None}
 use Rattle.std.proofs.Math.Option.{Option, none, some}
 use Rattle.kinds.specs.Kind.{kind_table}
 use Rattle.macros.specs.Bounds.{most_line_bytes}
@@ -13,8 +13,6 @@ use Rattle.lines.specs.Pass.{match}
 use Rattle.form_state.specs.Access.{Holds, IsState}
 use Rattle.pass_replace.specs.Contract.{EndsFrom}
 use Rattle.pass_one.specs.Marks.{rows_bytes, Sound}
-use Rattle.pass_one.specs.declared.Found.{Found}
-use Rattle.pass_one.specs.declared.Found.TheVariants.{Matched, NoMatch}
 use Rattle.pass_unit.specs.Pattern.{IsPattern}
 
 -- the matcher's memories: `ends` has a place for each byte of the items, `marks` 66 bytes
@@ -40,14 +38,14 @@ unfoldable pub last_of : ℕ → Option ℕ
 last_of n = pick_last (leb n most_line_bytes) n
 
 -- the answer says what the definition finds, and the ends are those of its division
-abbrev pub FoundAt : Option Division → ℕ → List Piece → List ℕ → Found → Type 0
-FoundAt none p es ends NoMatch = Unit {0}
-FoundAt none p es ends (Matched q) = ⊥
-FoundAt (some d) p es ends NoMatch = ⊥
-FoundAt (some d) p es ends (Matched q) = (end_of p d ≡ q) × EndsFrom ends 0 es (stops d)
+abbrev pub FoundAt : Option Division → ℕ → List Piece → List ℕ → CodeOption ℕ → Type 0
+FoundAt none p es ends None = Unit {0}
+FoundAt none p es ends (Some q) = ⊥
+FoundAt (some d) p es ends None = ⊥
+FoundAt (some d) p es ends (Some q) = (end_of p d ≡ q) × EndsFrom ends 0 es (stops d)
 
 -- what trying place p finds: the definition's match, with marks that stay sound
-pub record Finds (items b t : List ℕ) (last p : ℕ) (marks marks' ends' : List ℕ) (r : Found) : Type 0 where
+pub record Finds (items b t : List ℕ) (last p : ℕ) (marks marks' ends' : List ℕ) (r : CodeOption ℕ) : Type 0 where
   pub found : (es : List Piece) → IsPattern items es → (st : State) → Holds b st
       → FoundAt (match st es (last_of last) p (drop p t)) p es ends' r
   pub sound : Sound items b t marks'
@@ -56,15 +54,15 @@ pub record Finds (items b t : List ℕ) (last p : ℕ) (marks marks' ends' : Lis
   pub inside : (i : ℕ) → get_or ends' i 0 ≤ length t
 
 -- "An empty match at the end of the match just made in the same pass does not count."
-abbrev pub counted_if : Bool → Bool → ℕ → Found
-counted_if true true q = NoMatch
-counted_if true false q = Matched q
-counted_if false b q = Matched q
+abbrev pub counted_if : Bool → Bool → ℕ → CodeOption ℕ
+counted_if true true q = None
+counted_if true false q = Some q
+counted_if false b q = Some q
 
 -- "An empty match at the end of the match just made in the same pass does not count."
-abbrev pub counted_of : Found → ℕ → ℕ → Found
-counted_of NoMatch last p = NoMatch
-counted_of (Matched q) last p = counted_if (eqb q p) (eqb last p) q
+abbrev pub counted_of : CodeOption ℕ → ℕ → ℕ → CodeOption ℕ
+counted_of None last p = None
+counted_of (Some q) last p = counted_if (eqb q p) (eqb last p) q
 
 -- if the answer is true, no division begins at p
 pub record Differs (items t : List ℕ) (p : ℕ) (r : Bool) : Type 0 where

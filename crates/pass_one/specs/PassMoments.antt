@@ -1,7 +1,7 @@
 -- The moments of a pass are those of 01, part 5 (`lines: Pass`): its first one, and what trying a place makes of each.
 -- What a moment says of the pass is `Onward`: which place is tried next, where the match just made ended, how many bytes the new line has,
 -- whether there was an occurrence; and past the last place what the pass comes to.
-use Rattle.std.specs.Prelude.{ℕ, ◌≤◌, ◌<◌, ◌≡◌, Bool, false, List, length, take}
+use Rattle.std.specs.Prelude.{ℕ, ◌≤◌, ◌<◌, ◌≡◌, Bool, false, List, length, take, Result, None}
 use Rattle.std.proofs.Math.Option.{none, some}
 use Rattle.macros.specs.Bounds.{most_line_bytes}
 use Rattle.macros.specs.Macro.{Macro}
@@ -10,10 +10,9 @@ use Rattle.lines.specs.Matching.{Division, end_of}
 use Rattle.lines.specs.Replacing.{Work, start_in, occur}
 use Rattle.lines.specs.Pass.{Walk, pass}
 use Rattle.lines.specs.Line.{text_of}
-use Rattle.refusals.specs.declared.Outcome.{Outcome}
+use Rattle.refusals.specs.declared.WorkError.{WorkError}
 use Rattle.pass_steps.specs.Moments.{IsMoment, done_of, size_of}
 use Rattle.pass_moment.specs.declared.Moment.{Moment}
-use Rattle.pass_moment.specs.declared.Refusal.TheVariants.{NotRefused}
 use Rattle.pass_moment.specs.Moments.{past_places, start_at, after_of, StepsOver}
 use Rattle.pass_one.specs.Places.{from, match_at, Onward, MovesTo}
 
@@ -22,7 +21,7 @@ pub record TriedAt (t b out : List ℕ) (a : Moment) (w : Work) : Type 0 where
   pub short : length t ≤ most_line_bytes
   pub place : a.place ≤ length t
   -- nothing was refused yet
-  pub well : a.refusal ≡ NotRefused
+  pub well : a.refusal ≡ None
   pub room : length out ≡ most_line_bytes
   pub held : IsMoment out b a.size w
 
@@ -50,7 +49,7 @@ PassCopies =
 -- the law of `after`, once the replacement is made in b' and out', and of `step_over`
 abbrev pub PassReplaces : Type 0
 PassReplaces =
-    (m : Macro) (t b b' out out' out'' : List ℕ) (a r : Moment) (w v : Work) (d : Division) (o : Outcome) → TriedAt t b out a w
+    (m : Macro) (t b b' out out' out'' : List ℕ) (a r : Moment) (w v : Work) (d : Division) (o : Result ℕ WorkError) → TriedAt t b out a w
     → match_at m t a.last a.place w ≡ some d
     → occur m t d w ≡ done_of o v → IsMoment out' b' (size_of o) v → length out' ≡ most_line_bytes
     → StepsOver t out' out'' a.place (after_of o (end_of a.place d)) r → MovesTo m t b' out'' a w r

@@ -1,5 +1,5 @@
 -- What trying a place, going on from it and walking over all of them promise (01, part 5).
-use Rattle.std.specs.Prelude.{ℕ, ◌+◌, ◌*◌, ◌≤◌, ◌<◌, ◌≡◌, Bool, true, false, ◌||◌, List, length, get_or, drop}
+use Rattle.std.specs.Prelude.{ℕ, ◌+◌, ◌*◌, ◌≤◌, ◌<◌, ◌≡◌, Bool, true, false, ◌||◌, List, length, get_or, drop, Option as CodeOption, Some, None, Result}
 use Rattle.std.proofs.Math.Option.{Option, none}
 use Rattle.kinds.specs.Kind.{kind_table}
 use Rattle.macros.specs.Bounds.{most_line_bytes}
@@ -11,9 +11,9 @@ use Rattle.lines.specs.Matching.{Division}
 use Rattle.lines.specs.Choosing.{chosen}
 use Rattle.lines.specs.Replacing.{Work}
 use Rattle.lines.specs.Pass.{Walk, match, walk, pass, occurred, outcome}
+use Rattle.refusals.specs.declared.WorkError.{WorkError}
 use Rattle.pass_moment.specs.declared.Passed.{Passed}
 use Rattle.pass_moment.specs.declared.Moment.{Moment}
-use Rattle.pass_moment.specs.declared.Refusal.TheVariants.{NotRefused}
 use Rattle.pass_moment.specs.Moments.{past_places, passed_of, StepsOver}
 use Rattle.form_state.specs.Access.{Holds, IsState}
 use Rattle.pass_replace.specs.Contract.{IsSlot}
@@ -23,9 +23,6 @@ use Rattle.pass_one.specs.Contract.{done_of, SaysOccurred, Passes}
 use Rattle.pass_unit.specs.Pattern.{IsPattern}
 use Rattle.pass_one.specs.Finding.{last_of, Finds}
 use Rattle.pass_one.specs.Seen.{Seen}
-use Rattle.pass_one.specs.declared.Found.TheVariants.{Matched}
-use Rattle.pass_one.specs.declared.walking.First.{First}
-use Rattle.pass_one.specs.declared.walking.First.TheVariants.{At, Nowhere}
 
 -- the pass from place p on
 abbrev pub from : Macro → List ℕ → ℕ → ℕ → Work → Walk
@@ -67,7 +64,7 @@ pub record AtPlace (s items kinds t b out marks ends : List ℕ) (a : Moment) : 
   pub short : length t ≤ most_line_bytes
   pub place : a.place ≤ length t
   -- nothing was refused yet
-  pub well : a.refusal ≡ NotRefused
+  pub well : a.refusal ≡ None
   pub moment : (w : Work) × IsMoment out b a.size w
   pub room : length out ≡ most_line_bytes
   pub size : a.size ≤ most_line_bytes
@@ -79,7 +76,7 @@ pub record AtPlace (s items kinds t b out marks ends : List ℕ) (a : Moment) : 
 -- what the memories hold at the moment a, at whose place a match that ends at q was found
 pub record Makes (s items t b out marks ends : List ℕ) (a : Moment) (q : ℕ) : Type 0 where
   pub at : AtPlace s items kind_table t b out marks ends a
-  pub found : Finds items b t a.last a.place marks marks ends (Matched q)
+  pub found : Finds items b t a.last a.place marks marks ends (Some q)
 
 -- the pass x, before which there was an occurrence if `had`, is the pass from the moment a on,
 -- in which w holds; past the last place a says what x comes to
@@ -100,7 +97,7 @@ pub record Goes (s items t b b' out out' marks marks' seen ends : List ℕ) (a r
   pub grows : a.size ≤ r.size
   pub further : a.place < r.place
   -- after a refusal no place is left
-  pub well : r.place ≤ length t → r.refusal ≡ NotRefused
+  pub well : r.place ≤ length t → r.refusal ≡ None
   -- the marks and what is seen are those of the state now
   pub sound : Sound items b' t marks'
   pub sees : Seen items seen b'
@@ -123,15 +120,15 @@ NoneBelow items b t p =
 pub record IsFirst (items b t marks ends : List ℕ) (p q : ℕ) : Type 0 where
   pub place : p ≤ length t
   pub none : NoneBelow items b t p
-  pub found : Finds items b t past_places p marks marks ends (Matched q)
+  pub found : Finds items b t past_places p marks marks ends (Some q)
 
 -- the first match, or that there is none
-abbrev pub FirstIn : (items b t marks ends : List ℕ) → First → Type 0
-FirstIn items b t marks ends (At p q) = IsFirst items b t marks ends p q
-FirstIn items b t marks ends Nowhere = NoneBelow items b t (length t + 1)
+abbrev pub FirstIn : (items b t marks ends : List ℕ) → CodeOption (ℕ × ℕ) → Type 0
+FirstIn items b t marks ends (Some (p, q)) = IsFirst items b t marks ends p q
+FirstIn items b t marks ends None = NoneBelow items b t (length t + 1)
 
 -- what looking for the first match says; only the marks of the items change
-pub record Searches (items b t marks marks' ends' : List ℕ) (r : First) : Type 0 where
+pub record Searches (items b t marks marks' ends' : List ℕ) (r : CodeOption (ℕ × ℕ)) : Type 0 where
   pub first : FirstIn items b t marks' ends' r
   pub outside : drop (66 * length items) marks' ≡ drop (66 * length items) marks
 
@@ -180,7 +177,7 @@ pub record Going (s items t : List ℕ) (h : Origin) (b out marks seen ends : Li
   pub inside : (i : ℕ) → get_or ends i 0 ≤ length t
   pub sound : Sound items b t marks
   pub sees : Seen items seen b
-  pub well : a.place ≤ length t → a.refusal ≡ NotRefused
+  pub well : a.place ≤ length t → a.refusal ≡ None
   pub past : drop a.size out ≡ drop a.size h.out
   pub outside : drop (66 * length items) marks ≡ drop (66 * length items) h.marks
   pub reached : (m : Macro) → IsSlot s m → (st : State) → Holds h.state st → Reached t b out a m st
@@ -192,6 +189,6 @@ pub record Walks (s items kinds t b out marks seen ends : List ℕ) (a : Moment)
   pub going : Going s items t origin b out marks seen ends a
 
 -- the pass, from wherever it came
-pub record WalksTo (s items kinds t b b' out out' marks seen ends : List ℕ) (a : Moment) (r : Passed) : Type 0 where
+pub record WalksTo (s items kinds t b b' out out' marks seen ends : List ℕ) (a : Moment) (r : Result Passed WorkError) : Type 0 where
   pub comes : (h : Origin) → Came s items kinds t h → Going s items t h b out marks seen ends a → a.occurred ≡ true
       → Passes s t h.state b' h.out out' r

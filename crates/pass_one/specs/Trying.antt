@@ -1,5 +1,5 @@
 -- What the two functions of the matcher ask and say.
-use Rattle.std.specs.Prelude.{ℕ, ◌+◌, ◌*◌, ◌≤◌, ◌<◌, ◌≡◌, true, List, [], ◌∷◌, length, get_or, drop, set}
+use Rattle.std.specs.Prelude.{ℕ, ◌+◌, ◌*◌, ◌≤◌, ◌<◌, ◌≡◌, true, List, [], ◌∷◌, length, get_or, drop, set, Option as CodeOption, Some, None}
 use Rattle.std.proofs.Math.Option.{Option, none, some}
 use Rattle.kinds.specs.Kind.{kind_table}
 use Rattle.macros.specs.Bounds.{most_line_bytes}
@@ -15,8 +15,6 @@ use Rattle.pass_one.specs.Marks.{rows_bytes, copies_from, Sound}
 use Rattle.pass_unit.specs.Pattern.{IsRest, OfPiece}
 use Rattle.pass_unit.specs.Pieces.{Stands, IsUnit, Wide}
 use Rattle.form_element.specs.declared.Unit.{Unit as CodeUnit}
-use Rattle.pass_one.specs.declared.Found.{Found}
-use Rattle.pass_one.specs.declared.Found.TheVariants.{Matched, NoMatch}
 
 -- the end places of what is chosen
 abbrev pub stops_of : Option Division → Option (List ℕ)
@@ -42,14 +40,9 @@ last_stop p [] = p
 last_stop p (q ∷ qs) = last_stop q qs
 
 -- what the matcher answers to end places
-abbrev pub found_of : ℕ → Option (List ℕ) → Found
-found_of p none = NoMatch
-found_of p (some qs) = Matched (last_stop p qs)
-
--- the ends with that of the piece at `at`, if the pieces behind it match
-abbrev pub ended_in : Found → ℕ → ℕ → List ℕ → List ℕ
-ended_in NoMatch at q ends = ends
-ended_in (Matched m) at q ends = set ends at q
+abbrev pub found_of : ℕ → Option (List ℕ) → CodeOption ℕ
+found_of p none = None
+found_of p (some qs) = Some (last_stop p qs)
 
 -- the ends hold the end places, from the item at `at` on
 abbrev pub Ended : List ℕ → ℕ → List Piece → Option (List ℕ) → Type 0
@@ -57,7 +50,7 @@ Ended ends at es none = Unit {0}
 Ended ends at es (some qs) = EndsFrom ends at es qs
 
 -- the answer r, with the ends, says the end places a of the pieces es, whose items begin at `at`
-pub record Said (es : List Piece) (a : Option (List ℕ)) (at p : ℕ) (ends : List ℕ) (r : Found) : Type 0 where
+pub record Said (es : List Piece) (a : Option (List ℕ)) (at p : ℕ) (ends : List ℕ) (r : CodeOption ℕ) : Type 0 where
   pub found : r ≡ found_of p a
   pub ended : Ended ends at es a
 
@@ -125,12 +118,12 @@ pub record Kept (items b t marks marks' ends' : List ℕ) : Type 0 where
   pub outside : drop (66 * length items) marks' ≡ drop (66 * length items) marks
 
 -- what trying the pieces at `at` at place p says
-pub record Tried (items b t : List ℕ) (at p : ℕ) (marks marks' ends' : List ℕ) (r : Found) : Type 0 where
+pub record Tried (items b t : List ℕ) (at p : ℕ) (marks marks' ends' : List ℕ) (r : CodeOption ℕ) : Type 0 where
   pub said : (es : List Piece) → IsRest items at es → OfState b (λ st. Said es (answer st es t p) at p ends' r)
   pub kept : Kept items b t marks marks' ends'
 
 -- what trying the copies from q on says
-pub record Copied (items b t : List ℕ) (at q : ℕ) (marks marks' ends' : List ℕ) (r : Found) : Type 0 where
+pub record Copied (items b t : List ℕ) (at q : ℕ) (marks marks' ends' : List ℕ) (r : CodeOption ℕ) : Type 0 where
   pub said : (u : PatternUnit) (c : Closure) (es : List Piece) → IsRest items at (element u c ∷ es)
       → OfState b (λ st. Said (element u c ∷ es) (after st u es t q) at q ends' r)
   pub kept : Kept items b t marks marks' ends'

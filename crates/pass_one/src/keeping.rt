@@ -11,10 +11,7 @@ use pass_marks::clear;
 fn is_call(code: u8) -> bool
     ensures { WhenFalse result (NoCall code 0) }
 {
-    if code < 16 {
-        return false;
-    }
-    code < 24
+    matches!(code, 16..=23)
 }
 
 // Whether a pattern reads a stack or a counter.
@@ -22,31 +19,14 @@ pub(crate) fn has_calls(items: &[u8]) -> bool
     requires { Pairs LetterIn items.now × (length items.now ≤ 1014) }
     ensures { WhenFalse result (Pairs NoCall items.now) }
 {
-    let mut at = 0;
-    while at < items.len() {
-        if is_call(items[at]) {
+    let mut rest = items;
+    while let [code, _, after @ ..] = rest {
+        if is_call(*code) {
             return true;
         }
-        at += 2;
+        rest = after;
     }
     false
-}
-
-// Whether two texts are the same.
-fn same_text(a: &[u8], b: &[u8]) -> bool
-    ensures { WhenTrue result (a.now ≡ b.now) }
-{
-    if a.len() != b.len() {
-        return false;
-    }
-    let mut i = 0;
-    while i < a.len() {
-        if a[i] != b[i] {
-            return false;
-        }
-        i += 1;
-    }
-    true
 }
 
 // Whether an item that may be a call stands for the same in two states.
@@ -54,16 +34,11 @@ fn same_item(code: u8, i: u8, seen: &[u8], state: &[u8]) -> bool
     requires { LetterIn code i × IsState seen.now × IsState state.now }
     ensures { WhenTrue result (SameIn seen.now state.now code i) }
 {
-    if code < 16 {
-        return true;
+    match code {
+        16..=19 => entry(seen, i) == entry(state, i),
+        20..=23 => value(seen, i) == value(state, i),
+        _ => true,
     }
-    if code < 20 {
-        return same_text(entry(seen, i), entry(state, i));
-    }
-    if code < 24 {
-        return value(seen, i) == value(state, i);
-    }
-    true
 }
 
 // Whether every call of a pattern stands for the same in two states.
@@ -71,27 +46,14 @@ fn same_calls(items: &[u8], seen: &[u8], state: &[u8]) -> bool
     requires { Pairs LetterIn items.now × (length items.now ≤ 1014) × IsState seen.now × IsState state.now }
     ensures { WhenTrue result (Alike items.now seen.now state.now) }
 {
-    let mut at = 0;
-    while at < items.len() {
-        let same = same_item(items[at], items[at + 1], seen, state);
-        if !same {
+    let mut rest = items;
+    while let [code, i, after @ ..] = rest {
+        if !same_item(*code, *i, seen, state) {
             return false;
         }
-        at += 2;
+        rest = after;
     }
     true
-}
-
-// The state under which marks are made.
-pub(crate) fn copy_state(state: &[u8], seen: &mut [u8])
-    requires { length state.now ≡ length seen.old }
-    ensures { seen.new ≡ state.now }
-{
-    let mut i = 0;
-    while i < state.len() {
-        seen[i] = state[i];
-        i += 1;
-    }
 }
 
 // After an occurrence: marks that were made under other texts are cleared. Where the pattern has no call nothing is seen.
@@ -99,12 +61,9 @@ pub(crate) fn renew(items: &[u8], state: &[u8], seen: &mut [u8], marks: &mut [u8
     requires { Renewing items.now state.now seen.old marks.old }
     ensures { Renewed items.now state.now seen.old seen.new marks.old marks.new }
 {
-    if seen.len() < 1 {
-        return;
-    }
-    if same_calls(items, seen, state) {
+    if seen.is_empty() || same_calls(items, seen, state) {
         return;
     }
     clear(marks, 66 * items.len());
-    copy_state(state, seen);
+    seen.copy_from_slice(state);
 }

@@ -10,17 +10,11 @@ ghost use Rattle.pass_one.specs.Places.{SomeSlot, ItemsOf, ToTry, Walking};
 
 use form_items::layout::{BEFORE_AT, HEADER_BYTES, PATTERN_AT};
 use form_items::two_at;
-use keeping::{copy_state, has_calls};
+use keeping::has_calls;
 use pass_lack::lacks;
 use pass_moment::Passed;
-use walking::{First, first_match, walk};
-
-// Where a match ends.
-#[derive(Clone, Copy)]
-pub(crate) enum Found {
-    Matched(usize),
-    NoMatch,
-}
+use refusals::WorkError;
+use walking::{first_match, walk};
 
 // A pass. Without a match nothing changes. A pattern that must have a byte which the line lacks has no match.
 pub fn pass(
@@ -30,13 +24,16 @@ pub fn pass(
     line: &[u8],
     state: &mut [u8],
     out: &mut [u8],
-) -> Passed
+) -> Result<Passed, WorkError>
     requires { Lent slot.now kinds.now present.now line.now state.old out.old }
     ensures { Passes slot.now line.now state.old state.new out.old out.new result }
 {
     let items = items_of(slot);
     if lacks(items, present) {
-        return Passed::Over(false, line.len());
+        return Ok(Passed {
+            occurred: false,
+            size: line.len(),
+        });
     }
     let rows = 66 * items.len();
     if rows <= 4096 {
@@ -56,14 +53,16 @@ fn tried(
     state: &mut [u8],
     out: &mut [u8],
     marks: &mut [u8],
-) -> Passed
+) -> Result<Passed, WorkError>
     requires { ToTry slot.now items.now kinds.now line.now state.old out.old marks.old }
     ensures { Passes slot.now line.now state.old state.new out.old out.new result }
 {
     let mut ends = [0u16; 1014];
-    let found = first_match(items, kinds, line, state, marks, &mut ends);
-    let First::At(first, end) = found else {
-        return Passed::Over(false, line.len());
+    let Some((first, end)) = first_match(items, kinds, line, state, marks, &mut ends) else {
+        return Ok(Passed {
+            occurred: false,
+            size: line.len(),
+        });
     };
     matched(
         slot, items, kinds, line, first, end, state, out, marks, &mut ends,
@@ -82,20 +81,19 @@ fn matched(
     out: &mut [u8],
     marks: &mut [u8],
     ends: &mut [u16],
-) -> Passed
+) -> Result<Passed, WorkError>
     requires { Walking slot.now items.now kinds.now line.now state.old out.old marks.old ends.old first end }
     ensures { Passes slot.now line.now state.old state.new out.old out.new result }
 {
     if has_calls(items) {
         let mut seen = [0u8; 52236];
-        copy_state(state, &mut seen);
+        seen.copy_from_slice(state);
         return walk(
             slot, items, kinds, line, first, end, state, out, marks, &mut seen, ends,
         );
     }
-    let mut none = [0u8; 0];
     walk(
-        slot, items, kinds, line, first, end, state, out, marks, &mut none, ends,
+        slot, items, kinds, line, first, end, state, out, marks, &mut [], ends,
     )
 }
 

@@ -1,26 +1,22 @@
 // The matcher (01, part 3): the stack grows with the pattern's elements and, for each closure, with the halvings of its copies;
 // each closure is tried at each place once.
-ghost use Rattle.std.specs.Prelude.{◌≤◌, ◌<◌, ◌≡◌, length};
-ghost use Rattle.macros.specs.Bounds.{most_line_bytes};
-ghost use Rattle.form_table.specs.Form.{body_bytes};
+ghost use Rattle.std.specs.Prelude.{◌≡◌};
 ghost use Rattle.pass_one.specs.Finding.{LastPlace, counted_of};
-ghost use Rattle.pass_one.specs.Trying.{ended_in, Trying, Counting, Repeating, Tried, Most, Copied};
+ghost use Rattle.pass_one.specs.Trying.{Trying, Counting, Repeating, Tried, Most, Copied};
 ghost use Rattle.pass_unit.specs.Pieces.{again};
 
-use crate::Found;
 use form_element::{Closure, Element, element_at};
 use form_items::codes::START;
 use pass_marks::{is_marked, set_mark};
-use pass_unit::{Lead, behind, copy_at, lead_at, width_of};
+use pass_unit::{behind, copy_at, lead_at, width_of};
 
 // Whether further copies, w bytes wide, can follow.
 fn may_repeat(element: Element, w: usize) -> bool
     ensures { result ≡ again element.closure w }
 {
-    let c = element.closure;
-    match c {
+    match element.closure {
         Closure::Once => false,
-        _ => 0 < w,
+        Closure::OneOrMore | Closure::ZeroOrMore => 0 < w,
     }
 }
 
@@ -51,7 +47,7 @@ fn most_copies(
     n
 }
 
-// The pieces whose items begin at `at`, at place p. On a match `ends` holds the place where each of them ends.
+// Where a match of the pieces whose items begin at `at` ends, from place p on. `ends` then holds the place where each of them ends.
 #[cycle(closure_elements)]
 pub(crate) fn elements(
     items: &[u8],
@@ -62,40 +58,27 @@ pub(crate) fn elements(
     p: usize,
     marks: &mut [u8],
     ends: &mut [u16],
-) -> Found
+) -> Option<usize>
     requires { Trying items.now kinds.now state.now line.now at p marks.old ends.old }
     ensures { Tried items.now state.now line.now at p marks.old marks.new ends.new result }
 {
     if at == items.len() {
-        return Found::Matched(p);
+        return Some(p);
     }
     let e = element_at(items, at);
     let w = width_of(state, e);
-    let Lead::After(q) = lead_at(items, kinds, state, line, at, e, w, p) else {
-        return Found::NoMatch;
-    };
+    let q = lead_at(items, kinds, state, line, at, e, w, p)?;
     let next = behind(items, at, e);
     if may_repeat(e, w) {
         if is_marked(marks, at, q) {
-            return Found::NoMatch;
+            return None;
         }
         let most = most_copies(items, kinds, state, line, at, e, w, q, marks);
         return closure(items, kinds, state, line, at, next, w, q, most, marks, ends);
     }
-    let found = elements(items, kinds, state, line, next, q, marks, ends);
-    ended(found, at, q, ends)
-}
-
-// On a match of the pieces behind it, the piece at `at` ends at q.
-fn ended(found: Found, at: usize, q: usize, ends: &mut [u16]) -> Found
-    requires { (at < length ends.old) × (length ends.old ≡ body_bytes) × (q ≤ most_line_bytes) }
-    ensures { (result ≡ found) × (ends.new ≡ ended_in found at q ends.old) }
-{
-    let Found::Matched(_) = found else {
-        return found;
-    };
+    let end = elements(items, kinds, state, line, next, q, marks, ends)?;
     ends[at] = q as u16;
-    found
+    Some(end)
 }
 
 // The element at `at`, with up to `most` copies from q on, each w bytes wide:
@@ -115,24 +98,24 @@ fn closure(
     most: usize,
     marks: &mut [u8],
     ends: &mut [u16],
-) -> Found
+) -> Option<usize>
     requires { Repeating items.now kinds.now state.now line.now at next w q most marks.old ends.old }
     ensures { Copied items.now state.now line.now at q marks.old marks.new ends.new result }
 {
     if most == 0 {
-        if let Found::Matched(end) = elements(items, kinds, state, line, next, q, marks, ends) {
+        if let Some(end) = elements(items, kinds, state, line, next, q, marks, ends) {
             ends[at] = q as u16;
-            return Found::Matched(end);
+            return Some(end);
         }
         set_mark(marks, at, q);
-        return Found::NoMatch;
+        return None;
     }
     let high = most / 2;
     let more = most - high;
     let low = more - 1;
     let r = q + more * w;
     let found = closure(items, kinds, state, line, at, next, w, r, high, marks, ends);
-    if let Found::Matched(_) = found {
+    if found.is_some() {
         return found;
     }
     closure(items, kinds, state, line, at, next, w, q, low, marks, ends)
@@ -142,27 +125,15 @@ fn closure(
 pub(crate) fn last_place(items: &[u8], line: &[u8]) -> usize
     ensures { LastPlace items.now line.now result }
 {
-    if items.len() < 2 {
-        return line.len();
-    }
-    if items[0] == START {
+    if 1 < items.len() && items[0] == START {
         return 0;
     }
     line.len()
 }
 
 // "An empty match at the end of the match just made in the same pass does not count."
-pub(crate) fn counted(found: Found, last: usize, p: usize) -> Found
+pub(crate) fn counted(found: Option<usize>, last: usize, p: usize) -> Option<usize>
     ensures { result ≡ counted_of found last p }
 {
-    let Found::Matched(end) = found else {
-        return found;
-    };
-    if end != p {
-        return found;
-    }
-    if last != p {
-        return found;
-    }
-    Found::NoMatch
+    found.filter(|end| *end != p || last != p)
 }

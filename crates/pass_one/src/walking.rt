@@ -5,20 +5,14 @@ ghost use Rattle.pass_one.specs.Seen.{Seen};
 ghost use Rattle.pass_one.specs.Finding.{Ready};
 ghost use Rattle.pass_one.specs.Places.{AtPlace, Makes, GoesBy, Searches, Walking, Walks, WalksTo};
 
-use crate::Found;
 use crate::keeping::renew;
 use crate::matcher::{counted, elements, last_place};
 use pass_lack::differs;
 use pass_moment::{Moment, Passed, after, answer, start, step_over};
 use pass_replace::occurrence;
+use refusals::WorkError;
 
-// The first match of a pass: where it begins and where it ends.
-#[derive(Clone, Copy)]
-pub(crate) enum First {
-    At(usize, usize),
-    Nowhere,
-}
-
+// Where the first match of a pass begins and ends.
 // "A pass of one macro tries places from 0 to the line's length, both included." Up to the first match nothing changes.
 pub(crate) fn first_match(
     items: &[u8],
@@ -27,24 +21,20 @@ pub(crate) fn first_match(
     state: &[u8],
     marks: &mut [u8],
     ends: &mut [u16],
-) -> First
+) -> Option<(usize, usize)>
     requires { Ready items.now kinds.now state.now line.now 0 marks.old ends.old }
     ensures { Searches items.now state.now line.now marks.old marks.new ends.new result }
 {
     let top = last_place(items, line);
-    let mut p = 0;
-    while p <= top {
+    for p in 0..top + 1 {
         if differs(items, line, p) {
-            p += 1;
-        } else {
-            let found = elements(items, kinds, state, line, 0, p, marks, ends);
-            if let Found::Matched(end) = found {
-                return First::At(p, end);
-            }
-            p += 1;
+            continue;
+        }
+        if let Some(end) = elements(items, kinds, state, line, 0, p, marks, ends) {
+            return Some((p, end));
         }
     }
-    First::Nowhere
+    None
 }
 
 // A match that ends at `end` makes the replacement.
@@ -86,8 +76,7 @@ fn go_on(
 {
     let p = at.place;
     let whole = elements(items, kinds, state, line, 0, p, marks, ends);
-    let found = counted(whole, at.last, p);
-    let Found::Matched(end) = found else {
+    let Some(end) = counted(whole, at.last, p) else {
         return at;
     };
     replace(slot, items, line, at, end, state, out, marks, seen, ends)
@@ -105,7 +94,7 @@ fn walk_on(
     marks: &mut [u8],
     seen: &mut [u8],
     ends: &mut [u16],
-) -> Passed
+) -> Result<Passed, WorkError>
     requires { Walks slot.now items.now kinds.now line.now state.old out.old marks.old seen.old ends.old from }
     ensures { WalksTo slot.now items.now kinds.now line.now state.old state.new out.old out.new marks.old seen.old ends.old from result }
 {
@@ -135,7 +124,7 @@ pub(crate) fn walk(
     marks: &mut [u8],
     seen: &mut [u8],
     ends: &mut [u16],
-) -> Passed
+) -> Result<Passed, WorkError>
     requires { Walking slot.now items.now kinds.now line.now state.old out.old marks.old ends.old first end × Seen items.now seen.old state.old }
     ensures { Passes slot.now line.now state.old state.new out.old out.new result }
 {

@@ -9,11 +9,11 @@ use Rattle.pass_one.proofs.matched.Goals as goal
 pub has_calls-requires : goal.has_calls-requires
 has_calls-requires c = let y = c.requires in (pattern_letters _ y.macro.0.pattern (y.pattern.pattern y.macro.0 y.macro.1), y.pattern.fits)
 
-pub copy_state-requires : goal.copy_state-requires
-copy_state-requires c = is_long_lem _ c.requires.state ∙ sym (length-replicate {A = ℕ} 52236 0)
+pub copy_from_slice-requires : goal.copy_from_slice-requires
+copy_from_slice-requires c = length-replicate {A = ℕ} 52236 0 ∙ sym (is_long_lem _ c.requires.state)
 
 pub walk-requires : goal.walk-requires
-walk-requires c = let y = c.requires in (y, seen_self _ _ _ y.macro.0.pattern (y.pattern.pattern y.macro.0 y.macro.1) y.state (omega (arith, c.copy_state.auto.seen, length-replicate {A = ℕ} 52236 0)) c.copy_state.ensures)
+walk-requires c = let y = c.requires in (y, seen_self _ _ _ y.macro.0.pattern (y.pattern.pattern y.macro.0 y.macro.1) y.state (omega (arith, c.copy_from_slice.ensures.len, length-replicate {A = ℕ} 52236 0)) c.copy_from_slice.ensures.after)
 
 pub shape_of-state-then-has_calls : goal.shape_of-state-then-has_calls
 shape_of-state-then-has_calls c = c.walk.auto.state

@@ -1,11 +1,10 @@
-use Prim.Native.Nat.{◌-◌, ◌+◌, ◌≤◌}
-use lib.ListN.{length, drop}
+use lib.ListN.{length}
 use Rattle.pass_one.specs.Seen.{NoCall}
 use Rattle.pass_lack.specs.Twos.{LetterIn, Pairs}
 use Rattle.pass_one.proofs.keeping.has_calls.Given as goal
 
-abbrev pub invariant-loop-at : goal.invariant-loop-at
-invariant-loop-at l = (l.at ≤ length l.items + 1) × Pairs LetterIn (drop l.at l.items) × (Pairs NoCall (drop l.at l.items) → Pairs NoCall l.items)
+abbrev pub invariant-loop-rest : goal.invariant-loop-rest
+invariant-loop-rest l = Pairs LetterIn l.rest × (Pairs NoCall l.rest → Pairs NoCall l.items)
 
-abbrev pub decreases-loop-at : goal.decreases-loop-at
-decreases-loop-at l = length l.items - l.at
+abbrev pub decreases-loop-rest : goal.decreases-loop-rest
+decreases-loop-rest l = length l.rest

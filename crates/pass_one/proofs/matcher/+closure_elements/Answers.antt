@@ -3,8 +3,8 @@ use native.Mathlib.Omega.{arith}
 use borrow.Author.Tests.{eqb-true}
 use lib.ListN.{length-set}
 use Rattle.pass_unit.proofs.ItemLaws.{piece_here}
-use Rattle.pass_one.proofs.TryLaws.{again_wide, read_inside, stands, element_here, tried_done, tried_nothing, tried_more, tried_ended, next_trying, next_inside, copied_marked, at_small, in_row, in_ends, place_small}
-use Rattle.pass_one.proofs.RowLaws.{row_small, start_place, start_small, copied_first, copied_none, upper_repeating, copied_upper, lower_repeating, copied_lower, count_inside}
+use Rattle.pass_one.proofs.TryLaws.{again_wide, read_here, behind_inside, stands, element_here, tried_done, tried_nothing, tried_more, tried_first, tried_fails, next_trying, next_inside, copied_marked, at_small, in_row, in_ends, place_small}
+use Rattle.pass_one.proofs.RowLaws.{some_is, none_is, row_small, start_place, start_small, copied_first, copied_none, upper_repeating, copied_upper, lower_repeating, copied_lower, count_inside}
 use mir.Val.{Fits}
 use mir.Syntax.{w16, w64}
 use Rattle.macros.specs.Bounds.{most_line_bytes}
@@ -32,14 +32,14 @@ closure-offset_bounds-ends-at t c = let z = at_small _ _ _ _ _ c.requires.given 
 pub closure-bounds-ends-at : goal.closure-bounds-ends-at
 closure-bounds-ends-at t c = in_ends _ _ _ _ _ c.requires.given c.requires.stands _ c.elements.ensures.kept.noted.count
 
-pub closure-shape_of-marks-in-Matched : goal.closure-shape_of-marks-in-Matched
-closure-shape_of-marks-in-Matched t c = c.elements.ensures.kept.noted.size ∙ sym c.requires.noted.size
+pub closure-shape_of-marks-in-Some : goal.closure-shape_of-marks-in-Some
+closure-shape_of-marks-in-Some t c = c.elements.ensures.kept.noted.size ∙ sym c.requires.noted.size
 
-pub closure-shape_of-ends-in-Matched : goal.closure-shape_of-ends-in-Matched
-closure-shape_of-ends-in-Matched t c = simp length-set (c.elements.ensures.kept.noted.count ∙ sym c.requires.noted.count)
+pub closure-shape_of-ends-in-Some : goal.closure-shape_of-ends-in-Some
+closure-shape_of-ends-in-Some t c = simp length-set (c.elements.ensures.kept.noted.count ∙ sym c.requires.noted.count)
 
-pub closure-returns-in-Matched : goal.closure-returns-in-Matched
-closure-returns-in-Matched t c = copied_first c.args.items.now c.args.kinds.now c.args.state.now c.args.line.now c.args.at c.args.next c.args.w c.args.q c.args.most c.args.marks.now c.args.ends.now c.requires c.if-most-eq0.true _ _ _ (in_ends _ _ _ _ _ c.requires.given c.requires.stands _ c.elements.ensures.kept.noted.count) (rw c.in-Matched.is at c.elements.ensures)
+pub closure-returns-in-Some : goal.closure-returns-in-Some
+closure-returns-in-Some t c = copied_first c.args.items.now c.args.kinds.now c.args.state.now c.args.line.now c.args.at c.args.next c.args.w c.args.q c.args.most c.args.marks.now c.args.ends.now c.requires c.if-most-eq0.true _ _ _ (in_ends _ _ _ _ _ c.requires.given c.requires.stands _ c.elements.ensures.kept.noted.count) (rw c.in-Some.is at c.elements.ensures)
 
 pub closure-set_mark-requires : goal.closure-set_mark-requires
 closure-set_mark-requires t c = in_row _ _ _ _ _ c.requires.given c.requires.stands _ _ c.elements.ensures.kept.noted.size (start_place c.args.items.now c.args.kinds.now c.args.state.now c.args.line.now c.args.at c.args.next c.args.w c.args.q c.args.most c.args.marks.now c.args.ends.now c.requires)
@@ -65,17 +65,17 @@ closure-overflow_add-r t c = fit-place _ (row_small c.args.items.now c.args.kind
 pub closure-closure-found-requires : goal.closure-closure-found-requires
 closure-closure-found-requires t c = let n = c.if-most-eq0.false in (omega arith, upper_repeating c.args.items.now c.args.kinds.now c.args.state.now c.args.line.now c.args.at c.args.next c.args.w c.args.q c.args.most c.args.marks.now c.args.ends.now c.requires (c.args.most - c.args.most / 2) (c.args.most / 2) (omega arith))
 
-pub closure-shape_of-marks-in-Matched-found : goal.closure-shape_of-marks-in-Matched-found
-closure-shape_of-marks-in-Matched-found t c = c.closure-found.ensures.kept.noted.size ∙ sym c.requires.noted.size
+pub closure-shape_of-marks-then-is_some : goal.closure-shape_of-marks-then-is_some
+closure-shape_of-marks-then-is_some t c = c.closure-found.ensures.kept.noted.size ∙ sym c.requires.noted.size
 
-pub closure-shape_of-ends-in-Matched-found : goal.closure-shape_of-ends-in-Matched-found
-closure-shape_of-ends-in-Matched-found t c = c.closure-found.ensures.kept.noted.count ∙ sym c.requires.noted.count
+pub closure-shape_of-ends-then-is_some : goal.closure-shape_of-ends-then-is_some
+closure-shape_of-ends-then-is_some t c = c.closure-found.ensures.kept.noted.count ∙ sym c.requires.noted.count
 
-pub closure-returns-in-Matched-found : goal.closure-returns-in-Matched-found
-closure-returns-in-Matched-found t c = copied_upper c.args.items.now c.args.kinds.now c.args.state.now c.args.line.now c.args.at c.args.next c.args.w c.args.q c.args.most c.args.marks.now c.args.ends.now c.requires (c.args.most - c.args.most / 2) (c.args.most / 2) (omega arith) _ _ _ _ c.in-Matched-found.is c.closure-found.ensures
+pub closure-returns-then-is_some : goal.closure-returns-then-is_some
+closure-returns-then-is_some t c = copied_upper c.args.items.now c.args.kinds.now c.args.state.now c.args.line.now c.args.at c.args.next c.args.w c.args.q c.args.most c.args.marks.now c.args.ends.now c.requires (c.args.most - c.args.most / 2) (c.args.most / 2) (omega arith) _ _ _ _ (some_is _ (sym c.is_some.ensures ∙ c.if-is_some.true)).1 c.closure-found.ensures
 
 pub closure-closure-requires : goal.closure-closure-requires
-closure-closure-requires t c = let n = c.if-most-eq0.false in (omega arith, lower_repeating c.args.items.now c.args.kinds.now c.args.state.now c.args.line.now c.args.at c.args.next c.args.w c.args.q c.args.most c.args.marks.now c.args.ends.now c.requires (c.args.most - c.args.most / 2) (c.args.most / 2) (omega arith) (let n = c.if-most-eq0.false in omega arith) _ _ (rw c.in_default-found.is at c.closure-found.ensures))
+closure-closure-requires t c = let n = c.if-most-eq0.false in (omega arith, lower_repeating c.args.items.now c.args.kinds.now c.args.state.now c.args.line.now c.args.at c.args.next c.args.w c.args.q c.args.most c.args.marks.now c.args.ends.now c.requires (c.args.most - c.args.most / 2) (c.args.most / 2) (omega arith) (let n = c.if-most-eq0.false in omega arith) _ _ (rw (none_is _ (sym c.is_some.ensures ∙ c.if-is_some.false)) at c.closure-found.ensures))
 
 pub closure-shape_of-marks : goal.closure-shape_of-marks
 closure-shape_of-marks t c = c.closure.ensures.kept.noted.size ∙ sym c.requires.noted.size
@@ -84,7 +84,7 @@ pub closure-shape_of-ends : goal.closure-shape_of-ends
 closure-shape_of-ends t c = c.closure.ensures.kept.noted.count ∙ sym c.requires.noted.count
 
 pub closure-returns : goal.closure-returns
-closure-returns t c = copied_lower c.args.items.now c.args.kinds.now c.args.state.now c.args.line.now c.args.at c.args.next c.args.w c.args.q c.args.most c.args.marks.now c.args.ends.now c.requires (c.args.most - c.args.most / 2) (c.args.most / 2) (omega arith) (let n = c.if-most-eq0.false in omega arith) _ _ (rw c.in_default-found.is at c.closure-found.ensures) _ _ _ c.closure.ensures
+closure-returns t c = copied_lower c.args.items.now c.args.kinds.now c.args.state.now c.args.line.now c.args.at c.args.next c.args.w c.args.q c.args.most c.args.marks.now c.args.ends.now c.requires (c.args.most - c.args.most / 2) (c.args.most / 2) (omega arith) (let n = c.if-most-eq0.false in omega arith) _ _ (rw (none_is _ (sym c.is_some.ensures ∙ c.if-is_some.false)) at c.closure-found.ensures) _ _ _ c.closure.ensures
 
 pub elements-returns-then-at-items : goal.elements-returns-then-at-items
 elements-returns-then-at-items t c = tried_done c.args.items.now c.args.kinds.now c.args.state.now c.args.line.now c.args.at c.args.p c.args.marks.now c.args.ends.now c.requires c.if-at-items.true
@@ -98,23 +98,20 @@ elements-width_of-w-requires t c = (c.requires.given.state, (element_here _ _ _ 
 pub elements-lead_at-requires : goal.elements-lead_at-requires
 elements-lead_at-requires t c = record { copying = record { unit = (element_here _ _ _ _ _ _ _ _ c.requires c.if-at-items.false _ c.element_at-e.ensures).unit; table = c.requires.given.table; state = c.requires.given.state; place = c.requires.place }; wide = c.width_of-w.ensures }
 
-pub elements-returns-in_default : goal.elements-returns-in_default
-elements-returns-in_default t c = tried_nothing c.args.items.now c.args.state.now c.args.line.now c.args.at c.args.p c.if-at-items.false c.element_at-e.result c.width_of-w.result c.lead_at.result (record { is = element_here _ _ _ _ _ _ _ _ c.requires c.if-at-items.false _ c.element_at-e.ensures; wide = c.width_of-w.ensures; lead = c.lead_at.ensures }) c.args.marks.now c.args.ends.now c.requires.noted c.in_default.is
-
 pub elements-behind-next-requires : goal.elements-behind-next-requires
 elements-behind-next-requires t c = (element_here _ _ _ _ _ _ _ _ c.requires c.if-at-items.false _ c.element_at-e.ensures).unit
 
 pub elements-is_marked-requires : goal.elements-is_marked-requires
-elements-is_marked-requires t c = in_row _ _ _ _ _ c.requires.given (element_here _ _ _ _ _ _ _ _ c.requires c.if-at-items.false _ c.element_at-e.ensures).unit.stands _ _ c.requires.noted.size (read_inside c.args.items.now c.args.state.now c.args.line.now c.args.at c.args.p c.element_at-e.result c.width_of-w.result c.lead_at.result _ (record { is = element_here _ _ _ _ _ _ _ _ c.requires c.if-at-items.false _ c.element_at-e.ensures; wide = c.width_of-w.ensures; lead = c.lead_at.ensures }) c.requires.given.state c.requires.place c.in-After.is)
+elements-is_marked-requires t c = in_row _ _ _ _ _ c.requires.given (element_here _ _ _ _ _ _ _ _ c.requires c.if-at-items.false _ c.element_at-e.ensures).unit.stands _ _ c.requires.noted.size (behind_inside _ _ _ _ _ _ _ _ c.requires c.if-at-items.false _ c.element_at-e.ensures _ c.width_of-w.ensures _ c.lead_at.ensures _ c.in_ok-q.was)
 
 pub elements-shape_of-marks-then-is_marked : goal.elements-shape_of-marks-then-is_marked
 elements-shape_of-marks-then-is_marked t c = refl
 
 pub elements-returns-then-is_marked : goal.elements-returns-then-is_marked
-elements-returns-then-is_marked t c = tried_more c.args.items.now c.args.state.now c.args.line.now c.args.at c.args.p c.if-at-items.false c.element_at-e.result c.width_of-w.result c.lead_at.result (record { is = element_here _ _ _ _ _ _ _ _ c.requires c.if-at-items.false _ c.element_at-e.ensures; wide = c.width_of-w.ensures; lead = c.lead_at.ensures }) _ c.in-After.is (sym c.may_repeat.ensures ∙ c.if-may_repeat.true) _ _ _ _ (copied_marked _ _ _ _ _ _ _ c.requires.noted (place_small _ _ _ _ _ c.requires.given (read_inside c.args.items.now c.args.state.now c.args.line.now c.args.at c.args.p c.element_at-e.result c.width_of-w.result c.lead_at.result _ (record { is = element_here _ _ _ _ _ _ _ _ c.requires c.if-at-items.false _ c.element_at-e.ensures; wide = c.width_of-w.ensures; lead = c.lead_at.ensures }) c.requires.given.state c.requires.place c.in-After.is)) (eqb-true _ _ (sym c.is_marked.ensures ∙ c.if-is_marked.true)))
+elements-returns-then-is_marked t c = tried_more c.args.items.now c.args.state.now c.args.line.now c.args.at c.args.p c.if-at-items.false c.element_at-e.result c.width_of-w.result c.lead_at.result (read_here _ _ _ _ _ _ _ _ c.requires c.if-at-items.false _ c.element_at-e.ensures _ c.width_of-w.ensures _ c.lead_at.ensures) _ c.in_ok-q.was (sym c.may_repeat.ensures ∙ c.if-may_repeat.true) _ _ _ _ (copied_marked _ _ _ _ _ _ _ c.requires.noted (place_small _ _ _ _ _ c.requires.given (behind_inside _ _ _ _ _ _ _ _ c.requires c.if-at-items.false _ c.element_at-e.ensures _ c.width_of-w.ensures _ c.lead_at.ensures _ c.in_ok-q.was)) (eqb-true _ _ (sym c.is_marked.ensures ∙ c.if-is_marked.true)))
 
 pub elements-most_copies-most-requires : goal.elements-most_copies-most-requires
-elements-most_copies-most-requires t c = record { given = c.requires.given; size = c.requires.noted.size; sound = c.requires.noted.sound; unit = (element_here _ _ _ _ _ _ _ _ c.requires c.if-at-items.false _ c.element_at-e.ensures).unit; wide = c.width_of-w.ensures; some = again_wide c.element_at-e.result.closure c.width_of-w.result (sym c.may_repeat.ensures ∙ c.if-may_repeat.true); place = (read_inside c.args.items.now c.args.state.now c.args.line.now c.args.at c.args.p c.element_at-e.result c.width_of-w.result c.lead_at.result _ (record { is = element_here _ _ _ _ _ _ _ _ c.requires c.if-at-items.false _ c.element_at-e.ensures; wide = c.width_of-w.ensures; lead = c.lead_at.ensures }) c.requires.given.state c.requires.place c.in-After.is) }
+elements-most_copies-most-requires t c = record { given = c.requires.given; size = c.requires.noted.size; sound = c.requires.noted.sound; unit = (element_here _ _ _ _ _ _ _ _ c.requires c.if-at-items.false _ c.element_at-e.ensures).unit; wide = c.width_of-w.ensures; some = again_wide c.element_at-e.result.closure c.width_of-w.result (sym c.may_repeat.ensures ∙ c.if-may_repeat.true); place = (behind_inside _ _ _ _ _ _ _ _ c.requires c.if-at-items.false _ c.element_at-e.ensures _ c.width_of-w.ensures _ c.lead_at.ensures _ c.in_ok-q.was) }
 
 pub elements-closure-requires : goal.elements-closure-requires
 elements-closure-requires t c = let k = c.most_copies-most.ensures.row.inside in let w = again_wide c.element_at-e.result.closure c.width_of-w.result (sym c.may_repeat.ensures ∙ c.if-may_repeat.true) in let l = count_inside _ _ _ _ w k in let s = c.requires.given.short in (omega arith, record { given = c.requires.given; noted = c.requires.noted; stands = (element_here _ _ _ _ _ _ _ _ c.requires c.if-at-items.false _ c.element_at-e.ensures).unit.stands; behind = c.behind-next.ensures; some = w; most = c.most_copies-most.ensures })
@@ -126,19 +123,25 @@ pub elements-shape_of-ends-then-may_repeat : goal.elements-shape_of-ends-then-ma
 elements-shape_of-ends-then-may_repeat t c = c.closure.ensures.kept.noted.count ∙ sym c.requires.noted.count
 
 pub elements-returns-then-may_repeat : goal.elements-returns-then-may_repeat
-elements-returns-then-may_repeat t c = tried_more c.args.items.now c.args.state.now c.args.line.now c.args.at c.args.p c.if-at-items.false c.element_at-e.result c.width_of-w.result c.lead_at.result (record { is = element_here _ _ _ _ _ _ _ _ c.requires c.if-at-items.false _ c.element_at-e.ensures; wide = c.width_of-w.ensures; lead = c.lead_at.ensures }) _ c.in-After.is (sym c.may_repeat.ensures ∙ c.if-may_repeat.true) _ _ _ _ c.closure.ensures
+elements-returns-then-may_repeat t c = tried_more c.args.items.now c.args.state.now c.args.line.now c.args.at c.args.p c.if-at-items.false c.element_at-e.result c.width_of-w.result c.lead_at.result (read_here _ _ _ _ _ _ _ _ c.requires c.if-at-items.false _ c.element_at-e.ensures _ c.width_of-w.ensures _ c.lead_at.ensures) _ c.in_ok-q.was (sym c.may_repeat.ensures ∙ c.if-may_repeat.true) _ _ _ _ c.closure.ensures
 
-pub elements-elements-found-requires : goal.elements-elements-found-requires
-elements-elements-found-requires t c = let i = next_inside _ _ _ (element_here _ _ _ _ _ _ _ _ c.requires c.if-at-items.false _ c.element_at-e.ensures).unit.stands c.behind-next.ensures in (omega arith, next_trying _ _ _ _ _ _ _ _ _ c.requires.given c.requires.noted (element_here _ _ _ _ _ _ _ _ c.requires c.if-at-items.false _ c.element_at-e.ensures).unit.stands c.behind-next.ensures (read_inside c.args.items.now c.args.state.now c.args.line.now c.args.at c.args.p c.element_at-e.result c.width_of-w.result c.lead_at.result _ (record { is = element_here _ _ _ _ _ _ _ _ c.requires c.if-at-items.false _ c.element_at-e.ensures; wide = c.width_of-w.ensures; lead = c.lead_at.ensures }) c.requires.given.state c.requires.place c.in-After.is))
+pub elements-elements-requires : goal.elements-elements-requires
+elements-elements-requires t c = let i = next_inside _ _ _ (element_here _ _ _ _ _ _ _ _ c.requires c.if-at-items.false _ c.element_at-e.ensures).unit.stands c.behind-next.ensures in (omega arith, next_trying _ _ _ _ _ _ _ _ _ c.requires.given c.requires.noted (element_here _ _ _ _ _ _ _ _ c.requires c.if-at-items.false _ c.element_at-e.ensures).unit.stands c.behind-next.ensures (behind_inside _ _ _ _ _ _ _ _ c.requires c.if-at-items.false _ c.element_at-e.ensures _ c.width_of-w.ensures _ c.lead_at.ensures _ c.in_ok-q.was))
 
-pub elements-ended-requires : goal.elements-ended-requires
-elements-ended-requires t c = let g = c.requires.given in let n = c.elements-found.ensures.kept.noted.count in let l = (read_inside c.args.items.now c.args.state.now c.args.line.now c.args.at c.args.p c.element_at-e.result c.width_of-w.result c.lead_at.result _ (record { is = element_here _ _ _ _ _ _ _ _ c.requires c.if-at-items.false _ c.element_at-e.ensures; wide = c.width_of-w.ensures; lead = c.lead_at.ensures }) c.requires.given.state c.requires.place c.in-After.is) in let h = g.short in (in_ends _ _ _ _ _ g (element_here _ _ _ _ _ _ _ _ c.requires c.if-at-items.false _ c.element_at-e.ensures).unit.stands _ n, n, omega arith)
+pub elements-returns-in_err-q : goal.elements-returns-in_err-q
+elements-returns-in_err-q t c = rw c.from_residual.ensures (tried_nothing c.args.items.now c.args.state.now c.args.line.now c.args.at c.args.p c.if-at-items.false c.element_at-e.result c.width_of-w.result c.lead_at.result (read_here _ _ _ _ _ _ _ _ c.requires c.if-at-items.false _ c.element_at-e.ensures _ c.width_of-w.ensures _ c.lead_at.ensures) c.args.marks.now c.args.ends.now c.requires.noted c.in_err-q.was)
 
-pub elements-shape_of-marks : goal.elements-shape_of-marks
-elements-shape_of-marks t c = c.elements-found.ensures.kept.noted.size ∙ sym c.requires.noted.size
+pub elements-overflow_cast-ends : goal.elements-overflow_cast-ends
+elements-overflow_cast-ends t c = let l = behind_inside _ _ _ _ _ _ _ _ c.requires c.if-at-items.false _ c.element_at-e.ensures _ c.width_of-w.ensures _ c.lead_at.ensures _ c.in_ok-q.was in let h = c.requires.given.short in fit-cast _ (omega arith)
 
-pub elements-shape_of-ends : goal.elements-shape_of-ends
-elements-shape_of-ends t c = c.ended.auto.ends ∙ c.elements-found.ensures.kept.noted.count ∙ sym c.requires.noted.count
+pub elements-offset_bounds-ends-at : goal.elements-offset_bounds-ends-at
+elements-offset_bounds-ends-at t c = let z = at_small _ _ _ _ _ c.requires.given (element_here _ _ _ _ _ _ _ _ c.requires c.if-at-items.false _ c.element_at-e.ensures).unit.stands in omega arith
+
+pub elements-bounds-ends-at : goal.elements-bounds-ends-at
+elements-bounds-ends-at t c = in_ends _ _ _ _ _ c.requires.given (element_here _ _ _ _ _ _ _ _ c.requires c.if-at-items.false _ c.element_at-e.ensures).unit.stands _ c.elements.ensures.kept.noted.count
+
+pub elements-returns-in_err-end : goal.elements-returns-in_err-end
+elements-returns-in_err-end t c = rw c.from_residual-in_err-end.ensures (tried_fails c.args.items.now c.args.state.now c.args.line.now c.args.at c.args.p c.if-at-items.false c.element_at-e.result c.width_of-w.result c.lead_at.result (read_here _ _ _ _ _ _ _ _ c.requires c.if-at-items.false _ c.element_at-e.ensures _ c.width_of-w.ensures _ c.lead_at.ensures) _ c.in_ok-q.was (sym c.may_repeat.ensures ∙ c.if-may_repeat.false) _ c.behind-next.ensures _ _ _ c.in_err-end.ensures)
 
 pub elements-returns : goal.elements-returns
-elements-returns t c = tried_ended c.args.items.now c.args.state.now c.args.line.now c.args.at c.args.p c.if-at-items.false c.element_at-e.result c.width_of-w.result c.lead_at.result (record { is = element_here _ _ _ _ _ _ _ _ c.requires c.if-at-items.false _ c.element_at-e.ensures; wide = c.width_of-w.ensures; lead = c.lead_at.ensures }) _ c.in-After.is (sym c.may_repeat.ensures ∙ c.if-may_repeat.false) _ c.behind-next.ensures _ _ _ _ (in_ends _ _ _ _ _ c.requires.given (element_here _ _ _ _ _ _ _ _ c.requires c.if-at-items.false _ c.element_at-e.ensures).unit.stands _ c.elements-found.ensures.kept.noted.count) (read_inside c.args.items.now c.args.state.now c.args.line.now c.args.at c.args.p c.element_at-e.result c.width_of-w.result c.lead_at.result _ (record { is = element_here _ _ _ _ _ _ _ _ c.requires c.if-at-items.false _ c.element_at-e.ensures; wide = c.width_of-w.ensures; lead = c.lead_at.ensures }) c.requires.given.state c.requires.place c.in-After.is) c.elements-found.ensures _ _ c.ended.ensures
+elements-returns t c = tried_first c.args.items.now c.args.state.now c.args.line.now c.args.at c.args.p c.if-at-items.false c.element_at-e.result c.width_of-w.result c.lead_at.result (read_here _ _ _ _ _ _ _ _ c.requires c.if-at-items.false _ c.element_at-e.ensures _ c.width_of-w.ensures _ c.lead_at.ensures) _ c.in_ok-q.was (sym c.may_repeat.ensures ∙ c.if-may_repeat.false) _ c.behind-next.ensures _ _ _ _ (in_ends _ _ _ _ _ c.requires.given (element_here _ _ _ _ _ _ _ _ c.requires c.if-at-items.false _ c.element_at-e.ensures).unit.stands _ c.elements.ensures.kept.noted.count) (behind_inside _ _ _ _ _ _ _ _ c.requires c.if-at-items.false _ c.element_at-e.ensures _ c.width_of-w.ensures _ c.lead_at.ensures _ c.in_ok-q.was) c.in_ok-end.ensures

@@ -1,9 +1,6 @@
 use Rattle.pass_one.proofs.FindLaws.{last_all, last_start}
 use Rattle.pass_one.proofs.matcher.last_place.Goals as goal
 
-pub returns-then-items-lt2 : goal.returns-then-items-lt2
-returns-then-items-lt2 c = last_all c.args.items.now c.args.line.now
-
 pub returns-then-items-eq-START : goal.returns-then-items-eq-START
 returns-then-items-eq-START c = last_start c.args.items.now c.args.line.now c.if-items-eq-START.true
 

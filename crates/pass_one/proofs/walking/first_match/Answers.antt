@@ -7,29 +7,23 @@ use Rattle.pass_one.proofs.walking.first_match.Goals as goal
 pub loop-p-init : goal.loop-p-init
 loop-p-init c = (search _ _ _ _ _ _ c.requires, omega arith)
 
-pub overflow_add-p : goal.overflow_add-p
-overflow_add-p c = let l = c.last_place-top.ensures.inside in let s = c.requires.short in omega arith
-
 pub loop-p-preserved-then-differs : goal.loop-p-preserved-then-differs
 loop-p-preserved-then-differs c = (search_past _ _ _ _ _ _ c.requires _ _ _ c.loop-p.invariant.0 (let l = c.last_place-top.ensures.inside in omega arith) _ c.differs.ensures c.if-differs.true, let l = c.last_place-top.ensures.inside in omega arith)
 
-pub elements-found-requires : goal.elements-found-requires
-elements-found-requires c = ready_trying _ _ _ _ _ _ _ (ready_here _ _ _ _ _ _ c.requires _ _ _ c.loop-p.invariant.0 (let l = c.last_place-top.ensures.inside in omega arith))
+pub elements-requires : goal.elements-requires
+elements-requires c = ready_trying _ _ _ _ _ _ _ (ready_here _ _ _ _ _ _ c.requires _ _ _ c.loop-p.invariant.0 (let l = c.last_place-top.ensures.inside in omega arith))
 
-pub shape_of-marks-in-Matched : goal.shape_of-marks-in-Matched
-shape_of-marks-in-Matched c = c.elements-found.auto.marks ∙ c.loop-p.invariant.0.size
+pub shape_of-marks-in-Some : goal.shape_of-marks-in-Some
+shape_of-marks-in-Some c = c.elements.auto.marks ∙ c.loop-p.invariant.0.size
 
-pub shape_of-ends-in-Matched : goal.shape_of-ends-in-Matched
-shape_of-ends-in-Matched c = c.elements-found.auto.ends ∙ c.loop-p.invariant.0.count ∙ sym c.requires.count
+pub shape_of-ends-in-Some : goal.shape_of-ends-in-Some
+shape_of-ends-in-Some c = c.elements.auto.ends ∙ c.loop-p.invariant.0.count ∙ sym c.requires.count
 
-pub returns-in-Matched : goal.returns-in-Matched
-returns-in-Matched c = found_first _ _ _ _ _ _ c.requires _ _ _ c.loop-p.invariant.0 (let l = c.last_place-top.ensures.inside in omega arith) _ _ c.elements-found.auto.marks c.elements-found.auto.ends _ c.elements-found.ensures _ c.in-Matched.is
-
-pub overflow_add-p-else-differs : goal.overflow_add-p-else-differs
-overflow_add-p-else-differs c = let l = c.last_place-top.ensures.inside in let s = c.requires.short in omega arith
+pub returns-in-Some : goal.returns-in-Some
+returns-in-Some c = found_first _ _ _ _ _ _ c.requires _ _ _ c.loop-p.invariant.0 (let l = c.last_place-top.ensures.inside in omega arith) _ _ c.elements.auto.marks c.elements.auto.ends _ c.elements.ensures _ c.in-Some.is
 
 pub loop-p-preserved : goal.loop-p-preserved
-loop-p-preserved c = (search_on _ _ _ _ _ _ c.requires _ _ _ c.loop-p.invariant.0 (let l = c.last_place-top.ensures.inside in omega arith) _ _ c.elements-found.auto.marks c.elements-found.auto.ends _ c.elements-found.ensures c.in_default.is, let l = c.last_place-top.ensures.inside in omega arith)
+loop-p-preserved c = (search_on _ _ _ _ _ _ c.requires _ _ _ c.loop-p.invariant.0 (let l = c.last_place-top.ensures.inside in omega arith) _ _ c.elements.auto.marks c.elements.auto.ends _ c.elements.ensures c.in_default.is, let l = c.last_place-top.ensures.inside in omega arith)
 
 pub shape_of-marks : goal.shape_of-marks
 shape_of-marks c = c.loop-p.invariant.0.size

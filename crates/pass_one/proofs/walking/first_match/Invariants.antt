@@ -5,6 +5,3 @@ use Rattle.pass_one.proofs.walking.first_match.Given as goal
 
 abbrev pub invariant-loop-p : goal.invariant-loop-p
 invariant-loop-p l = Searching l.items l.state l.line l.initial.marks l.marks l.ends l.p × (l.p ≤ length l.line + 1)
-
-abbrev pub decreases-loop-p : goal.decreases-loop-p
-decreases-loop-p l = l.top + 1 - l.p

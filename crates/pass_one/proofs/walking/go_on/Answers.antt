@@ -16,10 +16,10 @@ pub shape_of-ends-in_default : goal.shape_of-ends-in_default
 shape_of-ends-in_default c = c.elements-whole.auto.ends
 
 pub returns-in_default : goal.returns-in_default
-returns-in_default c = goes_free _ _ _ _ _ _ _ _ _ c.requires.0 _ c.requires.1 _ _ _ (finds _ _ _ _ _ _ _ _ c.args.at c.requires.0 _ _ _ _ c.elements-whole.ensures c.counted-found.ensures) c.in_default.is
+returns-in_default c = goes_free _ _ _ _ _ _ _ _ _ c.requires.0 _ c.requires.1 _ _ _ (finds _ _ _ _ _ _ _ _ c.args.at c.requires.0 _ _ _ _ c.elements-whole.ensures c.counted.ensures) c.in_default.is
 
 pub replace-requires : goal.replace-requires
-replace-requires c = (makes _ _ _ _ _ _ _ _ c.args.at c.requires.0 _ _ _ _ (finds _ _ _ _ _ _ _ _ c.args.at c.requires.0 _ _ _ _ c.elements-whole.ensures c.counted-found.ensures) c.in-Matched.is c.elements-whole.auto.marks c.elements-whole.auto.ends, c.requires.1)
+replace-requires c = (makes _ _ _ _ _ _ _ _ c.args.at c.requires.0 _ _ _ _ (finds _ _ _ _ _ _ _ _ c.args.at c.requires.0 _ _ _ _ c.elements-whole.ensures c.counted.ensures) c.in-Some.is c.elements-whole.auto.marks c.elements-whole.auto.ends, c.requires.1)
 
 pub shape_of-state : goal.shape_of-state
 shape_of-state c = c.replace.auto.state
