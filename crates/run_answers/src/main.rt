@@ -8,8 +8,6 @@ mod lends;
 mod reply;
 mod serve;
 
-ghost use Rattle.std.specs.Prelude.{◌<◌};
-
 use program_in::{next_line, start};
 use serve::obey;
 use std::io::{Read, Write};
@@ -33,7 +31,7 @@ fn main(rt: HostRuntime) {
     );
 }
 
-// The commands to the end of the input. Nothing says that an input ends, so the turns are counted down.
+// The commands to the end of the input. Nothing says that an input ends, so the turns are counted.
 fn each_command<R: Read, W: Write>(
     input: &mut R,
     output: &mut W,
@@ -43,21 +41,11 @@ fn each_command<R: Read, W: Write>(
     command: &mut [u8],
 ) {
     let mut reading = next_line(input, block, command, start());
-    let mut turns = left(u64::MAX, reading.begun);
-    while 0 < turns {
+    for _ in 0..u64::MAX {
+        if !reading.begun {
+            break;
+        }
         obey(output, table, state, command, reading.held);
         reading = next_line(input, block, command, reading);
-        turns = left(turns, reading.begun);
     }
-}
-
-// The turns that are left: none where no line has begun.
-fn left(turns: u64, begun: bool) -> u64
-    requires { 0 < turns }
-    ensures { result < turns }
-{
-    if begun {
-        return turns - 1;
-    }
-    0
 }

@@ -1,6 +1,7 @@
 // The answers to the commands.
 ghost use Rattle.std.specs.Prelude.{◌≤◌, length};
 
+use crate::command_words::Command;
 use crate::hex::put_hex;
 use crate::lends::{no_state, no_table, other_size};
 use line_answer::Answer;
@@ -13,75 +14,55 @@ pub(crate) fn write_reply<W: Write>(
     output: &mut W,
     out: &mut [u8; 4096],
     text: &[u8; 32768],
-    which: u8,
+    asked: Command,
     answer: Answer,
 ) {
-    let form = form_of(which, answer.number);
-    let a = put_head(output, out, form, answer);
-    let b = put_tail(output, out, a, text, form, answer.length);
-    let c = put_text(output, out, b, b"\n");
-    write_held(output, out, c);
+    let used = match asked {
+        Command::Feed(_) => put_line(output, out, text, answer),
+        _ if answer.number != 0 => put_refusal(output, out, 0, answer),
+        Command::Read => put_count(output, out, answer.length),
+        Command::Fresh => put_text(output, out, 0, b"ok"),
+        Command::Write => put_file(output, out, text, answer.length),
+        Command::Lends => put_lends(output, out),
+    };
+    let end = put_text(output, out, used, b"\n");
+    write_held(output, &out[..end]);
+}
+
+// Writes that a line is no command.
+pub(crate) fn write_error<W: Write>(output: &mut W) {
+    write_held(output, b"error\n");
 }
 
 // Writes out what is held. A write that fails is passed over.
-fn write_held<W: Write>(output: &mut W, out: &[u8], used: usize)
-    requires { used ≤ length out.now }
-{
-    let _ = output.write_all(&out[..used]);
+fn write_held<W: Write>(output: &mut W, held: &[u8]) {
+    let _ = output.write_all(held);
 }
 
-// The form of an answer: its command's, or 6 for a refusal. The answer to `feed` has one form.
-fn form_of(which: u8, number: u32) -> u8 {
-    if which == 2 {
-        return 2;
-    }
-    if number != 0 {
-        return 6;
-    }
-    which
-}
-
-// What stands before the hex.
-fn put_head<W: Write>(output: &mut W, out: &mut [u8; 4096], form: u8, answer: Answer) -> usize
-    ensures { result ≤ 4096 }
-{
-    match form {
-        1 => put_count(output, out, answer.length),
-        2 => put_numbers(output, out, answer),
-        3 => put_text(output, out, 0, b"ok"),
-        4 => put_text(output, out, 0, b"ok "),
-        5 => put_lends(output, out),
-        6 => put_refusal(output, out, 0, answer),
-        _ => put_text(output, out, 0, b"error"),
-    }
-}
-
-// The hex of a line or a file.
-fn put_tail<W: Write>(
+// `NUMBER PLACE PASSES KIND HEXTEXT`.
+fn put_line<W: Write>(
     output: &mut W,
     out: &mut [u8; 4096],
-    used: usize,
     text: &[u8; 32768],
-    form: u8,
-    size: u32,
+    answer: Answer,
 ) -> usize
-    requires { used ≤ 4096 }
     ensures { result ≤ 4096 }
 {
-    if form == 2 || form == 4 {
-        return put_hex(output, out, used, text, least(size as usize, 32768));
-    }
-    used
+    let used = put_numbers(output, out, answer);
+    put_hex(output, out, used, first(text, answer.length))
 }
 
-// The smaller of two numbers.
-fn least(a: usize, b: usize) -> usize
-    ensures { result ≤ b }
+// `ok HEXFILE`.
+fn put_file<W: Write>(output: &mut W, out: &mut [u8; 4096], text: &[u8; 32768], size: u32) -> usize
+    ensures { result ≤ 4096 }
 {
-    if a < b {
-        return a;
-    }
-    b
+    let used = put_text(output, out, 0, b"ok ");
+    put_hex(output, out, used, first(text, size))
+}
+
+// The first bytes of a text.
+fn first(text: &[u8; 32768], size: u32) -> &[u8] {
+    &text[..(size as usize).min(32768)]
 }
 
 // `ok NUMBER`.
@@ -138,6 +119,6 @@ fn put_number<W: Write>(output: &mut W, out: &mut [u8; 4096], used: usize, n: u3
     ensures { result ≤ 4096 }
 {
     let mut digits = [0u8; 20];
-    let k = io::decimal(n as u64, &mut digits);
+    let k = io::decimal(u64::from(n), &mut digits);
     put_text(output, out, used, &digits[..k])
 }

@@ -1,19 +1,11 @@
 // The commands: each is taken apart, the engine called, and the answer put.
-ghost use Rattle.std.specs.Prelude.{◌≤◌, length};
+ghost use Rattle.std.specs.Prelude.{◌≤◌, length, IfSome};
 
-use crate::command_words::command_of;
+use crate::command_words::{Command, command_of};
 use crate::hex::decode;
-use crate::reply::write_reply;
+use crate::reply::{write_error, write_reply};
 use line_answer::Answer;
 use std::io::Write;
-
-// What is asked: which command, 0 for none, the budget, and how many bytes were decoded.
-#[derive(Clone, Copy)]
-struct Asked {
-    which: u8,
-    budget: u32,
-    size: usize,
-}
 
 // Obeys a command, of which so many bytes are held, and writes its answer.
 pub(crate) fn obey<W: Write>(
@@ -28,58 +20,30 @@ pub(crate) fn obey<W: Write>(
     let mut text: [u8; 32768] = [0; 32768];
     let mut trace: [u8; 65536] = [0; 65536];
     let mut out: [u8; 4096] = [0; 4096];
-    let asked = asked_of(command, held);
-    let which = asked.which;
-    let size = asked.size;
-    let answer = call(
-        table,
-        state,
-        &command[..size],
-        &mut text,
-        &mut trace,
-        which,
-        asked.budget,
-    );
-    write_reply(output, &mut out, &text, which, answer);
+    let Some((asked, size)) = asked_of(command, held) else {
+        write_error(output);
+        return;
+    };
+    let answer = call(table, state, &command[..size], &mut text, &mut trace, asked);
+    write_reply(output, &mut out, &text, asked, answer);
 }
 
-// Takes a command apart. Its hex is decoded in place, from the front. One that fills the memory may be longer, and is not obeyed.
-fn asked_of(command: &mut [u8], held: usize) -> Asked
+// Takes a command apart; its hex is decoded in place, to the front. One that fills the memory may be longer, and is not obeyed.
+fn asked_of(command: &mut [u8], held: usize) -> Option<(Command, usize)>
     requires { held ≤ length command.old }
-    ensures { result.size ≤ length command.old }
+    ensures { IfSome result (λ asked. asked.1 ≤ length command.old) }
 {
-    if held < 5 {
-        return told(0, 0, 0);
-    }
     if command.len() <= held {
-        return told(0, 0, 0);
+        return None;
     }
-    let found = command_of(command, held);
-    let decoded = decode(command, found.behind, held);
-    told(
-        obeyed(found.which, decoded.good),
-        found.budget,
-        decoded.size,
-    )
-}
-
-// What is asked, with the size of what was decoded.
-fn told(which: u8, budget: u32, size: usize) -> Asked
-    ensures { result.size ≤ size }
-{
-    Asked {
-        which,
-        budget,
-        size,
+    let (asked, behind) = command_of(&command[..held])?;
+    match asked {
+        Command::Read | Command::Feed(_) => {
+            let size = decode(&mut command[..held], behind)?;
+            Some((asked, size))
+        }
+        _ => Some((asked, 0)),
     }
-}
-
-// `read` and `feed` want hex.
-fn obeyed(which: u8, good: bool) -> u8 {
-    if which < 3 && !good {
-        return 0;
-    }
-    which
 }
 
 // The engine's answer.
@@ -89,17 +53,18 @@ fn call(
     bytes: &[u8],
     text: &mut [u8],
     trace: &mut [u8],
-    which: u8,
-    budget: u32,
+    asked: Command,
 ) -> Answer
     requires { 1054 ≤ length text.old }
 {
-    match which {
-        1 => m7::read::m7_read(bytes, table),
-        2 => m7::feed::m7_feed(table, state, bytes, budget, &mut text[..1054], trace),
-        3 => m7::fresh::m7_fresh(state),
-        4 => m7::write::m7_write(table, text),
-        _ => nothing(),
+    match asked {
+        Command::Read => m7::read::m7_read(bytes, table),
+        Command::Feed(budget) => {
+            m7::feed::m7_feed(table, state, bytes, budget, &mut text[..1054], trace)
+        }
+        Command::Fresh => m7::fresh::m7_fresh(state),
+        Command::Write => m7::write::m7_write(table, text),
+        Command::Lends => nothing(),
     }
 }
 

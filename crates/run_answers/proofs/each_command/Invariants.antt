@@ -3,8 +3,5 @@ use mathlib.Core.Path.{◌≡◌}
 use lib.ListN.{length}
 use Rattle.run_answers.proofs.each_command.Given as goal
 
-abbrev pub invariant-loop-turns : goal.invariant-loop-turns
-invariant-loop-turns g l = (l.reading.size ≤ 65536) × (l.reading.held ≤ length l.initial.command) × (length l.command ≡ length l.initial.command)
-
-abbrev pub decreases-loop-turns : goal.decreases-loop-turns
-decreases-loop-turns g l = l.turns
+abbrev pub invariant-loop : goal.invariant-loop
+invariant-loop g l = (l.reading.size ≤ 65536) × (l.reading.held ≤ length l.initial.command) × (length l.command ≡ length l.initial.command)
