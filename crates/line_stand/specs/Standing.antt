@@ -1,36 +1,36 @@
 -- What is due where a line stands, and what follows a pass (01, part 6).
-use Rattle.std.specs.Prelude.{ℕ, suc, ◌+◌, ◌*◌, ◌≤◌, ◌<◌, ◌≡◌, Bool, true, false, List, ◌++◌, ◌⊎◌, length, get_or, take}
+use Rattle.std.specs.Prelude.{ℕ, suc, ◌+◌, ◌*◌, ◌≤◌, ◌<◌, ◌≡◌, Bool, true, false, List, ◌++◌, ◌⊎◌, length, get_or, take, Result, Ok, Err}
 use Rattle.macros.specs.Bounds.{most_macros, most_line_bytes, most_trace_bytes}
 use Rattle.lines.specs.Line.{is_control}
 use Rattle.lines.specs.Trace.{three_lines}
 use Rattle.pass_lack.specs.Lacking.{flags_of}
 use Rattle.pass_moment.specs.declared.Passed.{Passed}
-use Rattle.pass_moment.specs.declared.Passed.TheVariants.{Over as Passes, Refused as Refuses}
+use Rattle.refusals.specs.declared.WorkError.{WorkError}
 use Rattle.line_memory.specs.Memory.{padded}
 use Rattle.line_stand.specs.Closed.{closed_flags, OpenBelow}
 use Rattle.line_stand.specs.declared.Why.TheVariants.{BudgetUsedUp, AtWork, TraceTooLong}
 use Rattle.line_stand.specs.declared.Stand.{Stand}
 use Rattle.line_stand.specs.declared.Ended.{Ended}
-use Rattle.line_stand.specs.declared.Ended.TheVariants.{Done, Control, Refused}
+use Rattle.line_stand.specs.declared.PassesError.{PassesError}
+use Rattle.line_stand.specs.declared.Ended.TheVariants.{Done, Control}
 use Rattle.line_stand.specs.declared.Due.{Due}
 use Rattle.line_stand.specs.declared.Due.TheVariants.{Over as Ending, Pass as PassOf}
-use Rattle.line_stand.specs.declared.Next.{Next}
-use Rattle.line_stand.specs.declared.Next.TheVariants.{On, Over}
 
 -- WHAT IS DUE
 
--- what ends the line where it stands, t being its text: a control line, no macro due, or the budget
-abbrev pub OverBy : (t flags : List ℕ) → ℕ → Stand → Ended → Type 0
-OverBy t flags budget a (Control n p) = (is_control t ≡ true) × (Control n p ≡ Control a.size a.begun)
-OverBy t flags budget a (Done n o p) = (is_control t ≡ false) × OpenBelow flags a.due 0 × (Done n o p ≡ Done a.size a.occurred a.begun)
-OverBy t flags budget a (Refused w p) = (is_control t ≡ false) × ((k : ℕ) × OpenBelow flags a.due (suc k)) × (budget ≤ a.begun) × (Refused w p ≡ Refused BudgetUsedUp a.begun)
+-- what ends the line where it stands, t being its text: a control line, or no macro due
+abbrev pub OverBy : (t flags : List ℕ) → Stand → Ended → Type 0
+OverBy t flags a (Control n p) = (is_control t ≡ true) × (Control n p ≡ Control a.size a.begun)
+OverBy t flags a (Done n o p) = (is_control t ≡ false) × OpenBelow flags a.due 0 × (Done n o p ≡ Done a.size a.occurred a.begun)
 
--- or the pass of the macro k is due
-abbrev pub DueBy : (t flags : List ℕ) → ℕ → Stand → Due → Type 0
-DueBy t flags budget a (Ending e) = OverBy t flags budget a e
-DueBy t flags budget a (PassOf k) = (is_control t ≡ false) × OpenBelow flags a.due (suc k) × (a.begun < budget)
+-- or the pass of the macro k is due, or the budget refuses the line
+abbrev pub DueBy : (t flags : List ℕ) → ℕ → Stand → Result Due PassesError → Type 0
+DueBy t flags budget a (Ok (Ending e)) = OverBy t flags a e
+DueBy t flags budget a (Ok (PassOf k)) = (is_control t ≡ false) × OpenBelow flags a.due (suc k) × (a.begun < budget)
+DueBy t flags budget a (Err e) =
+    (is_control t ≡ false) × ((k : ℕ) × OpenBelow flags a.due (suc k)) × (budget ≤ a.begun) × (e ≡ record { why = BudgetUsedUp; begun = a.begun })
 
-pub record Dues (t flags : List ℕ) (budget : ℕ) (a : Stand) (r : Due) : Type 0 where
+pub record Dues (t flags : List ℕ) (budget : ℕ) (a : Stand) (r : Result Due PassesError) : Type 0 where
   pub by : DueBy t flags budget a r
 
 -- the trace's memory: its first n bytes are the trace so far, and zeros follow
@@ -65,9 +65,9 @@ abbrev pub lines_here : Texts → List ℕ → ℕ → Stand → List ℕ
 lines_here m nw n on = three_lines (take on.size m.text) (on.due + 1) (take n nw)
 
 -- after a pass with an occurrence, whose lines fit, the new line is the line, a `<` macro is closed, and all open macros are due; w: the trace's bytes then
-pub record Again (tb : List ℕ) (count : ℕ) (m m' : Texts) (nw : List ℕ) (traced : Bool) (n : ℕ) (on : Stand) (z : Next) : Type 0 where
+pub record Again (tb : List ℕ) (count : ℕ) (m m' : Texts) (nw : List ℕ) (traced : Bool) (n : ℕ) (on : Stand) (z : Result Stand PassesError) : Type 0 where
   pub written : ℕ
-  pub next : z ≡ On (record { size = n; occurred = true; due = count; begun = on.begun; written = written })
+  pub next : z ≡ Ok (record { size = n; occurred = true; due = count; begun = on.begun; written = written })
   pub line : m'.text ≡ padded (take n nw) (length m.text)
   pub present : m'.present ≡ flags_of (take n nw)
   pub closed : m'.flags ≡ closed_flags m.flags (get_or tb (1024 * on.due) 0) on.due
@@ -76,20 +76,24 @@ pub record Again (tb : List ℕ) (count : ℕ) (m m' : Texts) (nw : List ℕ) (t
   pub untraced : traced ≡ false → (m'.trace ≡ m.trace) × (written ≡ on.written)
 
 -- its lines do not fit
-pub record Cut (m m' : Texts) (nw : List ℕ) (traced : Bool) (n : ℕ) (on : Stand) (z : Next) : Type 0 where
+pub record Cut (m m' : Texts) (nw : List ℕ) (traced : Bool) (n : ℕ) (on : Stand) (z : Result Stand PassesError) : Type 0 where
   pub asked : traced ≡ true
-  pub next : z ≡ Over (Refused TraceTooLong on.begun)
+  pub next : z ≡ Err (record { why = TraceTooLong; begun = on.begun })
   pub full : most_trace_bytes < on.written + length (lines_here m nw n on)
 
 -- otherwise these are as they were
-pub record Still (m m' : Texts) (z₂ z : Next) : Type 0 where
+pub record Still (m m' : Texts) (z₂ z : Result Stand PassesError) : Type 0 where
   pub next : z ≡ z₂
   pub same : m' ≡ m
 
-abbrev pub FollowedBy : List ℕ → ℕ → Texts → Texts → List ℕ → Bool → Passed → Stand → Next → Type 0
-FollowedBy tb count m m' nw traced (Passes true n) on z = Again tb count m m' nw traced n on z ⊎ Cut m m' nw traced n on z
-FollowedBy tb count m m' nw traced (Passes false n) on z = Still m m' (On on) z
-FollowedBy tb count m m' nw traced (Refuses f n) on z = Still m m' (Over (Refused (AtWork f) on.begun)) z
+abbrev pub FollowedWith : List ℕ → ℕ → Texts → Texts → List ℕ → Bool → (had : Bool) → ℕ → Stand → Result Stand PassesError → Type 0
+FollowedWith tb count m m' nw traced true n on z = Again tb count m m' nw traced n on z ⊎ Cut m m' nw traced n on z
+FollowedWith tb count m m' nw traced false n on z = Still m m' (Ok on) z
 
-pub record Follows (tb : List ℕ) (count : ℕ) (m m' : Texts) (nw : List ℕ) (traced : Bool) (r : Passed) (on : Stand) (z : Next) : Type 0 where
+-- what follows what a pass comes to
+abbrev pub FollowedBy : List ℕ → ℕ → Texts → Texts → List ℕ → Bool → Result Passed WorkError → Stand → Result Stand PassesError → Type 0
+FollowedBy tb count m m' nw traced (Ok p) on z = FollowedWith tb count m m' nw traced p.occurred p.size on z
+FollowedBy tb count m m' nw traced (Err e) on z = Still m m' (Err (record { why = AtWork e.fault; begun = on.begun })) z
+
+pub record Follows (tb : List ℕ) (count : ℕ) (m m' : Texts) (nw : List ℕ) (traced : Bool) (r : Result Passed WorkError) (on : Stand) (z : Result Stand PassesError) : Type 0 where
   pub by : FollowedBy tb count m m' nw traced r on z
