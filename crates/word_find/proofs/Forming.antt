@@ -6,9 +6,11 @@ use mathlib.Core.Bool.{Bool, true, false, not, ◌&&◌, ◌||◌, and-true, and
 use mathlib.Core.List.{List, [], ◌∷◌}
 use native.Mathlib.Numerals.{add-one}
 use native.Mathlib.Omega.{arith}
+use borrow.Author.Tests.{eq-eqb, ne_eqb}
 use lib.Dec.{eqb}
 use lib.ListN.{length, get_or, drop, length-drop, drop_of_length-le}
 use lib.Seq.{drop-cons}
+use Rattle.std.specs.List.{filter, list_all}
 use Rattle.macros.specs.Macro.{pick}
 use Rattle.words.specs.Pattern.{dash, allowed, is_empty, all_allowed, begins_with_dash, two_dashes, is_pattern}
 use Rattle.words.specs.Cover.{somewhere, byte_then, covers}
@@ -46,6 +48,29 @@ letter_small c = by (eqb c dash) where
   by : (x : Bool) → pick x 0 1 ≤ 1
   by true = omega arith
   by false = omega arith
+
+-- BY THE LIBRARY'S FILTER AND TESTS
+
+abbrev pub is_letter : ℕ → Bool
+is_letter c = not (eqb c dash)
+
+pub count_of_letters : (p : List ℕ) → length (filter is_letter p) ≡ letters p
+unfolding letters letter pick
+count_of_letters [] = refl
+count_of_letters (c ∷ p) = by (eqb c dash) refl (count_of_letters p)
+  where
+    by : (x : Bool) → eqb c dash ≡ x → length (filter is_letter p) ≡ letters p → length (filter is_letter (c ∷ p)) ≡ letter c + letters p
+    by true e h = rw (e, pick) (omega arith)
+    by false e h = rw (e, pick) (omega arith)
+
+pub each_allowed : (p : List ℕ) → list_all allowed p ≡ all_allowed p
+unfolding all_allowed
+each_allowed [] = refl
+each_allowed (c ∷ p) = by (allowed c) (each_allowed p)
+  where
+    by : (x : Bool) → list_all allowed p ≡ all_allowed p → (x && list_all allowed p) ≡ elim x [ true ↦ all_allowed p | false ↦ false ]
+    by true h = h
+    by false h = refl
 
 -- TWO DASHES
 
@@ -88,6 +113,16 @@ few_dashes (c ∷ d ∷ s) h = absurd (omega arith)
 
 pub dashes_none : (t : List ℕ) (j : ℕ) → length t ≤ j → two_dashes (drop (j - 1) t) ≡ false
 dashes_none t j h = few_dashes (drop (j - 1) t) (omega (arith, length-drop (j - 1) t))
+
+-- by its two bytes
+pub both : {a b : ℕ} → a ≡ 45 → b ≡ 45 → (eqb a dash && eqb b dash) ≡ true
+both {a} {b} e f = rw (eq-eqb a 45 e, eq-eqb b 45 f) refl
+
+pub not_first_dash : {a : ℕ} (b : ℕ) → (a ≡ 45 → ⊥) → (eqb a dash && eqb b dash) ≡ false
+not_first_dash {a} b f = rw (ne_eqb a 45 f) refl
+
+pub not_second_dash : (a : ℕ) {b : ℕ} → (b ≡ 45 → ⊥) → (eqb a dash && eqb b dash) ≡ false
+not_second_dash a {b} f = rw (ne_eqb b 45 f) (and-false (eqb a dash))
 
 -- THE FORM
 

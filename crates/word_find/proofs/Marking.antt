@@ -3,12 +3,12 @@
 use Prim.Native.Nat.{ℕ, suc, ◌+◌, ◌-◌, ◌≤◌, ◌<◌}
 use mathlib.Core.Path.{◌≡◌, refl, sym, ap, ◌∙◌, subst}
 use mathlib.Core.Bool.{Bool, true, false, ◌||◌}
-use mathlib.Core.List.{List, [], ◌∷◌}
+use mathlib.Core.List.{List, [], ◌∷◌, ◌++◌}
 use native.Mathlib.Numerals.{add-one}
 use native.Mathlib.Omega.{arith}
 use lib.Bits.{bit_or}
 use lib.Dec.{eqb}
-use lib.ListN.{length, get_or, set, drop, drop_of_length-le}
+use lib.ListN.{length, get_or, set, drop, replicate, drop_of_length-le, length-append, length-drop, length-replicate, get_or-append, get_or-replicate}
 use lib.Seq.{drop-cons, drop-length, get_or-set_same, get_or-set_other}
 use borrow.Author.Tests.{eqb-true, eqb-false, eq-eqb}
 use Rattle.macros.specs.Macro.{pick}
@@ -32,12 +32,6 @@ stored t i v h P j here there = by (eqb j i) refl where
 pub record Zeros (t : List ℕ) (i : ℕ) : Type 0 where
   pub each : (j : ℕ) → j < i → get_or t j 0 ≡ 0
 
-pub zeros_none : (t : List ℕ) → Zeros t 0
-zeros_none t = record { each = λ j h. absurd (omega arith) }
-
-pub zeros_more : (t : List ℕ) (i : ℕ) → i < length t → Zeros t i → Zeros (set t i 0) (i + 1)
-zeros_more t i l z = record { each = λ j h. stored t i 0 l (λ (x : ℕ). x ≡ 0) j (λ e. refl) (λ e. z.each j (omega arith)) }
-
 nothing_covers : (w : List ℕ) (i : ℕ) → i < length w → covers [] (drop i w) ≡ false
 unfolding covers is_empty
 nothing_covers w i h = ap is_empty (drop-cons w i 0 h)
@@ -54,6 +48,13 @@ started t w i l e z =
           stored t i 1 l (λ (x : ℕ). x ≡ mark (covers [] (drop j w))) j (λ f. ap mark (sym (nothing_ends w j (omega arith))))
           (λ f. z.each j (omega arith) ∙ ap mark (sym (nothing_covers w j (omega arith))));
     }
+
+pub begun : (w d z : List ℕ) → z ≡ replicate (length w) 0 → length w < length d → Marked (set (z ++ drop (length w) d) (length w) 1) [] w
+begun w d z e h =
+    let l : length z ≡ length w = ap length e ∙ length-replicate {A = ℕ} (length w) 0 in
+    let f : length (z ++ drop (length w) d) ≡ length d = length-append z (drop (length w) d) ∙ omega (arith, l, length-drop (length w) d) in
+    started (z ++ drop (length w) d) w (length w) (omega (arith, f)) refl
+    (record { each = λ j k. get_or-append z (drop (length w) d) 0 j (omega (arith, l)) ∙ (ap (λ (x : List ℕ). get_or x j 0) e ∙ get_or-replicate (length w) j 0 0 k) })
 
 -- A DASH
 

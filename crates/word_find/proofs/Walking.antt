@@ -6,6 +6,7 @@ use mathlib.Core.Bool.{Bool, true, false, not, ◌&&◌}
 use mathlib.Core.List.{List, [], ◌∷◌}
 use native.Mathlib.Numerals.{add-one}
 use native.Mathlib.Omega.{arith}
+use mir.Val.{bool_byte}
 use lib.Dec.{ltb}
 use lib.ListN.{length, get_or, take, drop, length-drop, drop_of_length-le}
 use lib.Seq.{drop-cons, drop-drop}
@@ -238,10 +239,10 @@ pub hit_short : (p w : List ℕ) → 1 ≤ length w → length w < letters p →
 unfolding mark
 hit_short p w h l = ap mark (sym (hit_by p w h ∙ too_long p w l))
 
-pub hit_yes : (p w : List ℕ) → 1 ≤ length w → covers p w ≡ true → 1 ≡ mark (is_hit p w)
+mark_of : (x : Bool) → bool_byte x ≡ mark x
 unfolding mark
-hit_yes p w h e = ap mark (sym (hit_by p w h ∙ e))
+mark_of true = refl
+mark_of false = refl
 
-pub hit_no : (p w : List ℕ) → 1 ≤ length w → covers p w ≡ false → 0 ≡ mark (is_hit p w)
-unfolding mark
-hit_no p w h e = ap mark (sym (hit_by p w h ∙ e))
+pub hit_so : (p w : List ℕ) → 1 ≤ length w → {x : Bool} → x ≡ covers p w → bool_byte x ≡ mark (is_hit p w)
+hit_so p w h {x} e = mark_of x ∙ ap mark (e ∙ sym (hit_by p w h))

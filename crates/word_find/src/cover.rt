@@ -12,12 +12,9 @@ fn start(marks: &mut [u8], word: &[u8])
     requires { length word.now < length marks.old }
     ensures { Marked marks.new [] word.now }
 {
-    let mut i = 0;
-    while i < word.len() {
-        marks[i] = 0;
-        i += 1;
-    }
-    marks[i] = 1;
+    let n = word.len();
+    marks[..n].fill(0);
+    marks[n] = 1;
 }
 
 // A dash covers what the rest covers behind any number of bytes, also none.
@@ -26,9 +23,7 @@ fn put_dash(marks: &mut [u8], word: &[u8])
     ensures { StepsDash marks.old marks.new word.now }
 {
     let mut later = 0u8;
-    let mut i = word.len() + 1;
-    while 0 < i {
-        i -= 1;
+    for i in (0..word.len() + 1).rev() {
         let here = marks[i] | later;
         marks[i] = here;
         later = here;
@@ -36,13 +31,11 @@ fn put_dash(marks: &mut [u8], word: &[u8])
 }
 
 // The mark behind a byte that is c, else 0.
+#[tactic(auto, unfolding(macros::specs::Macro::pick))]
 fn behind(c: u8, b: u8, next: u8) -> u8
     ensures { result ≡ pick (eqb c b) next 0 }
 {
-    if c == b {
-        return next;
-    }
-    0
+    if c == b { next } else { 0 }
 }
 
 // A letter or digit c covers itself, and the rest what is behind it.
@@ -50,12 +43,11 @@ fn put_byte(marks: &mut [u8], word: &[u8], c: u8)
     requires { length word.now < length marks.old }
     ensures { StepsByte marks.old marks.new word.now c }
 {
-    let mut i = 0;
-    while i < word.len() {
+    let n = word.len();
+    for i in 0..n {
         marks[i] = behind(c, word[i], marks[i + 1]);
-        i += 1;
     }
-    marks[i] = 0;
+    marks[n] = 0;
 }
 
 // One byte more of the pattern.
@@ -65,9 +57,9 @@ fn put(marks: &mut [u8], word: &[u8], c: u8)
 {
     if c == DASH {
         put_dash(marks, word);
-        return;
+    } else {
+        put_byte(marks, word, c);
     }
-    put_byte(marks, word, c);
 }
 
 // Whether the pattern covers the word; what the marks held before has no influence.
@@ -76,9 +68,7 @@ pub(crate) fn is_covered(pattern: &[u8], word: &[u8], marks: &mut [u8]) -> bool
     ensures { result ≡ covers pattern.now word.now }
 {
     start(marks, word);
-    let mut k = pattern.len();
-    while 0 < k {
-        k -= 1;
+    for k in (0..pattern.len()).rev() {
         put(marks, word, pattern[k]);
     }
     marks[0] == 1

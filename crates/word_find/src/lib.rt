@@ -19,31 +19,37 @@ pub(crate) const DASH: u8 = b'-';
 
 pub(crate) const LETTER_OR_DIGIT: u8 = 2;
 
-// 21, 22 and 41; or how many words are covered, and the place of the first.
-#[derive(Clone, Copy)]
-pub enum Looked {
+const MOST_LINE_BYTES: usize = 1054;
+
+// Why words are not looked up: 21, 22 or 41.
+#[derive(Clone, Copy, Debug, PartialEq, Eq)]
+pub enum WordFault {
     LineTooLong,
     BadByte,
     BadPattern,
-    Found(u32, u32),
+}
+
+// How many words are covered, and the place of the first.
+#[derive(Clone, Copy, Debug, PartialEq, Eq)]
+pub struct Found {
+    pub words: u32,
+    pub first: u32,
 }
 
 // Looks up the words of a line that a word-pattern covers.
-pub fn look_up(line: &[u8], pattern: &[u8]) -> Looked
+pub fn look_up(line: &[u8], pattern: &[u8]) -> Result<Found, WordFault>
     ensures { looked_of result ≡ look_up line.now pattern.now }
 {
-    if 1054 < line.len() {
-        return Looked::LineTooLong;
+    if MOST_LINE_BYTES < line.len() {
+        return Err(WordFault::LineTooLong);
+    }
+    if has_bad_byte(line) {
+        return Err(WordFault::BadByte);
     }
     let kinds = kind_table();
-    let bad = has_bad_byte(line);
-    let formed = is_pattern(&kinds, pattern);
-    if bad {
-        return Looked::BadByte;
-    }
-    if !formed {
-        return Looked::BadPattern;
+    if !is_pattern(&kinds, pattern) {
+        return Err(WordFault::BadPattern);
     }
     let mut marks = [0u8; 1055];
-    find(&kinds, line, pattern, &mut marks)
+    Ok(find(&kinds, line, pattern, &mut marks))
 }

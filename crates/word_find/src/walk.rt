@@ -1,5 +1,5 @@
 // The words of a line, one after the other.
-ghost use Rattle.std.specs.Prelude.{◌+◌, ◌≤◌, ◌<◌, ◌≡◌, length, drop};
+ghost use Rattle.std.specs.Prelude.{◌+◌, ◌≤◌, ◌<◌, ◌≡◌, length, drop, Ok};
 ghost use Rattle.kinds.specs.Kind.{kind_table};
 ghost use Rattle.words.specs.Word.{leading, words_of};
 ghost use Rattle.words.specs.Look.{covered_of, found_of};
@@ -10,7 +10,7 @@ ghost use Rattle.word_find.specs.Walk.{is_hit, first_of};
 
 use crate::cover::is_covered;
 use crate::form::count_letters;
-use crate::{LETTER_OR_DIGIT, Looked};
+use crate::{Found, LETTER_OR_DIGIT};
 use kinds::is_kind;
 
 // Where the run of letters and digits ends that begins at a place, perhaps an empty one.
@@ -18,14 +18,12 @@ fn word_end(kinds: &[u8; 256], line: &[u8], at: usize) -> usize
     requires { (kinds.now ≡ kind_table) × (at ≤ length line.now) }
     ensures { result ≡ at + length (leading (drop at line.now)) }
 {
-    let mut e = at;
-    while e < line.len() {
+    for e in at..line.len() {
         if !is_kind(kinds, line[e], LETTER_OR_DIGIT) {
             return e;
         }
-        e += 1;
     }
-    e
+    line.len()
 }
 
 // 1 if the run is a word that the pattern covers, else 0. One with fewer bytes than the pattern has letters and digits is not looked at.
@@ -39,13 +37,11 @@ fn hits(pattern: &[u8], count: usize, run: &[u8], marks: &mut [u8]) -> usize
     if run.len() < count {
         return 0;
     }
-    if is_covered(pattern, run, marks) {
-        return 1;
-    }
-    0
+    usize::from(is_covered(pattern, run, marks))
 }
 
 // The place of the first word covered: n were covered before the run at i, and h says whether it is one.
+#[tactic(auto, unfolding(crate::specs::Walk::first_of, macros::specs::Macro::pick))]
 fn first_of(n: usize, h: usize, i: usize, first: usize) -> usize
     ensures { result ≡ first_of n h i first }
 {
@@ -59,9 +55,9 @@ fn first_of(n: usize, h: usize, i: usize, first: usize) -> usize
 }
 
 // Behind a run stands a byte that is no letter or digit, or the line's end.
-pub(crate) fn find(kinds: &[u8; 256], line: &[u8], pattern: &[u8], marks: &mut [u8]) -> Looked
+pub(crate) fn find(kinds: &[u8; 256], line: &[u8], pattern: &[u8], marks: &mut [u8]) -> Found
     requires { (kinds.now ≡ kind_table) × (length line.now ≤ 1054) × (length marks.old ≡ 1055) }
-    ensures { looked_of result ≡ found_of (covered_of pattern.now (words_of line.now)) }
+    ensures { looked_of (Ok result) ≡ found_of (covered_of pattern.now (words_of line.now)) }
 {
     let count = count_letters(pattern);
     let mut n = 0;
@@ -74,5 +70,8 @@ pub(crate) fn find(kinds: &[u8; 256], line: &[u8], pattern: &[u8], marks: &mut [
         n += h;
         i = e + 1;
     }
-    Looked::Found(n as u32, first as u32)
+    Found {
+        words: n as u32,
+        first: first as u32,
+    }
 }

@@ -1,17 +1,13 @@
-use mathlib.Core.Path.{refl}
-use lib.ListN.{length-set}
-use Rattle.word_find.proofs.Marking.{byte_none, byte_more, byte_done}
+use lib.ListN.{length, length-set}
+use mathlib.Core.Path.{◌≡◌}
+use Rattle.word_find.proofs.Marking.{byte_more, byte_done}
 use native.Mathlib.Omega.{arith}
 use Rattle.word_find.proofs.cover.put_byte.Goals as goal
 
-pub loop-i-init : goal.loop-i-init
-loop-i-init c = (refl, omega arith, byte_none _ _ _)
-
 pub loop-i-preserved : goal.loop-i-preserved
-loop-i-preserved c = (simp length-set c.loop-i.invariant.0, omega arith, byte_more c.args.marks.now c.loop-i.marks c.args.word.now c.args.c c.loop-i.i (omega arith) (omega arith) c.loop-i.invariant.2 c.behind.ensures)
-
-pub shape_of-marks : goal.shape_of-marks
-shape_of-marks c = simp length-set c.loop-i.invariant.0
+loop-i-preserved c = (simp length-set c.loop-i.invariant.0, byte_more c.args.marks.now c.loop-i.marks c.args.word.now c.args.c c.loop-i.i (omega arith) (omega arith) c.loop-i.invariant.1 c.behind.ensures)
 
 pub returns : goal.returns
-returns c = byte_done c.args.marks.now c.loop-i.marks c.args.word.now c.args.c c.loop-i.i (omega arith) (omega arith) c.loop-i.invariant.2
+returns c =
+    let e : c.loop-i.i ≡ length c.args.word.now = omega arith in
+    rw e at (byte_done c.args.marks.now c.loop-i.marks c.args.word.now c.args.c c.loop-i.i e (omega arith) c.loop-i.invariant.1)

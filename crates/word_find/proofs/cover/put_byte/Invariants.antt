@@ -1,11 +1,7 @@
-use Prim.Native.Nat.{◌-◌, ◌≤◌}
 use mathlib.Core.Path.{◌≡◌}
 use lib.ListN.{length}
 use Rattle.word_find.proofs.Marking.{ByteSo}
 use Rattle.word_find.proofs.cover.put_byte.Given as goal
 
 abbrev pub invariant-loop-i : goal.invariant-loop-i
-invariant-loop-i l = (length l.marks ≡ length l.initial.marks) × (l.i ≤ length l.word) × ByteSo l.initial.marks l.marks l.word l.c l.i
-
-abbrev pub decreases-loop-i : goal.decreases-loop-i
-decreases-loop-i l = length l.word - l.i
+invariant-loop-i l = (length l.marks ≡ length l.initial.marks) × ByteSo l.initial.marks l.marks l.word l.c l.i

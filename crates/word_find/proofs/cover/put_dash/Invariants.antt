@@ -1,11 +1,7 @@
-use Prim.Native.Nat.{◌+◌, ◌≤◌}
 use mathlib.Core.Path.{◌≡◌}
 use lib.ListN.{length}
 use Rattle.word_find.proofs.Marking.{DashSo}
 use Rattle.word_find.proofs.cover.put_dash.Given as goal
 
 abbrev pub invariant-loop-i : goal.invariant-loop-i
-invariant-loop-i l = (length l.marks ≡ length l.initial.marks) × (l.i ≤ length l.word + 1) × DashSo l.initial.marks l.marks l.word l.later l.i
-
-abbrev pub decreases-loop-i : goal.decreases-loop-i
-decreases-loop-i l = l.i
+invariant-loop-i l = (length l.marks ≡ length l.initial.marks) × DashSo l.initial.marks l.marks l.word l.later l.i

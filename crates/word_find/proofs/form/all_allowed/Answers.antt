@@ -1,16 +1,10 @@
-use mathlib.Core.Path.{refl, sym, ◌∙◌}
-use Rattle.word_find.proofs.Forming.{allowed_not, allowed_next, allowed_all}
-use native.Mathlib.Omega.{arith}
+use mathlib.Core.Path.{◌∙◌}
+use Rattle.std.proofs.Common.{rules, tests}
+use Rattle.std.proofs.lemmas.Iterator.{YieldsList-from_slice}
+use Rattle.std.proofs.lemmas.Iterator.Search.{all_from_yields_List}
+use Rattle.words.specs.Pattern.{allowed}
+use Rattle.word_find.proofs.Forming.{each_allowed}
 use Rattle.word_find.proofs.form.all_allowed.Goals as goal
 
-pub loop-i-init : goal.loop-i-init
-loop-i-init c = (omega arith, refl)
-
-pub returns-then-not-is_allowed : goal.returns-then-not-is_allowed
-returns-then-not-is_allowed c = sym (c.loop-i.invariant.1 ∙ allowed_not c.args.pattern.now c.loop-i.i (omega arith) (sym c.is_allowed.ensures ∙ c.if-not-is_allowed.true))
-
-pub loop-i-preserved : goal.loop-i-preserved
-loop-i-preserved c = (omega arith, c.loop-i.invariant.1 ∙ allowed_next c.args.pattern.now c.loop-i.i (omega arith) (sym c.is_allowed.ensures ∙ c.if-not-is_allowed.false))
-
 pub returns : goal.returns
-returns c = sym (c.loop-i.invariant.1 ∙ allowed_all c.args.pattern.now c.loop-i.i (omega arith))
+returns c = all_from_yields_List allowed _ _ _ c.all.ensures.ran (YieldsList-from_slice c.args.pattern.now cc) (λ x b q k. search (rules, tests)) ∙ each_allowed c.args.pattern.now

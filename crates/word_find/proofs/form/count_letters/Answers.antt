@@ -1,13 +1,12 @@
-use lib.ListN.{get_or}
-use Rattle.word_find.proofs.Forming.{letters_next, letters_none, letter_small}
+use mathlib.Core.Path.{◌≡◌, ◌∙◌, sym}
 use native.Mathlib.Omega.{arith}
+use Rattle.std.proofs.Common.{rules, tests}
+use Rattle.std.proofs.lemmas.Iterator.{YieldsList-from_slice}
+use Rattle.std.proofs.lemmas.Iterator.Consumers.{count_from_yields_List, YieldsList-from_filter}
+use Rattle.word_find.proofs.Forming.{is_letter, count_of_letters}
 use Rattle.word_find.proofs.form.count_letters.Goals as goal
 
-pub overflow_add-n : goal.overflow_add-n
-overflow_add-n c = omega (arith, c.letter_of-n.ensures, letter_small (get_or c.args.pattern.now c.loop-i.i 0))
-
-pub loop-i-preserved : goal.loop-i-preserved
-loop-i-preserved c = (omega arith, omega (arith, c.letter_of-n.ensures, letter_small (get_or c.args.pattern.now c.loop-i.i 0)), omega (arith, c.loop-i.invariant.2, c.letter_of-n.ensures, letters_next c.args.pattern.now c.loop-i.i (omega arith)))
-
 pub returns : goal.returns
-returns c = omega (arith, c.loop-i.invariant.2, letters_none c.args.pattern.now c.loop-i.i (omega arith))
+returns c =
+    count_from_yields_List _ _ c.count.ensures.ran (YieldsList-from_filter _ is_letter (YieldsList-from_slice c.args.pattern.now (search rules)) c.filter.ensures.closure (λ x b q k. search (rules, tests)))
+    ∙ count_of_letters c.args.pattern.now

@@ -1,5 +1,5 @@
-use mathlib.Core.Path.{sym, ◌∙◌}
-use Rattle.word_find.proofs.Walking.{hit_empty, hit_short, hit_yes, hit_no}
+use mathlib.Core.Path.{◌∙◌}
+use Rattle.word_find.proofs.Walking.{hit_empty, hit_short, hit_so}
 use native.Mathlib.Omega.{arith}
 use Rattle.word_find.proofs.walk.hits.Goals as goal
 
@@ -9,8 +9,5 @@ returns-then-run-lt1 c = hit_empty c.args.pattern.now c.args.run.now c.if-run-lt
 pub returns-then-run-count : goal.returns-then-run-count
 returns-then-run-count c = hit_short c.args.pattern.now c.args.run.now (omega arith) (omega (arith, c.if-run-count.true, c.requires.0))
 
-pub returns-then-is_covered : goal.returns-then-is_covered
-returns-then-is_covered c = hit_yes c.args.pattern.now c.args.run.now (omega arith) (sym c.is_covered.ensures ∙ c.if-is_covered.true)
-
 pub returns : goal.returns
-returns c = hit_no c.args.pattern.now c.args.run.now (omega arith) (sym c.is_covered.ensures ∙ c.if-is_covered.false)
+returns c = c.from.ensures ∙ hit_so c.args.pattern.now c.args.run.now (omega arith) c.is_covered.ensures
