@@ -1,11 +1,11 @@
 -- A run of pieces, with braces inside it, and a whole pattern.
 -- Assumes nothing.
-use mathlib.Core.Path.{◌≡◌, refl, ap, sym, ◌∙◌}
+use mathlib.Core.Path.{◌≡◌, refl, sym, ◌∙◌}
 use mathlib.Core.Bool.{true, false}
 use mathlib.Core.List.{List, [], ◌∷◌, ◌++◌, reverse, reverse-cons, append_assoc, append-nil}
 use Prim.Native.Nat.{ℕ, suc, ◌+◌, ◌-◌, ◌*◌, ◌≤◌, ◌<◌}
 use native.Mathlib.Omega.{arith}
-use lib.ListN.{length, replicate, length-append, length-replicate}
+use lib.ListN.{length, length-append}
 use borrow.Author.Tests.{lt-ltb}
 use Rattle.macros.specs.Macro.{Piece, tags, depth, elements}
 use Rattle.macros.specs.Macro.Piece.{element, start, end, left, right}
@@ -15,21 +15,15 @@ use Rattle.macros.specs.ReadSoFar.Part.{pattern}
 use Rattle.form_table.specs.Form.{piece_items, pattern_items}
 use Rattle.read_scan.specs.Scan.{run, Here, Passes}
 use Rattle.form_items.specs.Items.{Wrote, items_of}
-use Rattle.read_pattern.specs.Pattern.{Fits, Grown, Ends, Reads, Begins, Starts, behind_left, behind_right, behind_element, inside_fault, piece_fault, inner_fault, whole_fault}
+use Rattle.read_pattern.specs.Pattern.{Fits, Grown, Ends, Reads, Begins, behind_left, behind_right, behind_element}
 use Rattle.read_element.specs.Element.{IsElement, Pieced, Pieces}
-use Rattle.read_scan.specs.declared.FileFault.{FileFault}
+use Rattle.std.specs.Prelude.{Ok, Err}
+use Rattle.read_scan.specs.declared.ReadError.{ReadError}
 use Rattle.read_scan.specs.declared.FileFault.TheVariants.{BadBrace, NoElement, MacroTooLong}
-use Rattle.read_scan.specs.declared.Next.{Next}
-use Rattle.read_scan.specs.declared.Next.TheVariants.{Byte, Refused as NoByte}
-use Rattle.read_ends.specs.declared.Ended.{Ended}
-use Rattle.read_ends.specs.declared.Ended.TheVariants.{Upto, Refused as NoEnd}
 use Rattle.read_pattern.specs.declared.PatternSoFar.{PatternSoFar}
-use Rattle.read_pattern.specs.declared.Inside.{Inside}
-use Rattle.read_pattern.specs.declared.Inside.TheVariants.{Closed, Quote, Refused as NoInside}
-use Rattle.read_pattern.specs.declared.Whole.{Whole}
-use Rattle.read_pattern.specs.declared.Whole.TheVariants.{Pattern, Refused as NoWhole}
+use Rattle.read_pattern.specs.declared.Inside.TheVariants.{Closed, Quote}
 use Rattle.read_scan.proofs.Laws.{reached_behind}
-use Rattle.form_items.proofs.Writing.{wrote_none, wrote_more, wrote_all}
+use Rattle.form_items.proofs.Writing.{wrote_none, wrote_more}
 use Rattle.read_pattern.proofs.Braces.{at_left, at_full, at_right, at_unmatched, at_unclosed, at_empty, at_quote, at_late_quote}
 
 -- ITEMS
@@ -138,68 +132,46 @@ module _ {s : List ℕ} {a : ℕ} where
 
 -- READING
 
--- that no right brace was found, and that no quote was
-abbrev pub Unclosed : Inside → Type 0
-Unclosed (Closed q g) = ⊥
-Unclosed (Quote q g) = Unit {0}
-Unclosed (NoInside f q) = Unit {0}
-
-abbrev pub Unquoted : Inside → Type 0
-Unquoted (Closed q g) = Unit {0}
-Unquoted (Quote q g) = ⊥
-Unquoted (NoInside f q) = Unit {0}
-
 -- pieces read up to v, and the next byte from there on
-module _ {s : List ℕ} {a p v : ℕ} {f g : PatternSoFar} {x y : List ℕ} (k : Grown s a p f v g x y) (l : p ≤ v) {r : Next} (z : Passes s a v r) where
-  pub reads_fault : (out : List ℕ) {h : FileFault} {q : ℕ} {o : Inside} → r ≡ NoByte h q → o ≡ inside_fault r → Reads s a p f x out o
+module _ {s : List ℕ} {a p v : ℕ} {f g : PatternSoFar} {x y : List ℕ} (k : Grown s a p f v g x y) (l : p ≤ v) where
+  pub reads_fault : (out : List ℕ) {h : ReadError} → Passes s a v (Err h) → Reads s a p f x out (Err h)
   unfolding skips
-  reads_fault out {h} {q} e i =
-      let w : Passes s a v (NoByte h q) = rw e at z in
-      rw (i ∙ ap inside_fault e) (record { is = (w.found, λ ps c pr. k.answer ps c pr ∙ w.answer _ pr refl) })
+  reads_fault out z = record { is = (z.found, λ ps c pr. k.answer ps c pr ∙ z.answer _ pr refl) }
 
-  module _ {b q : ℕ} (e : r ≡ Byte b q) where
-    pub found : Passes s a v (Byte b q)
-    found = rw e at z
-
-    pub near : Here s a q b
-    near = found.found.1
+  module _ {b q : ℕ} (z : Passes s a v (Ok (b, q))) where
+    near : Here s a q b
+    near = z.found.1
 
     there : Grown s a p f q g x y
-    there = grown_to k q found.answer
+    there = grown_to k q z.answer
 
     ends : (c : ℕ) → b ≡ c → g.tags ≤ 99 → g.used ≤ f.used + 2 * (v - p) → Ends s a p f q g x y c
     ends c h t i =
         record {
-          further = omega (arith, found.found.0);
+          further = omega (arith, z.found.0);
           here = rw h at near;
           tagged = t;
-          room = omega (arith, found.found.0);
+          room = omega (arith, z.found.0);
           grown = there;
         }
 
-    pub reads_closed : b ≡ 125 → g.tags ≤ 99 → g.used ≤ f.used + 2 * (v - p) → Reads s a p f x y (Closed q g)
+    pub reads_closed : b ≡ 125 → g.tags ≤ 99 → g.used ≤ f.used + 2 * (v - p) → Reads s a p f x y (Ok (Closed q g))
     reads_closed h t i = record { is = ends 125 h t i }
 
-    pub reads_quote : b ≡ 39 → g.tags ≤ 99 → g.used ≤ f.used + 2 * (v - p) → Reads s a p f x y (Quote q g)
+    pub reads_quote : b ≡ 39 → g.tags ≤ 99 → g.used ≤ f.used + 2 * (v - p) → Reads s a p f x y (Ok (Quote q g))
     reads_quote h t i = record { is = ends 39 h t i }
 
-    pub reads_full : (out : List ℕ) → b ≡ 123 → 99 ≤ g.tags → Reads s a p f x out (NoInside BadBrace q)
+    pub reads_full : (out : List ℕ) → b ≡ 123 → 99 ≤ g.tags → Reads s a p f x out (Err (record { fault = BadBrace; place = q }))
     reads_full out h t =
         record { is = (omega (arith, near.stands.there), λ ps c pr. there.answer ps c pr ∙ at_full near pr (there.pieces ++ ps) h (omega (arith, (there.fits ps c).0))) }
 
     -- an element
-    module _ {out : List ℕ} {o : Ended} (w : Pieces s a q y out g.used o) where
-      pub reads_no_piece : (fin : List ℕ) {h : FileFault} {n : ℕ} {i : Inside} → o ≡ NoEnd h n → i ≡ piece_fault o → Reads s a p f x fin i
-      reads_no_piece fin {h} {n} j c =
-          let u : Pieces s a q y out g.used (NoEnd h n) = rw j at w in
-          rw (c ∙ ap piece_fault j) (record { is = (u.is.0, λ ps d pr. there.answer ps d pr ∙ u.is.1 (there.pieces ++ ps) pr) })
+    module _ {out : List ℕ} where
+      pub reads_no_piece : (fin : List ℕ) {h : ReadError} → Pieces s a q y out g.used (Err h) → Reads s a p f x fin (Err h)
+      reads_no_piece fin u = record { is = (u.is.0, λ ps d pr. there.answer ps d pr ∙ u.is.1 (there.pieces ++ ps) pr) }
 
-      module _ {m n : ℕ} (j : o ≡ Upto m n) where
-        pub its_piece : Pieced s a q y out g.used m n
-        its_piece = let u : Pieces s a q y out g.used (Upto m n) = rw j at w in u.is
-
-        pub grown_element : Grown s a p f m (behind_element g n) x out
-        grown_element = grown_then there (grown_piece its_piece)
+      pub grown_element : {m n : ℕ} → Pieces s a q y out g.used (Ok (m, n)) → Grown s a p f m (behind_element g n) x out
+      grown_element u = grown_then there (grown_piece u.is)
 
     -- a brace, and what was read inside it
     module _ (h : b ≡ 123) (t : g.tags < 99) {mid : List ℕ} (w : Wrote y mid g.used (piece_items left)) where
@@ -212,73 +184,70 @@ module _ {s : List ℕ} {a p v : ℕ} {f g : PatternSoFar} {x y : List ℕ} (k :
       fit : (ps : List Piece) → Fits ps f → Fits (left ∷ (there.pieces ++ ps)) (behind_left g)
       fit ps c = left_fits (there.pieces ++ ps) g (there.fits ps c)
 
-      module _ {i : PatternSoFar} (u : i ≡ behind_left g) {out : List ℕ} {o : Inside} (d : Reads s a (q + 1) i mid out o) where
-        inner : Reads s a (q + 1) (behind_left g) mid out o
-        inner = rw u at d
+      module _ {i : PatternSoFar} (u : i ≡ behind_left g) {out : List ℕ} where
+        pub inner_ends : {m : ℕ} {j : PatternSoFar} → Reads s a (q + 1) i mid out (Ok (Closed m j)) → Ends s a (q + 1) (behind_left g) m j mid out 125
+        inner_ends {m} {j} d = let c : Reads s a (q + 1) (behind_left g) mid out (Ok (Closed m j)) = rw u at d in c.is
 
-        pub inner_ends : {m : ℕ} {j : PatternSoFar} → o ≡ Closed m j → Ends s a (q + 1) (behind_left g) m j mid out 125
-        inner_ends {m} {j} n = let c : Reads s a (q + 1) (behind_left g) mid out (Closed m j) = rw n at inner in c.is
+        pub grown_closed : {fin : List ℕ} {m : ℕ} {j : PatternSoFar} → Reads s a (q + 1) i mid out (Ok (Closed m j)) → Wrote out fin j.used (piece_items right)
+            → Grown s a p f (m + 1) (behind_right j) x fin
+        grown_closed d v = let c = inner_ends d in grown_then there (grown_brace brace t w c.here c.grown v)
 
-        pub grown_closed : {fin : List ℕ} {m : ℕ} {j : PatternSoFar} → o ≡ Closed m j → Wrote out fin j.used (piece_items right) → Grown s a p f (m + 1) (behind_right j) x fin
-        grown_closed n v = let c = inner_ends n in grown_then there (grown_brace brace t w c.here c.grown v)
-
-        pub reads_inner : (fin : List ℕ) → Unclosed o → Reads s a p f x fin (inner_fault o)
+        pub reads_unclosed : (fin : List ℕ) {m : ℕ} {j : PatternSoFar} → Reads s a (q + 1) i mid out (Ok (Quote m j))
+            → Reads s a p f x fin (Err (record { fault = BadBrace; place = m }))
         unfolding depth
-        reads_inner fin = by o inner
-          where
-            by : (o : Inside) → Reads s a (q + 1) (behind_left g) mid out o → Unclosed o → Reads s a p f x fin (inner_fault o)
-            by (Closed m j) c n = absurd n
-            by (Quote m j) c n =
-                record {
-                  is = (
-                    omega (arith, c.is.here.stands.there),
-                    λ ps z pr. into ps z pr ∙ (c.is.grown.answer _ (fit ps z) pr
-                        ∙ at_unclosed c.is.here pr _ refl (rw (c.is.grown.level (left ∷ (there.pieces ++ ps))) (omega arith))),
-                  );
-                }
-            by (NoInside j m) c n = record { is = (c.is.0, λ ps z pr. into ps z pr ∙ c.is.1 _ (fit ps z) pr) }
+        reads_unclosed fin {m} {j} d =
+            let c : Reads s a (q + 1) (behind_left g) mid out (Ok (Quote m j)) = rw u at d in
+            record {
+              is = (
+                omega (arith, c.is.here.stands.there),
+                λ ps z pr. into ps z pr ∙ (c.is.grown.answer _ (fit ps z) pr
+                    ∙ at_unclosed c.is.here pr _ refl (rw (c.is.grown.level (left ∷ (there.pieces ++ ps))) (omega arith))),
+              );
+            }
+
+        pub reads_inner : (fin : List ℕ) {e : ReadError} → Reads s a (q + 1) i mid out (Err e) → Reads s a p f x fin (Err e)
+        reads_inner fin {e} d =
+            let c : Reads s a (q + 1) (behind_left g) mid out (Err e) = rw u at d in
+            record { is = (c.is.0, λ ps z pr. into ps z pr ∙ c.is.1 _ (fit ps z) pr) }
 
 -- A WHOLE PATTERN
 
 abbrev pub none_yet : ℕ → PatternSoFar
 none_yet n = record { tags = 0; some = false; used = n }
 
-module _ {s : List ℕ} {a p : ℕ} {x y : List ℕ} {n : ℕ} {r : Inside} (z : Reads s a p (none_yet n) x y r) where
-  blank : Fits [] (none_yet n)
-  unfolding tags elements
-  blank = (refl, refl)
+blank : (n : ℕ) → Fits [] (none_yet n)
+unfolding tags elements
+blank n = (refl, refl)
 
-  pub whole_fault_lem : Unquoted r → Begins s a p x y n (whole_fault r)
+module _ {s : List ℕ} {a p : ℕ} {x y : List ℕ} {n : ℕ} where
+  pub whole_fault : {e : ReadError} → Reads s a p (none_yet n) x y (Err e) → Begins s a p x y n (Err e)
+  whole_fault d = (d.is.0, λ pr. d.is.1 [] (blank n) pr)
+
+  pub whole_unmatched : {q : ℕ} {g : PatternSoFar} → Reads s a p (none_yet n) x y (Ok (Closed q g)) → Begins s a p x y n (Err (record { fault = BadBrace; place = q }))
   unfolding depth
-  whole_fault_lem = by r z
-    where
-      by : (o : Inside) → Reads s a p (none_yet n) x y o → Unquoted o → Begins s a p x y n (whole_fault o)
-      by (Closed q g) d u =
-          (omega (arith, d.is.here.stands.there), λ pr. d.is.grown.answer [] blank pr ∙ at_unmatched d.is.here pr _ refl (d.is.grown.level []))
-      by (Quote q g) d u = absurd u
-      by (NoInside f q) d u = (d.is.0, λ pr. d.is.1 [] blank pr)
+  whole_unmatched d = (omega (arith, d.is.here.stands.there), λ pr. d.is.grown.answer [] (blank n) pr ∙ at_unmatched d.is.here pr _ refl (d.is.grown.level []))
 
-  module _ {q : ℕ} {g : PatternSoFar} (e : r ≡ Quote q g) where
+  module _ {q : ℕ} {g : PatternSoFar} (r : Reads s a p (none_yet n) x y (Ok (Quote q g))) where
     pub at_its_quote : Ends s a p (none_yet n) q g x y 39
-    at_its_quote = let d : Reads s a p (none_yet n) x y (Quote q g) = rw e at z in d.is
+    at_its_quote = r.is
 
-    pub whole_empty : g.some ≡ false → Begins s a p x y n (NoWhole NoElement q)
+    pub whole_empty : g.some ≡ false → Begins s a p x y n (Err (record { fault = NoElement; place = q }))
     unfolding depth
     whole_empty f =
         let d = at_its_quote in (
           omega (arith, d.here.stands.there),
-          λ pr. d.grown.answer [] blank pr ∙ at_empty d.here pr _ refl (d.grown.level []) ((d.grown.fits [] blank).1 ∙ f),
+          λ pr. d.grown.answer [] (blank n) pr ∙ at_empty d.here pr _ refl (d.grown.level []) ((d.grown.fits [] (blank n)).1 ∙ f),
         )
 
-    pub whole_late : g.some ≡ true → 512 ≤ q - a → Begins s a p x y n (NoWhole MacroTooLong q)
+    pub whole_late : g.some ≡ true → 512 ≤ q - a → Begins s a p x y n (Err (record { fault = MacroTooLong; place = q }))
     unfolding depth
     whole_late f l =
         let d = at_its_quote in (
           omega (arith, d.here.stands.there),
-          λ pr. d.grown.answer [] blank pr ∙ at_late_quote d.here pr _ l refl (d.grown.level []) ((d.grown.fits [] blank).1 ∙ f),
+          λ pr. d.grown.answer [] (blank n) pr ∙ at_late_quote d.here pr _ l refl (d.grown.level []) ((d.grown.fits [] (blank n)).1 ∙ f),
         )
 
-    pub whole_pattern : g.some ≡ true → q - a < 512 → Begins s a p x y n (Pattern (q + 1) g.tags g.used)
+    pub whole_pattern : g.some ≡ true → q - a < 512 → Begins s a p x y n (Ok (record { place = q + 1; tags = g.tags; used = g.used }))
     unfolding depth
     whole_pattern f l =
         let d = at_its_quote in
@@ -287,19 +256,10 @@ module _ {s : List ℕ} {a p : ℕ} {x y : List ℕ} {n : ℕ} {r : Inside} (z :
           pieces = d.grown.pieces ++ [];
           further = omega (arith, d.further);
           reached = reached_behind d.here.stands;
-          tagged = (d.grown.fits [] blank).0;
+          tagged = (d.grown.fits [] (blank n)).0;
           few = d.tagged;
-          answer = λ pr. d.grown.answer [] blank pr ∙ at_quote d.here pr _ l refl (d.grown.level []) ((d.grown.fits [] blank).1 ∙ f);
+          answer = λ pr. d.grown.answer [] (blank n) pr ∙ at_quote d.here pr _ l refl (d.grown.level []) ((d.grown.fits [] (blank n)).1 ∙ f);
           wrote = rw (e, form_items d.grown.pieces) d.grown.wrote;
           used = rw (e, form_items d.grown.pieces) (omega (arith, d.grown.used));
           room = omega (arith, d.room, d.further);
         }
-
--- ALL LENT BYTES
-
-module _ {s : List ℕ} {a p : ℕ} {old out : List ℕ} {n : ℕ} {r : Whole} (x : Begins s a p old out n r) where
-  pub starts_pattern : {q t j : ℕ} → r ≡ Pattern q t j → Starts s a p old out n (Pattern q t j)
-  starts_pattern e = record { begins = rw e at x; zeros = tt }
-
-  pub starts_fault : {f : FileFault} {q : ℕ} → r ≡ NoWhole f q → {fin : List ℕ} {k : ℕ} → Wrote out fin 0 (replicate k 0) → k ≡ length fin → length fin ≡ length old → Starts s a p old fin n (NoWhole f q)
-  starts_fault e {fin} {k} w g h = record { begins = rw e at x; zeros = wrote_all w (length-replicate {A = ℕ} k 0 ∙ g) ∙ ap (λ (i : ℕ). replicate {A = ℕ} i 0) (g ∙ h) }

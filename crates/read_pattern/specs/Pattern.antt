@@ -1,5 +1,5 @@
 -- What the answers about a pattern say of the machine, behind any pieces read before.
-use Rattle.std.specs.Prelude.{ℕ, ◌+◌, ◌-◌, ◌*◌, ◌≤◌, ◌<◌, ◌≡◌, true, false, List, [], ◌++◌, reverse, ltb, length, replicate}
+use Rattle.std.specs.Prelude.{ℕ, ◌+◌, ◌-◌, ◌*◌, ◌≤◌, ◌<◌, ◌≡◌, true, false, List, [], ◌++◌, reverse, ltb, length, replicate, Result, Ok, Err}
 use Rattle.macros.specs.Bounds.{most_tags}
 use Rattle.macros.specs.Macro.{Piece, tags, elements, depth}
 use Rattle.macros.specs.Read.{Prior}
@@ -9,16 +9,11 @@ use Rattle.read_scan.specs.Scan.MacroRead.{refused_at, pattern_to}
 use Rattle.form_table.specs.Form.{pattern_items}
 use Rattle.read_scan.specs.Scan.{fault_of, run, Here, Reached}
 use Rattle.form_items.specs.Items.{Wrote, items_of}
-use Rattle.read_scan.specs.declared.FileFault.TheVariants.{Incomplete, BadBrace}
-use Rattle.read_scan.specs.declared.Next.{Next}
-use Rattle.read_scan.specs.declared.Next.TheVariants.{Byte, Refused as NoByte}
-use Rattle.read_ends.specs.declared.Ended.{Ended}
-use Rattle.read_ends.specs.declared.Ended.TheVariants.{Upto, Refused as NoEnd}
+use Rattle.read_scan.specs.declared.ReadError.{ReadError}
 use Rattle.read_pattern.specs.declared.PatternSoFar.{PatternSoFar}
 use Rattle.read_pattern.specs.declared.Inside.{Inside}
-use Rattle.read_pattern.specs.declared.Inside.TheVariants.{Closed, Quote, Refused as NoInside}
+use Rattle.read_pattern.specs.declared.Inside.TheVariants.{Closed, Quote}
 use Rattle.read_pattern.specs.declared.Whole.{Whole}
-use Rattle.read_pattern.specs.declared.Whole.TheVariants.{Pattern, Refused as NoWhole}
 
 -- that the pieces have these tags, and whether they have an element
 abbrev pub Fits : List Piece → PatternSoFar → Type 0
@@ -43,14 +38,14 @@ pub record Ends (s : List ℕ) (a p : ℕ) (f : PatternSoFar) (q : ℕ) (g : Pat
   pub grown : Grown s a p f q g old out
 
 -- the pieces up to a right brace or the quote, or the refusal
-abbrev pub ReadsBy : List ℕ → ℕ → ℕ → PatternSoFar → List ℕ → List ℕ → Inside → Type 0
-ReadsBy s a p f old out (Closed q g) = Ends s a p f q g old out 125
-ReadsBy s a p f old out (Quote q g) = Ends s a p f q g old out 39
-ReadsBy s a p f old out (NoInside k q) =
-    (q ≤ length s) × ((ps : List Piece) → Fits ps f → (pr : Prior) → run s a pr false p (pattern nothing ps) ≡ refused_at (fault_of k) q)
+abbrev pub ReadsBy : List ℕ → ℕ → ℕ → PatternSoFar → List ℕ → List ℕ → Result Inside ReadError → Type 0
+ReadsBy s a p f old out (Ok (Closed q g)) = Ends s a p f q g old out 125
+ReadsBy s a p f old out (Ok (Quote q g)) = Ends s a p f q g old out 39
+ReadsBy s a p f old out (Err e) =
+    (e.place ≤ length s) × ((ps : List Piece) → Fits ps f → (pr : Prior) → run s a pr false p (pattern nothing ps) ≡ refused_at (fault_of e.fault) e.place)
 
 -- what reading from p up to a right brace or the quote says, behind any pieces that fit f, by the answer
-pub record Reads (s : List ℕ) (a p : ℕ) (f : PatternSoFar) (old out : List ℕ) (r : Inside) : Type 0 where
+pub record Reads (s : List ℕ) (a p : ℕ) (f : PatternSoFar) (old out : List ℕ) (r : Result Inside ReadError) : Type 0 where
   pub is : ReadsBy s a p f old out r
 
 -- the pieces of the pattern that begins at p, in the macro that began at a, newest first, as the machine has them behind the closing
@@ -67,18 +62,18 @@ pub record Patterned (s : List ℕ) (a p q t : ℕ) (old out : List ℕ) (n j : 
   pub room : j + 2 ≤ n + 2 * (q - p)
 
 -- what reading a whole pattern from p on says, by the answer
-abbrev pub Begins : List ℕ → ℕ → ℕ → List ℕ → List ℕ → ℕ → Whole → Type 0
-Begins s a p old out n (Pattern q t j) = Patterned s a p q t old out n j
-Begins s a p old out n (NoWhole f q) =
-    (q ≤ length s) × ((pr : Prior) → run s a pr false p (pattern nothing []) ≡ refused_at (fault_of f) q)
+abbrev pub Begins : List ℕ → ℕ → ℕ → List ℕ → List ℕ → ℕ → Result Whole ReadError → Type 0
+Begins s a p old out n (Ok w) = Patterned s a p w.place w.tags old out n w.used
+Begins s a p old out n (Err e) =
+    (e.place ≤ length s) × ((pr : Prior) → run s a pr false p (pattern nothing []) ≡ refused_at (fault_of e.fault) e.place)
 
 -- that a refusal leaves zeros
-abbrev pub Zeroed : List ℕ → List ℕ → Whole → Type 0
-Zeroed old out (Pattern q t j) = Unit {0}
-Zeroed old out (NoWhole f q) = out ≡ replicate (length old) 0
+abbrev pub Zeroed : List ℕ → List ℕ → Result Whole ReadError → Type 0
+Zeroed old out (Ok w) = Unit {0}
+Zeroed old out (Err e) = out ≡ replicate (length old) 0
 
 -- what reading a whole pattern says of the answer and of all lent bytes
-pub record Starts (s : List ℕ) (a p : ℕ) (old out : List ℕ) (n : ℕ) (r : Whole) : Type 0 where
+pub record Starts (s : List ℕ) (a p : ℕ) (old out : List ℕ) (n : ℕ) (r : Result Whole ReadError) : Type 0 where
   pub begins : Begins s a p old out n r
   pub zeros : Zeroed old out r
 
@@ -93,25 +88,3 @@ behind_right f = record { tags = f.tags; some = f.some; used = f.used + 2 }
 -- how far it is behind an element that is written up to n
 abbrev pub behind_element : PatternSoFar → ℕ → PatternSoFar
 behind_element f n = record { tags = f.tags; some = true; used = n }
-
--- a refusal of a byte inside a brace handed on
-abbrev pub inside_fault : Next → Inside
-inside_fault (Byte b q) = NoInside Incomplete q
-inside_fault (NoByte f q) = NoInside f q
-
--- a refusal of a piece handed on
-abbrev pub piece_fault : Ended → Inside
-piece_fault (Upto q m) = NoInside Incomplete q
-piece_fault (NoEnd f q) = NoInside f q
-
--- a run that did not end at a right brace, inside a brace: a quote is 15
-abbrev pub inner_fault : Inside → Inside
-inner_fault (Closed q g) = NoInside Incomplete q
-inner_fault (Quote q g) = NoInside BadBrace q
-inner_fault (NoInside f q) = NoInside f q
-
--- a run that did not end at the quote: a right brace is unmatched
-abbrev pub whole_fault : Inside → Whole
-whole_fault (Closed q g) = NoWhole BadBrace q
-whole_fault (Quote q g) = NoWhole Incomplete q
-whole_fault (NoInside f q) = NoWhole f q

@@ -3,13 +3,11 @@
 
 pub mod pattern;
 
-use read_scan::FileFault;
-
 // The tags of a pattern.
 pub(crate) const MOST_TAGS: usize = 99;
 
 // How far a pattern is: its tags, whether it has an element, and the bytes written.
-#[derive(Clone, Copy)]
+#[derive(Clone, Copy, Debug, PartialEq, Eq)]
 pub(crate) struct PatternSoFar {
     pub(crate) tags: usize,
     pub(crate) some: bool,
@@ -17,16 +15,16 @@ pub(crate) struct PatternSoFar {
 }
 
 // What ends a run of elements, with its place: a right brace or the quote.
-#[derive(Clone, Copy)]
+#[derive(Clone, Copy, Debug, PartialEq, Eq)]
 pub(crate) enum Inside {
     Closed(usize, PatternSoFar),
     Quote(usize, PatternSoFar),
-    Refused(FileFault, usize),
 }
 
 // The place behind a pattern's closing quote, its tags, and the end of what is written.
-#[derive(Clone, Copy)]
-pub enum Whole {
-    Pattern(usize, usize, usize),
-    Refused(FileFault, usize),
+#[derive(Clone, Copy, Debug, PartialEq, Eq)]
+pub struct Whole {
+    pub place: usize,
+    pub tags: usize,
+    pub used: usize,
 }
