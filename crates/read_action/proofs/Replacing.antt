@@ -37,7 +37,6 @@ use Rattle.read_scan.specs.declared.ReadError.{ReadError}
 use Rattle.read_scan.proofs.Laws.{here_on, here_stop, here_same, at_on, reached_behind, reached_at}
 use Rattle.read_number.proofs.Numbers.{eats_tag}
 use Rattle.form_items.proofs.Writing.{wrote_none, wrote_more}
-use Rattle.read_ends.proofs.Leaving.{zeroed}
 use Rattle.read_call.proofs.Ending.{most_same, within_yes, unfit, some_same, some_none}
 
 -- ACTIONS ONE BEHIND ANOTHER
@@ -342,10 +341,3 @@ module _ (s : List ℕ) (a p : ℕ) (old out : List ℕ) (n k : ℕ) {v e : ℕ}
 
     pub acts_on : {mid : List ℕ} {z e' : ℕ} → ActionFrom s a q out mid e k (Ok (z, e')) → Acts s a p old mid n k z e'
     acts_on x = acts_more (omega (arith, y.found.0)) (omega (arith, x.0)) acts_pass x.1
-
--- ALL LENT BYTES
-
-pub replacement_left : {s : List ℕ} {a p : ℕ} {old : List ℕ} (mid : List ℕ) {out : List ℕ} {n k : ℕ} (r : Ended) → ReplacedFrom s a p old mid n k r → out ≡ left_by mid r → length mid ≡ length old
-    → ReplacementRead s a p old out n k r
-replacement_left mid (Ok (q, e)) x o l = record { from = rw o x; zeros = tt }
-replacement_left {s} {a} {p} {old} mid (Err e) x o l = record { from = x; zeros = zeroed old mid (Err e) o l }

@@ -4,7 +4,7 @@ use mathlib.Core.Path.{◌≡◌, refl, ap, sym, ◌∙◌}
 use mathlib.Core.Bool.{Bool, true, false}
 use mathlib.Core.List.{List, [], ◌∷◌, ◌++◌, reverse, append_assoc, append-nil, reverse-append}
 use mathlib.Core.Option.{Option, none, some}
-use Prim.Native.Nat.{ℕ, ◌+◌, ◌-◌, ◌*◌, ◌≤◌, ◌<◌}
+use Prim.Native.Nat.{ℕ, ◌+◌, ◌-◌, ◌*◌, ◌≤◌}
 use native.Mathlib.Omega.{arith}
 use lib.ListN.{length, length-append}
 use borrow.Author.Tests.{ne_eqb}
@@ -22,15 +22,11 @@ use Rattle.form_table.specs.Form.{calls_items, call_items}
 use Rattle.read_scan.specs.Scan.{MacroRead, run, noted, Here, Passes, Reached}
 use Rattle.form_items.specs.Items.{Wrote}
 use Rattle.read_call.specs.Call.{CalledFrom, mark_of}
-use Rattle.read_text.specs.Text.{Called}
-use Rattle.read_ends.specs.Ends.{next_end, left_by}
-use Rattle.read_command.specs.Commands.{Ahead, Lists, Does, CommandFrom, ListedFrom, CommandsRead, BeforeFrom, BeforeRead, site_by, last_byte, stray_byte, tags_ahead, listed}
-use Rattle.read_scan.specs.declared.FileFault.{FileFault}
+use Rattle.read_ends.specs.Ends.{Ended, left_by}
+use Rattle.read_command.specs.Commands.{Ahead, Lists, Does, CommandFrom, ListedFrom, CommandsRead, BeforeFrom, site_by, last_byte, stray_byte, tags_ahead, listed}
+use Rattle.std.specs.Prelude.{Ok, Err}
 use Rattle.read_scan.specs.declared.FileFault.TheVariants.{Incomplete}
-use Rattle.read_scan.specs.declared.Next.{Next}
-use Rattle.read_scan.specs.declared.Next.TheVariants.{Byte, Refused as NoByte}
-use Rattle.read_ends.specs.declared.Ended.{Ended}
-use Rattle.read_ends.specs.declared.Ended.TheVariants.{Upto, Refused as NoEnd}
+use Rattle.read_scan.specs.declared.ReadError.{ReadError}
 use Rattle.read_ends.proofs.Leaving.{zeroed}
 use Rattle.read_scan.proofs.Laws.{here_on, here_stop, here_same, reached_behind, reached_at}
 use Rattle.form_items.proofs.Writing.{wrote_none, wrote_more}
@@ -159,94 +155,79 @@ mark_other false m x cs b e = simp (ne_eqb _ _ e)
 -- ONE COMMAND
 
 module _ {s : List ℕ} {a p b : ℕ} (old : List ℕ) (n : ℕ) (d : Bool) (k : ℕ) (x : Here s a p b) where
-  pub command_out : {w : ℕ} → w ≡ stray_byte d → b ≡ w → CommandFrom s a p old old n d k (NoEnd Incomplete p)
+  pub command_out : {w : ℕ} → w ≡ stray_byte d → b ≡ w → CommandFrom s a p old old n d k (Err (record { fault = Incomplete; place = p }))
   command_out h e =
       let t = x.stands in
       (omega (arith, t.there), λ f cs u pr. here_stop x pr (listed d f none cs) incomplete (command_stray d f cs b (e ∙ h)))
 
-  pub command_text : {w : ℕ} → w ≡ stray_byte d → (b ≡ last_byte d → ⊥) → (b ≡ w → ⊥) → (b ≡ 38 → ⊥) → (b ≡ 35 → ⊥) → CommandFrom s a p old old n d k (Upto (p + 1) n)
+  pub command_text : {w : ℕ} → w ≡ stray_byte d → (b ≡ last_byte d → ⊥) → (b ≡ w → ⊥) → (b ≡ 38 → ⊥) → (b ≡ 35 → ⊥) → CommandFrom s a p old old n d k (Ok (p + 1, n))
   command_text j e g h i = (
     omega arith,
     lists_skip old n d k (p + 1) (reached_behind x.stands)
         (λ f cs pr. here_on x pr (listed d f none cs) (listed d f none cs) (noted_listed d f none cs (listed d f none cs)) (command_other d f cs b e (λ l. g (l ∙ sym j)) h i)),
   )
 
-module _ {s : List ℕ} {a p : ℕ} (old out : List ℕ) (n : ℕ) (d : Bool) (k : ℕ) (c : Bool) (x : Here s a p (mark_byte (mark_of c))) {r : Next} (y : Passes s a (p + 1) r) where
+module _ {s : List ℕ} {a p : ℕ} (old out : List ℕ) (n : ℕ) (d : Bool) (k : ℕ) (c : Bool) (x : Here s a p (mark_byte (mark_of c))) where
   lead : (f : Ahead d) (cs : List Call) (pr : Prior) → run s a pr false p (listed d f none cs) ≡ run s a pr false (p + 1) (listed d f (some (mark_of c)) cs)
   lead f cs pr =
       here_on x pr (listed d f none cs) (listed d f (some (mark_of c)) cs) (noted_listed d f none cs (listed d f (some (mark_of c)) cs)) (command_mark d (mark_of c) f cs)
 
-  pub command_none : {f : FileFault} {q : ℕ} {w : Ended} → r ≡ NoByte f q → w ≡ next_end r → CommandFrom s a p old out n d k w
-  command_none {f} {q} e i =
-      let z : Passes s a (p + 1) (NoByte f q) = rw e at y in
-      rw (i ∙ ap next_end e) (z.found, λ g cs u pr. lead g cs pr ∙ z.answer (listed d g (some (mark_of c)) cs) pr (command_skips d g (some (mark_of c)) cs))
+  pub command_none : {e : ReadError} → Passes s a (p + 1) (Err e) → CommandFrom s a p old out n d k (Err e)
+  command_none y = (y.found, λ g cs u pr. lead g cs pr ∙ y.answer (listed d g (some (mark_of c)) cs) pr (command_skips d g (some (mark_of c)) cs))
 
-  module _ {b q : ℕ} (e : r ≡ Byte b q) where
-    pub command_byte : Passes s a (p + 1) (Byte b q)
-    command_byte = rw e at y
-
+  module _ {b q : ℕ} (y : Passes s a (p + 1) (Ok (b, q))) where
     there : (f : Ahead d) (cs : List Call) (pr : Prior) → run s a pr false p (listed d f none cs) ≡ run s a pr false q (listed d f (some (mark_of c)) cs)
-    there f cs pr = lead f cs pr ∙ command_byte.answer (listed d f (some (mark_of c)) cs) pr (command_skips d f (some (mark_of c)) cs)
+    there f cs pr = lead f cs pr ∙ y.answer (listed d f (some (mark_of c)) cs) pr (command_skips d f (some (mark_of c)) cs)
 
     begins : b ≡ 40 → (f : Ahead d) (cs : List Call) (pr : Prior) → run s a pr false p (listed d f none cs) ≡ run s a pr false (q + 1) (calling (sited d f cs) (begun (mark_of c)))
     begins h f cs pr =
         there f cs pr
-        ∙ here_on command_byte.found.1 pr (listed d f (some (mark_of c)) cs) (calling (sited d f cs) (begun (mark_of c)))
+        ∙ here_on y.found.1 pr (listed d f (some (mark_of c)) cs) (calling (sited d f cs) (begun (mark_of c)))
         (noted_listed d f (some (mark_of c)) cs (calling (sited d f cs) (begun (mark_of c)))) (mark_call d (mark_of c) f cs b h)
 
     pub command_call : b ≡ 40 → (w : Ended) → CalledFrom s a (q + 1) old out n (mark_of c) (site_by d) k w → CommandFrom s a p old out n d k w
-    command_call h (Upto z e') y' = (
-      omega (arith, y'.further, command_byte.found.0),
-      lists_one d y'.call y'.wrote y'.used (omega (arith, y'.room, y'.further, command_byte.found.0)) y'.reached
+    command_call h (Ok (z, e')) y' = (
+      omega (arith, y'.further, y.found.0),
+      lists_one d y'.call y'.wrote y'.used (omega (arith, y'.room, y'.further, y.found.0)) y'.reached
           (λ f cs u pr. begins h f cs pr ∙ (y'.answer (sited d f cs) (sited_site d f cs) (sited_tags d f cs ∙ u) pr ∙ ap (λ (st : Part). run s a pr false z st) (sited_behind d f cs y'.call))),
     )
-    command_call h (NoEnd g z) y' = (y'.0, λ f cs u pr. begins h f cs pr ∙ y'.1 (sited d f cs) (sited_site d f cs) (sited_tags d f cs ∙ u) pr)
+    command_call h (Err g) y' = (y'.0, λ f cs u pr. begins h f cs pr ∙ y'.1 (sited d f cs) (sited_site d f cs) (sited_tags d f cs ∙ u) pr)
 
-    pub command_plain : (b ≡ 40 → ⊥) → CommandFrom s a p old old n d k (Upto q n)
+    pub command_plain : (b ≡ 40 → ⊥) → CommandFrom s a p old old n d k (Ok (q, n))
     command_plain h = (
-      omega (arith, command_byte.found.0),
-      lists_skip old n d k q (reached_at command_byte.found.1.stands)
+      omega (arith, y.found.0),
+      lists_skip old n d k q (reached_at y.found.1.stands)
           (λ f cs pr. there f cs pr
-          ∙ here_same command_byte.found.1 pr (listed d f (some (mark_of c)) cs) (listed d f none cs)
+          ∙ here_same y.found.1 pr (listed d f (some (mark_of c)) cs) (listed d f none cs)
           (λ x q o. noted_listed d f (some (mark_of c)) cs x q o ∙ sym (noted_listed d f none cs x q o)) (mark_other d (mark_of c) f cs b h)),
     )
 
 -- ALL OF THEM
 
-module _ (s : List ℕ) (a p : ℕ) (old out : List ℕ) (n : ℕ) (d : Bool) (k : ℕ) {v e : ℕ} (g : Lists s a p old out n d k v e) (l : p ≤ v) {r : Next} (y : Passes s a v r) where
-  pub lists_fault : {f : FileFault} {q : ℕ} {w : Ended} → r ≡ NoByte f q → w ≡ next_end r → ListedFrom s a p old out n d k w
-  lists_fault {f} {q} i j =
-      let z : Passes s a v (NoByte f q) = rw i at y in
-      rw (j ∙ ap next_end i) (z.found, λ h cs u pr. g.answer h cs u pr ∙ z.answer (listed d h none (g.calls ++ cs)) pr (command_skips d h none (g.calls ++ cs)))
+module _ (s : List ℕ) (a p : ℕ) (old out : List ℕ) (n : ℕ) (d : Bool) (k : ℕ) {v e : ℕ} (g : Lists s a p old out n d k v e) (l : p ≤ v) where
+  pub lists_fault : {w : ReadError} → Passes s a v (Err w) → ListedFrom s a p old out n d k (Err w)
+  lists_fault y = (y.found, λ h cs u pr. g.answer h cs u pr ∙ y.answer (listed d h none (g.calls ++ cs)) pr (command_skips d h none (g.calls ++ cs)))
 
-  module _ {b q : ℕ} (i : r ≡ Byte b q) where
-    pub lists_byte : Passes s a v (Byte b q)
-    lists_byte = rw i at y
-
+  module _ {b q : ℕ} (y : Passes s a v (Ok (b, q))) where
     lists_pass : Lists s a p old out n d k q e
     lists_pass =
         record {
           calls = g.calls;
           wrote = g.wrote;
           used = g.used;
-          room = omega (arith, g.room, lists_byte.found.0);
-          reached = reached_at lists_byte.found.1.stands;
-          answer = λ f cs u pr. g.answer f cs u pr ∙ lists_byte.answer (listed d f none (g.calls ++ cs)) pr (command_skips d f none (g.calls ++ cs));
+          room = omega (arith, g.room, y.found.0);
+          reached = reached_at y.found.1.stands;
+          answer = λ f cs u pr. g.answer f cs u pr ∙ y.answer (listed d f none (g.calls ++ cs)) pr (command_skips d f none (g.calls ++ cs));
         }
 
-    pub lists_end : {w : ℕ} → w ≡ last_byte d → b ≡ w → ListedFrom s a p old out n d k (Upto q e)
-    lists_end j h = (omega (arith, lists_byte.found.0), rw (h ∙ j) at lists_byte.found.1, lists_pass)
+    pub lists_end : {w : ℕ} → w ≡ last_byte d → b ≡ w → ListedFrom s a p old out n d k (Ok (q, e))
+    lists_end j h = (omega (arith, y.found.0), rw (h ∙ j) at y.found.1, lists_pass)
 
-    pub lists_fault_2 : (mid : List ℕ) {w : Ended} {f : FileFault} {z : ℕ} → CommandFrom s a q out mid e d k w → w ≡ NoEnd f z → ListedFrom s a p old mid n d k w
-    lists_fault_2 mid {w} {f} {z} x j =
-        let t : CommandFrom s a q out mid e d k (NoEnd f z) = rw j at x in
-        rw j (t.0, λ h cs u pr. lists_pass.answer h cs u pr ∙ t.1 h (lists_pass.calls ++ cs) u pr)
+    pub lists_fault_2 : (mid : List ℕ) (w : ReadError) → CommandFrom s a q out mid e d k (Err w) → ListedFrom s a p old mid n d k (Err w)
+    lists_fault_2 mid w x = (x.0, λ h cs u pr. lists_pass.answer h cs u pr ∙ x.1 h (lists_pass.calls ++ cs) u pr)
 
-    pub lists_next : {mid : List ℕ} {w : Ended} {z e' : ℕ} → CommandFrom s a q out mid e d k w → w ≡ Upto z e' → (q < z) × Lists s a q out mid e d k z e'
-    lists_next x j = rw j at x
-
-    pub lists_on : {mid : List ℕ} {w : Ended} {z e' : ℕ} → CommandFrom s a q out mid e d k w → w ≡ Upto z e' → Lists s a p old mid n d k z e'
-    lists_on x j = lists_more d (omega (arith, lists_byte.found.0)) (omega (arith, (lists_next x j).0)) lists_pass (lists_next x j).1
+    pub lists_on : {mid : List ℕ} {z e' : ℕ} → CommandFrom s a q out mid e d k (Ok (z, e')) → Lists s a p old mid n d k z e'
+    lists_on x = lists_more d (omega (arith, y.found.0)) (omega (arith, x.0)) lists_pass x.1
 
 -- BEHIND A REPLACEMENT, with all lent bytes
 
@@ -263,29 +244,23 @@ does_all y =
 
 pub commands_left : {s : List ℕ} {a p : ℕ} {old : List ℕ} (mid : List ℕ) {out : List ℕ} {n k : ℕ} (r : Ended) → ListedFrom s a p old mid n false k r → out ≡ left_by mid r → length mid ≡ length old
     → CommandsRead s a p old out n k r
-commands_left mid (Upto q e) x o l = record { from = rw o (x.0, x.1, does_all x.2); zeros = tt }
-commands_left {s} {a} {p} {old} mid (NoEnd f q) x o l = record { from = (x.0, λ g t cs u pr. x.1 (g, t) cs u pr); zeros = zeroed old mid (NoEnd f q) o l }
+commands_left mid (Ok (q, e)) x o l = record { from = rw o (x.0, x.1, does_all x.2); zeros = tt }
+commands_left {s} {a} {p} {old} mid (Err e) x o l = record { from = (x.0, λ g t cs u pr. x.1 (g, t) cs u pr); zeros = zeroed old mid (Err e) o l }
 
 -- BEFORE A PATTERN
 
-module _ (s : List ℕ) (a p : ℕ) (old mid : List ℕ) (n : ℕ) (c : Bool) {w : Ended} (x : CalledFrom s a p old mid n (mark_of c) before_pattern 0 w) where
-  pub before_none : {f : FileFault} {q : ℕ} → w ≡ NoEnd f q → BeforeFrom s a p old mid n c w
+module _ (s : List ℕ) (a p : ℕ) (old mid : List ℕ) (n : ℕ) (c : Bool) where
+  pub before_none : (e : ReadError) → CalledFrom s a p old mid n (mark_of c) before_pattern 0 (Err e) → BeforeFrom s a p old mid n c (Err e)
   unfolding site_of pieces_of tags
-  before_none {f} {q} j =
-      let z : CalledFrom s a p old mid n (mark_of c) before_pattern 0 (NoEnd f q) = rw j at x in
-      rw j (z.0, λ pr. z.1 (calls_so_far []) refl refl pr)
+  before_none e x = (x.0, λ pr. x.1 (calls_so_far []) refl refl pr)
 
-  module _ {z e : ℕ} (j : w ≡ Upto z e) where
-    pub before_first : Called s a p old mid n 0 before_pattern 0 (λ pl. calling pl (begun (mark_of c))) z e
-    before_first = rw j at x
-
-    first_answer_lem : (pr : Prior) → run s a pr false p (calling (calls_so_far []) (begun (mark_of c))) ≡ run s a pr false z (listed true tt none (before_first.call ∷ []))
+  module _ {z e : ℕ} (t : CalledFrom s a p old mid n (mark_of c) before_pattern 0 (Ok (z, e))) where
+    first_answer_lem : (pr : Prior) → run s a pr false p (calling (calls_so_far []) (begun (mark_of c))) ≡ run s a pr false z (listed true tt none (t.call ∷ []))
     unfolding site_of pieces_of tags behind_call
-    first_answer_lem pr = before_first.answer (calls_so_far []) refl refl pr
+    first_answer_lem pr = t.answer (calls_so_far []) refl refl pr
 
     pub before_all : (out : List ℕ) (r : Ended) → ListedFrom s a z mid out e true 0 r → BeforeFrom s a p old out n c r
-    before_all out (Upto q e') y =
-        let t = before_first in
+    before_all out (Ok (q, e')) y =
         let both : calls_items (reverse (y.2.calls ++ (t.call ∷ []))) ≡ call_items t.call ++ calls_items (reverse y.2.calls) =
         items_both (t.call ∷ []) y.2.calls ∙ ap (λ (l : List ℕ). l ++ calls_items (reverse y.2.calls)) (one_call t.call) in
         let second : Wrote mid out (n + length (call_items t.call)) (calls_items (reverse y.2.calls)) = rw t.used at y.2.wrote in (
@@ -300,10 +275,4 @@ module _ (s : List ℕ) (a p : ℕ) (old mid : List ℕ) (n : ℕ) (c : Bool) {w
             answer = λ pr. first_answer_lem pr ∙ y.2.answer tt (t.call ∷ []) refl pr;
           },
         )
-    before_all out (NoEnd f q) y = (y.0, λ pr. first_answer_lem pr ∙ y.1 tt (before_first.call ∷ []) refl pr)
-
--- with all lent bytes
-pub before_left : {s : List ℕ} {a p : ℕ} {old : List ℕ} (mid : List ℕ) {out : List ℕ} {n : ℕ} {c : Bool} (r : Ended) → BeforeFrom s a p old mid n c r → out ≡ left_by mid r → length mid ≡ length old
-    → BeforeRead s a p old out n c r
-before_left mid (Upto q e) x o l = record { from = rw o x; zeros = tt }
-before_left {s} {a} {p} {old} mid (NoEnd f q) x o l = record { from = x; zeros = zeroed old mid (NoEnd f q) o l }
+    before_all out (Err f) y = (y.0, λ pr. first_answer_lem pr ∙ y.1 tt (t.call ∷ []) refl pr)

@@ -1,5 +1,6 @@
 -- Commands, before a pattern or behind a replacement: what reading them says of the machine.
 use Rattle.std.specs.Prelude.{ℕ, ◌+◌, ◌-◌, ◌*◌, ◌≤◌, ◌<◌, ◌≡◌, Bool, true, false, List, [], ◌++◌, reverse, length}
+use Rattle.std.specs.Prelude.{Ok, Err}
 use Rattle.std.proofs.Math.Option.{Option, none}
 use Rattle.macros.specs.Macro.{Mark, Call, Action, tags}
 use Rattle.macros.specs.Read.{Part, Prior, Site, Front}
@@ -12,10 +13,8 @@ use Rattle.form_table.specs.Form.{calls_items}
 use Rattle.read_scan.specs.Scan.{fault_of, run, Reached, Here}
 use Rattle.form_items.specs.Items.{Wrote}
 use Rattle.read_call.specs.Call.{mark_of}
-use Rattle.read_ends.specs.Ends.{Zeroed}
-use Rattle.read_scan.specs.declared.FileFault.{FileFault}
-use Rattle.read_ends.specs.declared.Ended.{Ended}
-use Rattle.read_ends.specs.declared.Ended.TheVariants.{Upto, Refused as NoEnd}
+use Rattle.read_ends.specs.Ends.{Ended, Zeroed}
+use Rattle.read_scan.specs.declared.ReadError.{ReadError}
 
 -- where they stand
 abbrev pub site_by : Bool → Site
@@ -58,20 +57,20 @@ pub record Lists (s : List ℕ) (a p : ℕ) (old out : List ℕ) (n : ℕ) (befo
       → run s a pr false p (listed before x none cs) ≡ run s a pr false q (listed before x none (calls ++ cs))
 
 -- that they are refused
-abbrev pub Unlisted : List ℕ → ℕ → ℕ → Bool → ℕ → FileFault → ℕ → Type 0
-Unlisted s a p before k f q =
-    (q ≤ length s) × ((x : Ahead before) (cs : List Call) → tags_ahead before x ≡ k → (pr : Prior)
-    → run s a pr false p (listed before x none cs) ≡ refused_at (fault_of f) q)
+abbrev pub Unlisted : List ℕ → ℕ → ℕ → Bool → ℕ → ReadError → Type 0
+Unlisted s a p before k e =
+    (e.place ≤ length s) × ((x : Ahead before) (cs : List Call) → tags_ahead before x ≡ k → (pr : Prior)
+    → run s a pr false p (listed before x none cs) ≡ refused_at (fault_of e.fault) e.place)
 
 -- what reading one command, or a byte of other text, says
 abbrev pub CommandFrom : List ℕ → ℕ → ℕ → List ℕ → List ℕ → ℕ → Bool → ℕ → Ended → Type 0
-CommandFrom s a p old out n before k (Upto q e) = (p < q) × Lists s a p old out n before k q e
-CommandFrom s a p old out n before k (NoEnd f q) = Unlisted s a p before k f q
+CommandFrom s a p old out n before k (Ok (q, e)) = (p < q) × Lists s a p old out n before k q e
+CommandFrom s a p old out n before k (Err e) = Unlisted s a p before k e
 
 -- what reading all of them says: the byte that ends them stands at q
 abbrev pub ListedFrom : List ℕ → ℕ → ℕ → List ℕ → List ℕ → ℕ → Bool → ℕ → Ended → Type 0
-ListedFrom s a p old out n before k (Upto q e) = (p ≤ q) × Here s a q (last_byte before) × Lists s a p old out n before k q e
-ListedFrom s a p old out n before k (NoEnd f q) = Unlisted s a p before k f q
+ListedFrom s a p old out n before k (Ok (q, e)) = (p ≤ q) × Here s a q (last_byte before) × Lists s a p old out n before k q e
+ListedFrom s a p old out n before k (Err e) = Unlisted s a p before k e
 
 -- BEHIND A REPLACEMENT
 
@@ -87,10 +86,10 @@ pub record Does (s : List ℕ) (a p : ℕ) (old out : List ℕ) (n k q e : ℕ) 
 
 -- what reading the commands says: they end at the `;` at q
 abbrev pub CommandsFrom : List ℕ → ℕ → ℕ → List ℕ → List ℕ → ℕ → ℕ → Ended → Type 0
-CommandsFrom s a p old out n k (Upto q e) = (p ≤ q) × Here s a q 59 × Does s a p old out n k q e
-CommandsFrom s a p old out n k (NoEnd f q) =
-    (q ≤ length s) × ((g : Front) (l : List Action) (cs : List Call) → tags g.pieces ≡ k → (pr : Prior)
-    → run s a pr false p (commands none g l cs) ≡ refused_at (fault_of f) q)
+CommandsFrom s a p old out n k (Ok (q, e)) = (p ≤ q) × Here s a q 59 × Does s a p old out n k q e
+CommandsFrom s a p old out n k (Err e) =
+    (e.place ≤ length s) × ((g : Front) (l : List Action) (cs : List Call) → tags g.pieces ≡ k → (pr : Prior)
+    → run s a pr false p (commands none g l cs) ≡ refused_at (fault_of e.fault) e.place)
 
 -- the same, and what is left in all lent bytes
 pub record CommandsRead (s : List ℕ) (a p : ℕ) (old out : List ℕ) (n k : ℕ) (r : Ended) : Type 0 where
@@ -111,9 +110,9 @@ pub record Before (s : List ℕ) (a p : ℕ) (old out : List ℕ) (n : ℕ) (c :
 
 -- what reading the calls says: they end at the pattern's quote at q
 abbrev pub BeforeFrom : List ℕ → ℕ → ℕ → List ℕ → List ℕ → ℕ → Bool → Ended → Type 0
-BeforeFrom s a p old out n c (Upto q e) = (p ≤ q) × Here s a q 39 × Before s a p old out n c q e
-BeforeFrom s a p old out n c (NoEnd f q) =
-    (q ≤ length s) × ((pr : Prior) → run s a pr false p (calling (calls_so_far []) (begun (mark_of c))) ≡ refused_at (fault_of f) q)
+BeforeFrom s a p old out n c (Ok (q, e)) = (p ≤ q) × Here s a q 39 × Before s a p old out n c q e
+BeforeFrom s a p old out n c (Err e) =
+    (e.place ≤ length s) × ((pr : Prior) → run s a pr false p (calling (calls_so_far []) (begun (mark_of c))) ≡ refused_at (fault_of e.fault) e.place)
 
 -- the same, and what is left in all lent bytes
 pub record BeforeRead (s : List ℕ) (a p : ℕ) (old out : List ℕ) (n : ℕ) (c : Bool) (r : Ended) : Type 0 where

@@ -8,28 +8,22 @@ ghost use Rattle.read_command.specs.Commands.{CommandFrom, ListedFrom, CommandsR
 use read_action::actions::is_mark;
 use read_call::Site;
 use read_call::calls::call;
-use read_ends::{Ended, next_end, or_zeros};
+use read_ends::or_zeros;
 use read_scan::scan::next_byte;
-use read_scan::{FileFault, Next};
+use read_scan::{FileFault, ReadError};
 
 // The byte that ends them: the pattern's quote, or the macro's `;`.
 fn last_byte(before: bool) -> u8
     ensures { result ≡ last_byte before }
 {
-    if before {
-        return b'\'';
-    }
-    b';'
+    if before { b'\'' } else { b';' }
 }
 
 // The one of both that is out of turn: 12.
 fn stray_byte(before: bool) -> u8
     ensures { result ≡ stray_byte before }
 {
-    if before {
-        return b';';
-    }
-    b'\''
+    if before { b';' } else { b'\'' }
 }
 
 // Where they stand.
@@ -37,9 +31,10 @@ fn site_by(before: bool) -> Site
     ensures { site_is result ≡ site_by before }
 {
     if before {
-        return Site::BeforePattern;
+        Site::BeforePattern
+    } else {
+        Site::Command
     }
-    Site::Command
 }
 
 // The `&` or, if counter, the `#` at a place, outside quotes: other text, if no `(` follows.
@@ -52,18 +47,15 @@ fn marked_command(
     counter: bool,
     before: bool,
     tags: usize,
-) -> Ended
+) -> Result<(usize, usize), ReadError>
     requires { Here s.now a at (mark_byte (mark_of counter)) × (n + 2 * (a + 513 - at) ≤ length out.old) × (tags ≤ 99) }
     ensures { CommandFrom s.now a at out.old out.new n before tags result }
 {
-    let next = next_byte(s, a, at + 1);
-    let Next::Byte(b, q) = next else {
-        return next_end(next);
-    };
+    let (b, q) = next_byte(s, a, at + 1)?;
     if b == b'(' {
         return call(s, out, a, q + 1, n, counter, site_by(before), tags);
     }
-    Ended::Upto(q, n)
+    Ok((q, n))
 }
 
 // A command or a byte of other text, from its first byte b on, which does not end them.
@@ -76,17 +68,17 @@ fn command(
     n: usize,
     before: bool,
     tags: usize,
-) -> Ended
+) -> Result<(usize, usize), ReadError>
     requires { Here s.now a at b × (b ≡ last_byte before → ⊥) × (n + 2 * (a + 513 - at) ≤ length out.old) × (tags ≤ 99) }
     ensures { CommandFrom s.now a at out.old out.new n before tags result }
 {
     if b == stray_byte(before) {
-        return Ended::Refused(FileFault::Incomplete, at);
+        return Err(FileFault::Incomplete.at(at));
     }
     if is_mark(b) {
         return marked_command(s, out, a, at, n, b == b'#', before, tags);
     }
-    Ended::Upto(at + 1, n)
+    Ok((at + 1, n))
 }
 
 // Commands up to the byte that ends them, whose place it gives; their items from `start` on.
@@ -98,7 +90,7 @@ fn commands_items(
     start: usize,
     before: bool,
     tags: usize,
-) -> Ended
+) -> Result<(usize, usize), ReadError>
     requires { Reached s.now a first × (start + 2 * (a + 513 - first) ≤ length out.old) × (tags ≤ 99) }
     ensures { ListedFrom s.now a first out.old out.new start before tags result }
 {
@@ -106,19 +98,11 @@ fn commands_items(
     let mut at = first;
     let mut n = start;
     loop {
-        let next = next_byte(s, a, at);
-        let Next::Byte(b, q) = next else {
-            return next_end(next);
-        };
+        let (b, q) = next_byte(s, a, at)?;
         if b == last {
-            return Ended::Upto(q, n);
+            return Ok((q, n));
         }
-        let part = command(s, out, a, q, b, n, before, tags);
-        let Ended::Upto(z, e) = part else {
-            return part;
-        };
-        at = z;
-        n = e;
+        (at, n) = command(s, out, a, q, b, n, before, tags)?;
     }
 }
 
@@ -130,7 +114,7 @@ pub fn commands(
     first: usize,
     start: usize,
     tags: usize,
-) -> Ended
+) -> Result<(usize, usize), ReadError>
     requires { Reached s.now a first × (start + 2 * (a + 513 - first) ≤ length out.old) × (tags ≤ 99) }
     ensures { CommandsRead s.now a first out.old out.new start tags result }
 {
@@ -146,14 +130,11 @@ fn before_items(
     first: usize,
     start: usize,
     counter: bool,
-) -> Ended
+) -> Result<(usize, usize), ReadError>
     requires { Reached s.now a first × (start + 2 * (a + 513 - first) ≤ length out.old) }
     ensures { BeforeFrom s.now a first out.old out.new start counter result }
 {
-    let one = call(s, out, a, first, start, counter, Site::BeforePattern, 0);
-    let Ended::Upto(z, e) = one else {
-        return one;
-    };
+    let (z, e) = call(s, out, a, first, start, counter, Site::BeforePattern, 0)?;
     commands_items(s, out, a, z, e, true, 0)
 }
 
@@ -165,7 +146,7 @@ pub fn calls_before(
     first: usize,
     start: usize,
     counter: bool,
-) -> Ended
+) -> Result<(usize, usize), ReadError>
     requires { Reached s.now a first × (start + 2 * (a + 513 - first) ≤ length out.old) }
     ensures { BeforeRead s.now a first out.old out.new start counter result }
 {

@@ -1,12 +1,5 @@
-use mathlib.Core.Path.{◌∙◌}
 use Rattle.read_command.proofs.Commanding.{commands_left}
 use Rattle.read_command.proofs.commands.commands.Goals as goal
-
-pub commands_items-read-requires : goal.commands_items-read-requires
-commands_items-read-requires c = c.requires
-
-pub shape_of-out : goal.shape_of-out
-shape_of-out c = c.or_zeros.auto.out ∙ c.commands_items-read.auto.out
 
 pub returns : goal.returns
 returns c =
