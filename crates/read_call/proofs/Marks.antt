@@ -1,13 +1,12 @@
 -- Calls behind `&(` and `#(`.
 -- Assumes nothing.
 use mathlib.Core.Path.{◌≡◌, refl, sym, ◌∙◌}
-use mathlib.Core.Bool.{Bool, true, false, not, ◌&&◌, ◌||◌, and-false}
+use mathlib.Core.Bool.{Bool, true, false, ◌&&◌, and-false}
 use mathlib.Core.List.{List, [], ◌∷◌}
 use mathlib.Core.Option.{Option, none, some}
 use Prim.Native.Nat.{ℕ, ◌+◌, ◌≤◌, ◌<◌}
 use native.Mathlib.Omega.{arith}
-use lib.Dec.{ltb}
-use borrow.Author.Tests.{ne_eqb, ltb-true, ltb-false}
+use borrow.Author.Tests.{ne_eqb}
 use Rattle.macros.specs.Macro.{Mark, Move, pick, within, digit}
 use Rattle.macros.specs.Macro.Mark.{stack, counter}
 use Rattle.macros.specs.Macro.Call.{insert, set_to, set_increment, divide}
@@ -20,7 +19,7 @@ use Rattle.form_table.specs.Form.{call_items, move_code}
 use Rattle.read_scan.specs.Scan.{Calls, fault_of, wrong_call}
 use Rattle.read_number.specs.Number.{Counts, Kept}
 use Rattle.form_items.specs.Items.{Wrote}
-use Rattle.read_call.specs.Call.{Names, Letter, Naming, CalledFrom, NamedFrom, Sets, SetFrom, TagFrom, Asks, Starts, signs_in, mark_of, Named, no_name}
+use Rattle.read_call.specs.Call.{Names, Letter, Naming, CalledFrom, NamedFrom, Sets, SetFrom, TagFrom, Asks, Starts, signs_in, site_is, mark_of, Named, no_name}
 use Rattle.read_text.specs.Text.{Comes, StoreFrom}
 use Rattle.std.specs.Prelude.{Result, Ok, Option as Maybe, Some, None}
 use Rattle.read_scan.specs.Bytes.{Next, refused}
@@ -28,6 +27,8 @@ use Rattle.read_scan.specs.declared.ReadError.{ReadError}
 use Rattle.read_ends.specs.Ends.{Ended}
 use Rattle.read_scan.specs.declared.FileFault.{FileFault}
 use Rattle.read_number.specs.declared.Number.{Number}
+use Rattle.read_call.specs.declared.Site.{Site as CodeSite}
+use Rattle.read_call.specs.declared.Site.TheVariants.{BeforePattern, Replacement, Command}
 use Rattle.read_call.specs.declared.Tail.{Tail}
 use Rattle.read_call.specs.declared.Tail.TheVariants.{Text, Set, Insert}
 use Rattle.read_scan.proofs.Laws.{here_on}
@@ -36,6 +37,13 @@ use Rattle.read_text.proofs.Turns.{turn_text, call_next, here_into}
 use Rattle.read_text.proofs.Closing.{ends_from, ends_none, ends_wrong, ends_closed}
 use Rattle.read_call.proofs.Naming.{code_none, code_some}
 use Rattle.read_call.proofs.Ending.{number_read, no_number, some_same, some_none, joined, names_stack, names_counter}
+
+-- in a replacement alone a call may insert
+pub inserts_not : (x : CodeSite) → (x ≡ Replacement → ⊥) → false ≡ may_insert (site_is x)
+unfolding may_insert
+inserts_not BeforePattern h = refl
+inserts_not Replacement h = absurd (h refl)
+inserts_not Command h = refl
 
 -- BYTES BEHIND A LETTER
 
@@ -80,23 +88,17 @@ pub counter_unequal : (si : Site) (i c m : ℕ) (v : Move) → c ≡ 61 → m �
 unfolding call_byte pick is_sign
 counter_unequal si i c m v e f g = rw (e, code_some v (omega (arith, f))) refl
 
--- whether a `:` may stand, where x says whether a call may insert
-colon : (x : Bool) (m : ℕ) (v : Move) → m ≡ move_code v → (is_still v && x) ≡ not (ltb 0 m || not x)
-unfolding is_still
-colon x m v f = by (ltb 0 m) x refl
-  where
-    by : (y z : Bool) → ltb 0 m ≡ y → (is_still v && z) ≡ not (y || not z)
-    by true z e = rw (code_some v (let g = ltb-true 0 m e in omega (arith, f))) refl
-    by false true e = rw (code_none v (let g = ltb-false 0 m e in omega (arith, f))) refl
-    by false false e = and-false (is_still v)
+pub counter_colon : (si : Site) (i c m : ℕ) (v : Move) → c ≡ 58 → m ≡ move_code v → m ≤ 0 → may_insert si ≡ true → call_byte si (named counter i v) c ≡ into (divisor i none)
+unfolding call_byte pick is_still
+counter_colon si i c m v e f g h = rw (e, code_none v (omega (arith, f)), h) refl
 
-pub counter_colon : (si : Site) (x : Bool) (i c m : ℕ) (v : Move) → x ≡ may_insert si → c ≡ 58 → m ≡ move_code v → (ltb 0 m || not x) ≡ false → call_byte si (named counter i v) c ≡ into (divisor i none)
-unfolding call_byte pick
-counter_colon si x i c m v h e f g = rw (e, ← h, colon x m v f, g) refl
-
-pub counter_uncolon : (si : Site) (x : Bool) (i c m : ℕ) (v : Move) → x ≡ may_insert si → c ≡ 58 → m ≡ move_code v → (ltb 0 m || not x) ≡ true → call_byte si (named counter i v) c ≡ wrong
+pub counter_uncolon : (si : Site) (i c m : ℕ) (v : Move) → c ≡ 58 → m ≡ move_code v → 0 < m → call_byte si (named counter i v) c ≡ wrong
 unfolding call_byte pick is_sign
-counter_uncolon si x i c m v h e f g = rw (e, ← h, colon x m v f, g) refl
+counter_uncolon si i c m v e f g = rw (e, code_some v (omega (arith, f))) refl
+
+pub counter_undivided : (si : Site) (i c : ℕ) (v : Move) → c ≡ 58 → may_insert si ≡ false → call_byte si (named counter i v) c ≡ wrong
+unfolding call_byte pick is_sign
+counter_undivided si i c v e h = rw (e, h, and-false (is_still v)) refl
 
 pub counter_uninserted : (si : Site) (i c : ℕ) (v : Move) → c ≡ 41 → may_insert si ≡ false → call_byte si (named counter i v) c ≡ wrong
 unfolding call_byte pick is_sign

@@ -33,10 +33,7 @@ fn takes_sign(b: u8, signs: bool) -> bool
 fn sign_code(b: u8) -> u8
     ensures { result ≡ sign_code b }
 {
-    if b == b'+' {
-        return PLUS;
-    }
-    MINUS
+    if b == b'+' { PLUS } else { MINUS }
 }
 
 // A letter behind the sign b.
@@ -152,11 +149,7 @@ fn tag_call(
 fn may_insert(site: Site) -> bool
     ensures { result ≡ may_insert (site_is site) }
 {
-    match site {
-        Site::BeforePattern => false,
-        Site::Replacement => true,
-        Site::Command => false,
-    }
+    matches!(site, Site::Replacement)
 }
 
 // Whether it may store a tag: not before a pattern (02, N2).
@@ -177,22 +170,12 @@ fn stack_tail(c: u8, m: u8, site: Site) -> Option<Tail>
     requires { m ≤ 4 }
     ensures { Asks (mark_of false) (site_is site) (signs_in false (site_is site)) c m result }
 {
-    if c == b':' {
-        return Some(Tail::Text);
+    match c {
+        b':' => Some(Tail::Text),
+        b'=' if m == 0 => Some(Tail::Set(SET_POINTER, MOST_ENTRIES)),
+        b')' if may_insert(site) => Some(Tail::Insert(INSERT_ENTRY + m)),
+        _ => None,
     }
-    if c == b'=' {
-        if 0 < m {
-            return None;
-        }
-        return Some(Tail::Set(SET_POINTER, MOST_ENTRIES));
-    }
-    if c != b')' {
-        return None;
-    }
-    if may_insert(site) {
-        return Some(Tail::Insert(INSERT_ENTRY + m));
-    }
-    None
 }
 
 // What the byte c behind a letter with the move m asks for in `#(..)`.
@@ -201,31 +184,13 @@ fn counter_tail(c: u8, m: u8, site: Site) -> Option<Tail>
     ensures { Asks (mark_of true) (site_is site) (signs_in true (site_is site)) c m result }
 {
     let inserts = may_insert(site);
-    if c == b',' {
-        if 0 < m {
-            return None;
-        }
-        return Some(Tail::Set(SET_INCREMENT, MOST_COUNTER));
+    match c {
+        b',' if m == 0 => Some(Tail::Set(SET_INCREMENT, MOST_COUNTER)),
+        b'=' if m == 0 => Some(Tail::Set(SET_VALUE, MOST_COUNTER)),
+        b':' if m == 0 && inserts => Some(Tail::Set(DIVIDE, MOST_COUNTER)),
+        b')' if inserts => Some(Tail::Insert(INSERT_VALUE + m)),
+        _ => None,
     }
-    if c == b'=' {
-        if 0 < m {
-            return None;
-        }
-        return Some(Tail::Set(SET_VALUE, MOST_COUNTER));
-    }
-    if c == b':' {
-        if (0 < m) | !inserts {
-            return None;
-        }
-        return Some(Tail::Set(DIVIDE, MOST_COUNTER));
-    }
-    if c != b')' {
-        return None;
-    }
-    if inserts {
-        return Some(Tail::Insert(INSERT_VALUE + m));
-    }
-    None
 }
 
 // What the byte c behind a letter with the move m asks for, in `&(..)` or, if counter, in `#(..)`.
@@ -234,19 +199,17 @@ fn tail(c: u8, m: u8, counter: bool, site: Site) -> Option<Tail>
     ensures { Asks (mark_of counter) (site_is site) (signs_in counter (site_is site)) c m result }
 {
     if counter {
-        return counter_tail(c, m, site);
+        counter_tail(c, m, site)
+    } else {
+        stack_tail(c, m, site)
     }
-    stack_tail(c, m, site)
 }
 
 // Whether a letter may have a sign: a counter's only where it may insert.
 fn signs_in(counter: bool, site: Site) -> bool
     ensures { result ≡ signs_in counter (site_is site) }
 {
-    if counter {
-        return may_insert(site);
-    }
-    true
+    !counter || may_insert(site)
 }
 
 // A call from its letter on, whose first byte is b.

@@ -1,15 +1,11 @@
-use borrow.Author.Rules.{rules}
+use mathlib.Core.Path.{refl}
 use Rattle.macros.specs.Read.{may_insert}
+use Rattle.read_call.proofs.Marks.{inserts_not}
 use Rattle.read_call.proofs.calls.may_insert.Goals as goal
-
-pub returns-in-BeforePattern : goal.returns-in-BeforePattern
-unfolding may_insert
-returns-in-BeforePattern c = search rules
 
 pub returns-in-Replacement : goal.returns-in-Replacement
 unfolding may_insert
-returns-in-Replacement c = search rules
+returns-in-Replacement c = rw c.in-Replacement.is refl
 
-pub returns-in-Command : goal.returns-in-Command
-unfolding may_insert
-returns-in-Command c = search rules
+pub returns-in_default : goal.returns-in_default
+returns-in_default c = inserts_not _ c.in_default.not-Replacement
