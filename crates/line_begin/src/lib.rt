@@ -6,20 +6,20 @@ ghost use Rattle.line_begin.specs.Beginning.{PrepareLent, MacroPrepares, PassLen
 use pass_moment::Passed;
 use pass_one::pass;
 use pass_replace::calls_act;
-use refusals::Outcome;
+use refusals::WorkError;
 
 // A macro's byte is 0 until its first pass on the line begins, and then this.
 const BEGUN: u8 = 2;
 
 // "It runs when the macro's first pass on the line begins": the calls before the pattern of the macro k, and at no later pass.
-fn prepare(slot: &[u8], state: &mut [u8], flags: &mut [u8], k: usize) -> Outcome
+fn prepare(slot: &[u8], state: &mut [u8], flags: &mut [u8], k: usize) -> Result<usize, WorkError>
     requires { PrepareLent slot.now state.old flags.old k }
     ensures { MacroPrepares slot.now state.old state.new flags.old flags.new k result }
 {
     let before = flags[k];
     flags[k] = BEGUN;
     if before != 0 {
-        return Outcome::Made(0);
+        return Ok(0);
     }
     calls_act(slot, state)
 }
@@ -34,13 +34,12 @@ pub fn run_pass(
     new: &mut [u8],
     flags: &mut [u8],
     k: usize,
-) -> Passed
+) -> Result<Passed, WorkError>
     requires { PassLent slot.now kinds.now present.now line.now state.old new.old flags.old k }
     ensures { PassRuns slot.now line.now (record { state = state.entry.now; new = new.old; flags = flags.old }) (record { state = state.exit.now; new = new.new; flags = flags.new }) k result }
 {
-    let prepared = prepare(slot, state, flags, k);
-    let Outcome::Refused(f, _) = prepared else {
-        return pass(slot, kinds, present, line, state, new);
-    };
-    Passed::Refused(f, 0)
+    if let Err(WorkError { fault, .. }) = prepare(slot, state, flags, k) {
+        return Err(WorkError { fault, size: 0 });
+    }
+    pass(slot, kinds, present, line, state, new)
 }
