@@ -4,11 +4,10 @@ use Prim.Native.Nat.{ℕ, suc, ◌+◌, ◌-◌, ◌≤◌, ◌<◌}
 use mathlib.Core.Path.{◌≡◌, refl, ap, ◌∙◌}
 use mathlib.Core.Bool.{Bool, true, false, not, ◌&&◌, ◌||◌, and-true, and-false}
 use mathlib.Core.List.{List, [], ◌∷◌}
-use native.Mathlib.Numerals.{add-one}
 use native.Mathlib.Omega.{arith}
 use borrow.Author.Tests.{eq-eqb, ne_eqb}
 use lib.Dec.{eqb}
-use lib.ListN.{length, get_or, drop, length-drop, drop_of_length-le}
+use lib.ListN.{length, get_or, drop, length-drop}
 use lib.Seq.{drop-cons}
 use Rattle.std.specs.List.{filter, list_all}
 use Rattle.macros.specs.Macro.{pick}
@@ -16,38 +15,6 @@ use Rattle.words.specs.Pattern.{dash, allowed, is_empty, all_allowed, begins_wit
 use Rattle.words.specs.Cover.{somewhere, byte_then, covers}
 use Rattle.words.proofs.CoverLaws.{covers_dash, covers_byte}
 use Rattle.word_find.specs.Letters.{letter, letters}
-
--- ALLOWED BYTES
-
-module _ (t : List ℕ) (i : ℕ) (h : i < length t) where
-  allowed_cons : (x : Bool) → allowed (get_or t i 0) ≡ x → all_allowed (drop i t) ≡ elim x [ true ↦ all_allowed (drop (suc i) t) | false ↦ false ]
-  unfolding all_allowed
-  allowed_cons x e = ap all_allowed (drop-cons t i 0 h) ∙ ap (λ (y : Bool). elim y [ true ↦ all_allowed (drop (suc i) t) | false ↦ false ]) e
-
-  pub allowed_not : allowed (get_or t i 0) ≡ false → all_allowed (drop i t) ≡ false
-  allowed_not e = allowed_cons false e
-
-  pub allowed_next : allowed (get_or t i 0) ≡ true → all_allowed (drop i t) ≡ all_allowed (drop (i + 1) t)
-  allowed_next e = rw (add-one i) (allowed_cons true e)
-
-  pub letters_next : letters (drop i t) ≡ letter (get_or t i 0) + letters (drop (i + 1) t)
-  unfolding letters
-  letters_next = rw (add-one i) (ap letters (drop-cons t i 0 h))
-
-pub allowed_all : (t : List ℕ) (i : ℕ) → length t ≤ i → all_allowed (drop i t) ≡ true
-unfolding all_allowed
-allowed_all t i h = ap all_allowed (drop_of_length-le t h)
-
-pub letters_none : (t : List ℕ) (i : ℕ) → length t ≤ i → letters (drop i t) ≡ 0
-unfolding letters
-letters_none t i h = ap letters (drop_of_length-le t h)
-
-pub letter_small : (c : ℕ) → letter c ≤ 1
-unfolding letter pick
-letter_small c = by (eqb c dash) where
-  by : (x : Bool) → pick x 0 1 ≤ 1
-  by true = omega arith
-  by false = omega arith
 
 -- BY THE LIBRARY'S FILTER AND TESTS
 

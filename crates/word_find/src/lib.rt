@@ -5,8 +5,8 @@ mod cover;
 mod form;
 mod walk;
 
-ghost use Rattle.std.specs.Prelude.{◌≡◌};
-ghost use Rattle.words.specs.Look.{look_up};
+ghost use Rattle.std.specs.Prelude.{◌≡◌, Err};
+ghost use Rattle.words.specs.Look.{look_up, looked_number};
 ghost use Rattle.word_find.specs.Contract.{looked_of};
 
 use form::is_pattern;
@@ -27,6 +27,19 @@ pub enum WordFault {
     LineTooLong,
     BadByte,
     BadPattern,
+}
+
+impl From<WordFault> for u32 {
+    ghost from_gives = { λ f n. n ≡ looked_number (looked_of (Err f)) };
+
+    #[tactic(auto, unfolding(words::specs::Look::looked_number, words::specs::Refusal::word_number, macros::specs::Refusals::line_number))]
+    fn from(f: WordFault) -> u32 {
+        match f {
+            WordFault::LineTooLong => 21,
+            WordFault::BadByte => 22,
+            WordFault::BadPattern => 41,
+        }
+    }
 }
 
 // How many words are covered, and the place of the first.
