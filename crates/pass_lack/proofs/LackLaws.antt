@@ -3,8 +3,8 @@
 use Prim.Native.Nat.{ℕ, zero, suc, ◌+◌, ◌≤◌, ◌<◌}
 use mathlib.Core.Path.{◌≡◌, refl, sym, ap, ◌∙◌, subst}
 use mathlib.Core.Bool.{true, false, false≢true}
-use mathlib.Core.Logic.{◌⊎◌, inl, inr}
-use mathlib.Core.List.{List, [], ◌∷◌, ◌++◌, append-nil}
+use mathlib.Core.Logic.{inl, inr}
+use mathlib.Core.List.{List, [], ◌∷◌, ◌++◌}
 use mathlib.Core.Option.{Option, none, some}
 use native.Mathlib.Numerals.{add-one}
 use native.Mathlib.Omega.{arith}
@@ -26,9 +26,7 @@ use Rattle.lines.specs.Matching.{span, byte_fits, fits, width, Copies, Allowed, 
 use Rattle.lines.specs.Choosing.{chosen}
 use Rattle.lines.specs.Choice.{Chosen}
 use Rattle.lines.proofs.ChoiceLaws.{choice}
-use Rattle.pass_marks.specs.Marks.{cleared}
 use Rattle.pass_lack.specs.Lacking.{flagged, flags_of, Absent, SomeAbsent}
-use Rattle.pass_lack.proofs.PairLaws.{cut}
 
 -- THE FLAGS
 
@@ -58,9 +56,6 @@ flags_size t = flagged_size t (replicate 256 0) ∙ length-replicate {A = ℕ} 2
 
 -- THE CODE'S LOOPS
 
-pub flags_none : (old present : List ℕ) → length old ≡ 256 → present ≡ cleared old 256 → present ≡ replicate 256 0
-flags_none old present l e = e ∙ ap (λ (x : List ℕ). replicate 256 0 ++ x) (drop_of_length-le old {i = 256} (omega arith)) ∙ append-nil (replicate 256 0)
-
 pub flag_more : (line present : List ℕ) (i : ℕ) → i < length line → flagged present (drop i line) ≡ flagged (set present (get_or line i 0) 1) (drop (i + 1) line)
 unfolding flagged
 flag_more line present i h = ap (flagged present) (drop-cons line i 0 h) ∙ ap (λ (k : ℕ). flagged (set present (get_or line i 0) 1) (drop k line)) (sym (add-one i))
@@ -69,22 +64,27 @@ pub flag_end : (line present : List ℕ) (i : ℕ) → length line ≤ i → fla
 unfolding flagged
 flag_end line present i h = ap (flagged present) (drop_of_length-le line {i = i} h)
 
-module _ (flags items : List ℕ) (at : ℕ) (h : at + 1 < length items) where
-  pub absent_here : Absent flags (get_or items at 0) (get_or items (at + 1) 0) → SomeAbsent flags (drop at items)
-  absent_here a = subst (SomeAbsent flags) (sym (cut items at h)) (inl a)
+-- the first of some items, and those behind it
+pub absent_here : (flags l : List ℕ) → 2 ≤ length l → Absent flags (get_or l 0 0) (get_or l 1 0) → SomeAbsent flags l
+absent_here flags [] h a = absurd (omega arith)
+absent_here flags (c ∷ []) h a = absurd (omega arith)
+absent_here flags (c ∷ b ∷ l) h a = inl a
 
-  pub absent_next : SomeAbsent flags (drop (at + 2) items) → SomeAbsent flags (drop at items)
-  absent_next a = subst (SomeAbsent flags) (sym (cut items at h)) (inr a)
+pub absent_next : (flags l : List ℕ) → 2 ≤ length l → SomeAbsent flags (drop 2 l) → SomeAbsent flags l
+absent_next flags [] h a = absurd (omega arith)
+absent_next flags (c ∷ []) h a = absurd (omega arith)
+absent_next flags (c ∷ b ∷ l) h a = inr a
 
-  pub absent_past : (Absent flags (get_or items at 0) (get_or items (at + 1) 0) → ⊥) → SomeAbsent flags (drop at items) → SomeAbsent flags (drop (at + 2) items)
-  absent_past n a = by (subst (SomeAbsent flags) (cut items at h) a)
-    where
-      by : Absent flags (get_or items at 0) (get_or items (at + 1) 0) ⊎ SomeAbsent flags (drop (at + 2) items) → SomeAbsent flags (drop (at + 2) items)
-      by (inl x) = absurd (n x)
-      by (inr x) = x
+pub absent_past : (flags l : List ℕ) → (Absent flags (get_or l 0 0) (get_or l 1 0) → ⊥) → SomeAbsent flags l → SomeAbsent flags (drop 2 l)
+absent_past flags [] n a = absurd a
+absent_past flags (c ∷ []) n a = absurd a
+absent_past flags (c ∷ b ∷ l) n (inl a) = absurd (n a)
+absent_past flags (c ∷ b ∷ l) n (inr a) = a
 
-pub absent_over : (flags items : List ℕ) (at : ℕ) → length items ≤ at → SomeAbsent flags (drop at items) → ⊥
-absent_over flags items at h a = subst (SomeAbsent flags) (drop_of_length-le items {i = at} h) a
+pub absent_over : (flags l : List ℕ) → length l < 2 → SomeAbsent flags l → ⊥
+absent_over flags [] h a = a
+absent_over flags (c ∷ []) h a = a
+absent_over flags (c ∷ b ∷ l) h a = omega arith
 
 -- THE DIVISIONS
 
