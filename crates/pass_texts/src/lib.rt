@@ -17,6 +17,7 @@ use pass_steps::{Span, Text, part};
 use refusals::{WorkError, WorkFault};
 
 // A text joins the new line, which has size bytes. 32: "the new line's 1,055th byte".
+#[tactic(auto, using(crate::proofs::Putting::put_refused, crate::proofs::Putting::put_made))]
 fn put(out: &mut [u8], size: usize, bytes: &[u8]) -> Result<usize, WorkError>
     requires { Room out.old size }
     ensures { Inserts bytes.now out.old size out.new result }
