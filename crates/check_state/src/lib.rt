@@ -16,10 +16,8 @@ fn pointers_fit(pointers: &[u8]) -> bool
     ensures { result ≡ pointers_check pointers.now }
 {
     let mut ok = true;
-    let mut i = 0;
-    while i < pointers.len() {
-        ok = ok & (1 <= pointers[i]) & (pointers[i] <= 20);
-        i += 1;
+    for p in pointers {
+        ok = ok & (1 <= *p) & (*p <= 20);
     }
     ok
 }
@@ -30,11 +28,9 @@ fn numbers_fit(numbers: &[u8]) -> bool
     ensures { result ≡ blocks_check number_check 4 52 numbers.now }
 {
     let mut ok = true;
-    let mut i = 0;
-    while i < 52 {
+    for i in 0..52 {
         let n = number_at(numbers, 4 * i);
         ok = ok & (1 <= n) & (n <= 999999999);
-        i += 1;
     }
     ok
 }
@@ -44,10 +40,8 @@ fn entry_fits(entry: &[u8]) -> bool
     ensures { result ≡ entry_check entry.now }
 {
     let mut ok = true;
-    let mut i = 1;
-    while i < entry.len() {
+    for i in 1..entry.len() {
         ok = ok & ((entry[i - 1] != 0) | (entry[i] == 0));
-        i += 1;
     }
     ok
 }
@@ -58,11 +52,9 @@ fn each_fits(stack: &[u8]) -> bool
     ensures { result ≡ blocks_check entry_check most_entry_bytes most_entries stack.now }
 {
     let mut ok = true;
-    let mut i = 0;
-    while i < 20 {
+    for i in 0..20 {
         let at = ENTRY_BYTES * i;
         ok = ok & entry_fits(&stack[at..at + ENTRY_BYTES]);
-        i += 1;
     }
     ok
 }
@@ -84,11 +76,9 @@ fn entries_fit(entries: &[u8]) -> bool
     ensures { result ≡ blocks_check entry_check most_entry_bytes entry_count entries.now }
 {
     let mut ok = true;
-    let mut i = 0;
-    while i < 26 {
+    for i in 0..26 {
         let at = STACK_BYTES * i;
         ok = ok & stack_fits(&entries[at..at + STACK_BYTES]);
-        i += 1;
     }
     ok
 }

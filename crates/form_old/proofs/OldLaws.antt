@@ -1,5 +1,5 @@
 -- The laws of states of the old size.
-use Prim.Native.Nat.{ℕ, zero, suc, ◌+◌, ◌*◌, ◌≤◌}
+use Prim.Native.Nat.{ℕ, zero, suc, ◌*◌}
 use mathlib.Core.Path.{◌≡◌, refl, sym, ap, ◌∙◌}
 use mathlib.Core.Logic.{◌↔◌}
 use mathlib.Core.Bool.{true}
@@ -19,7 +19,7 @@ use Rattle.form_state.proofs.Parts as parts
 use Rattle.form_state.proofs.Decode.{entries_count, entries_all, one_state_form, state_check_exact}
 use Rattle.form_old.specs.Old.{old_state_bytes, HoldsOld, widened_entries, widened_bytes, narrowed_entries, narrowed_bytes, short_check, short_entries}
 use Rattle.form_old.specs.OldLaws.{OldFresh, OldSize, OldOneForm, WidensForm, OldExact, NarrowsForm, ShortExact}
-use Rattle.form_old.proofs.Entries.{Few, widened_each, narrowed_each, back, widened_size, small_entries, all_few, few_all, widened_short}
+use Rattle.form_old.proofs.Entries.{Few, widened_each, narrowed_each, back, small_entries, all_few, few_all, widened_short}
 
 -- the front of a form, which is the same in both sizes
 abbrev front : State → List ℕ

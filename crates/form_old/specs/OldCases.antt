@@ -1,5 +1,5 @@
 -- Entries of both sizes, computed (02, N6): texts of 0, 1, 50, 51 and 100 bytes.
-use Rattle.std.specs.Prelude.{◌≡◌, refl, ℕ, ◌-◌, true, false, List, [], ◌∷◌, ◌++◌, length, replicate}
+use Rattle.std.specs.Prelude.{◌≡◌, refl, ℕ, true, false, List, [], ◌∷◌, ◌++◌, replicate}
 use Rattle.form_state.specs.Form.{entry_form_by, entries_form_by}
 use Rattle.form_state.specs.Check.{blocks_check}
 use Rattle.form_old.specs.Refusal.{width_number}

@@ -20,24 +20,12 @@ const OLD_ENTRY_BYTES: usize = 50;
 // The entries of all stacks.
 const ENTRIES: usize = 520;
 
-// The bytes of a text from a place on.
-fn copy(out: &mut [u8], at: usize, text: &[u8])
-    requires { at + length text.now ≤ length out.old }
-    ensures { out.new ≡ replaced out.old at text.now }
-{
-    let mut i = 0;
-    while i < text.len() {
-        out[at + i] = text[i];
-        i += 1;
-    }
-}
-
 // An entry of the old size, and zeros behind it up to the new size.
 fn put_wide(state: &mut [u8], at: usize, entry: &[u8])
     requires { (length entry.now ≡ old_entry_bytes) × (at + most_entry_bytes ≤ length state.old) }
     ensures { state.new ≡ replaced state.old at (widened_entry entry.now) }
 {
-    copy(state, at, entry);
+    state[at..at + OLD_ENTRY_BYTES].copy_from_slice(entry);
     clear(state, at + OLD_ENTRY_BYTES, ENTRY_BYTES - OLD_ENTRY_BYTES);
 }
 
@@ -46,15 +34,13 @@ fn widen_entries(old: &[u8], state: &mut [u8])
     requires { (length old.now ≡ old_state_bytes) × (length state.old ≡ state_bytes) }
     ensures { state.new ≡ replaced state.old entries_from (entries_widened old.now) }
 {
-    let mut i = 0;
-    while i < ENTRIES {
+    for i in 0..ENTRIES {
         let from = ENTRIES_AT + OLD_ENTRY_BYTES * i;
         put_wide(
             state,
             ENTRIES_AT + ENTRY_BYTES * i,
             &old[from..from + OLD_ENTRY_BYTES],
         );
-        i += 1;
     }
 }
 
@@ -63,7 +49,7 @@ pub fn widen(old: &[u8], state: &mut [u8])
     requires { (length old.now ≡ old_state_bytes) × (length state.old ≡ state_bytes) }
     ensures { state.new ≡ widened_bytes old.now }
 {
-    copy(state, 0, &old[..ENTRIES_AT]);
+    state[..ENTRIES_AT].copy_from_slice(&old[..ENTRIES_AT]);
     widen_entries(old, state);
 }
 
@@ -72,15 +58,10 @@ fn narrow_entries(state: &[u8], old: &mut [u8])
     requires { (length state.now ≡ state_bytes) × (length old.old ≡ old_state_bytes) }
     ensures { old.new ≡ replaced old.old entries_from (entries_narrowed state.now) }
 {
-    let mut i = 0;
-    while i < ENTRIES {
+    for i in 0..ENTRIES {
         let from = ENTRIES_AT + ENTRY_BYTES * i;
-        copy(
-            old,
-            ENTRIES_AT + OLD_ENTRY_BYTES * i,
-            &state[from..from + OLD_ENTRY_BYTES],
-        );
-        i += 1;
+        let to = ENTRIES_AT + OLD_ENTRY_BYTES * i;
+        old[to..to + OLD_ENTRY_BYTES].copy_from_slice(&state[from..from + OLD_ENTRY_BYTES]);
     }
 }
 
@@ -89,7 +70,7 @@ pub fn narrow(state: &[u8], old: &mut [u8])
     requires { (length state.now ≡ state_bytes) × (length old.old ≡ old_state_bytes) }
     ensures { old.new ≡ narrowed_bytes state.now }
 {
-    copy(old, 0, &state[..ENTRIES_AT]);
+    old[..ENTRIES_AT].copy_from_slice(&state[..ENTRIES_AT]);
     narrow_entries(state, old);
 }
 
@@ -99,10 +80,8 @@ pub fn is_short(state: &[u8]) -> bool
     ensures { result ≡ short_entries state.now }
 {
     let mut ok = true;
-    let mut i = 0;
-    while i < ENTRIES {
+    for i in 0..ENTRIES {
         ok = ok & (state[ENTRIES_AT + OLD_ENTRY_BYTES + ENTRY_BYTES * i] == 0);
-        i += 1;
     }
     ok
 }

@@ -6,7 +6,7 @@ use mathlib.Core.List.{List, [], ◌∷◌}
 use native.Mathlib.Nat.{add_comm, suc-add, zero-add, mul-suc, mul-zero}
 use native.Mathlib.Omega.{arith}
 use lib.Dec.{eqb}
-use lib.ListN.{length, take, drop}
+use lib.ListN.{take, drop}
 use lib.Seq.{drop-drop, take-nil, take-take}
 use Rattle.macros.proofs.Tests.{and_left, and_right}
 use Rattle.form_bytes.specs.Zeros.{all_zero}

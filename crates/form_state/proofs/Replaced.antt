@@ -1,12 +1,13 @@
 -- A part of the bytes replaced: beside other bytes, whole, part behind part, and as the stores that make it.
-use Prim.Native.Nat.{ℕ, ◌+◌, ◌-◌, ◌≤◌, ◌<◌}
-use mathlib.Core.Path.{◌≡◌, refl, sym, ap, ◌∙◌}
+use Prim.Native.Nat.{ℕ, ◌+◌, ◌≤◌, ◌<◌}
+use mathlib.Core.Path.{◌≡◌, sym, ap, ◌∙◌}
 use mathlib.Core.List.{List, [], ◌∷◌, ◌++◌, append_assoc, append-nil}
 use native.Mathlib.Nat.{add-zero, add_assoc, zero-add}
 use native.Mathlib.Numerals.{add-one}
 use native.Mathlib.Omega.{arith}
-use lib.ListN.{length, get_or, set, take, drop, replicate, length-append, length-drop, length-replicate, replicate-append-replicate, take-append-drop}
+use lib.ListN.{length, get_or, set, take, drop, replicate, length-append, length-drop, length-replicate, take-append-drop}
 use lib.Seq.{drop-length, drop-drop, take-append-add, drop-append-add, take-append-le, drop-append-le, length-take-le, set_split, take-suc, take_all}
+use borrow.Rule.Slice.PartMut.{put_mid}
 use Rattle.form_state.specs.Access.{replaced}
 
 -- in the first of two lists
@@ -58,24 +59,21 @@ pub set_replaced : (b : List ℕ) (p x : ℕ) → p < length b → set b p x ≡
 unfolding replaced
 set_replaced b p x h = rw (add-one p) (set_split b p x h)
 
--- the next of a run of the same
-pub fill_more : (b s : List ℕ) (p i x : ℕ) → p ≤ i → i < length b → s ≡ replaced b p (replicate (i - p) x) → set s i x ≡ replaced b p (replicate (i + 1 - p) x)
-fill_more b s p i x low h e =
-    let v : List ℕ = replicate (i - p) x in
-    let lv : length v ≡ i - p = length-replicate (i - p) x in
-    let on : i ≡ p + length v = omega arith in
-    let long : length (replaced b p v) ≡ length b = length_replaced b p v (omega arith) in
-    let more : i - p + 1 ≡ i + 1 - p = omega arith in
-    ap (λ (t : List ℕ). set t i x) e
-    ∙ set_replaced (replaced b p v) i x (omega arith)
-    ∙ replaced_behind b p i v (x ∷ []) on (omega arith)
-    ∙ ap (replaced b p) (replicate-append-replicate (i - p) 1 x ∙ ap (λ (k : ℕ). replicate k x) more)
+-- a part copied
+pub replaced_mid : (b s v : List ℕ) (p k : ℕ) → s ≡ v → length v ≡ k → put_mid p k b s ≡ replaced b p v
+unfolding replaced
+replaced_mid b s v p k e h = rw (e, ← h, drop-drop (length v) p b)
 
-pub fill_start : (b : List ℕ) (p x : ℕ) → b ≡ replaced b p (replicate (p - p) x)
-fill_start b p x = let none : p - p ≡ 0 = omega arith in rw none (sym (replaced_none b p))
+-- the front copied
+pub replaced_front : (b s v : List ℕ) (k : ℕ) → s ≡ v → length v ≡ k → s ++ drop k b ≡ replaced b 0 v
+unfolding replaced
+replaced_front b s v k e h = rw (e, zero-add (length v), h)
 
-pub fill_end : (b s : List ℕ) (p i n x : ℕ) → i ≡ n → s ≡ replaced b p (replicate (i - p) x) → s ≡ replaced b p (replicate (n - p) x)
-fill_end b s p i n x e h = rw (← e) h
+-- a part filled with one byte
+pub replaced_fill : (b s : List ℕ) (p k n x : ℕ) → k ≡ n → p + n ≤ length b → s ≡ replicate (length (take k (drop p b))) x → put_mid p k b s ≡ replaced b p (replicate n x)
+replaced_fill b s p k n x e h f =
+    let g : length (take k (drop p b)) ≡ n = length-take-le k (drop p b) (simp length-drop (omega arith)) ∙ e in
+    replaced_mid b s (replicate n x) p k (f ∙ ap (λ (j : ℕ). replicate j x) g) (length-replicate n x ∙ sym e)
 
 -- the next byte of a text
 pub text_more : (b s t : List ℕ) (p i : ℕ) → i < length t → p + length t ≤ length b → s ≡ replaced b p (take i t) → set s (p + i) (get_or t i 0) ≡ replaced b p (take (i + 1) t)

@@ -3,11 +3,11 @@ use Prim.Native.Nat.{ℕ, zero, suc, ◌+◌, ◌-◌, ◌*◌, ◌≤◌, ◌<�
 use mathlib.Core.Path.{◌≡◌, refl, sym, ap, ◌∙◌}
 use mathlib.Core.Bool.{Bool, true, false, not, ◌&&◌, ◌||◌}
 use mathlib.Core.List.{List, [], ◌∷◌}
-use native.Mathlib.Nat.{zero-add, mul-suc}
+use native.Mathlib.Nat.{mul-suc}
 use native.Mathlib.Numerals.{add-one}
 use native.Mathlib.Omega.{arith}
 use lib.Dec.{leb, eqb}
-use lib.ListN.{length, get_or, take, drop, length-drop, drop_of_length-le}
+use lib.ListN.{length, get_or, take, drop, length-drop}
 use lib.Seq.{drop-cons, drop-drop, drop-length, take_all}
 use Rattle.form_state.specs.Form.{state_bytes, entries_from, entry_count}
 use Rattle.macros.specs.Bounds.{most_entry_bytes}
@@ -113,35 +113,18 @@ passes l p n e h hp hn he =
     ∙ ap (λ (t : Bool). leb (get_or l 0 0) 1 && (leb (get_or l 1 0) 1 && (pointers_check (take 26 (drop 2 l)) && (blocks_check number_check 4 52 (take 208 (drop 28 l)) && t))))
     (he ∙ ap (blocks_check entry_check most_entry_bytes entry_count) all))
 
-nothing : (l : List ℕ) → text_length (0 ∷ l) ≡ 0
-unfolding text_length
-nothing l = refl
-
-empty : text_length [] ≡ 0
-unfolding text_length
-empty = refl
-
-counted : (x : ℕ) (l : List ℕ) → (x ≡ 0 → ⊥) → text_length (x ∷ l) ≡ suc (text_length l)
-unfolding text_length
-counted zero l z = absurd (z refl)
-counted (suc x) l z = refl
-
 -- the text in front of the first 0
-pub text_start : (l : List ℕ) → 0 + text_length (drop 0 l) ≡ text_length l
-text_start l = zero-add (text_length l)
 
-module _ (l : List ℕ) (i n : ℕ) where
-  pub text_ends : i < length l → get_or l i 0 ≡ 0 → i + text_length (drop i l) ≡ n → i ≡ n
-  text_ends h z e =
-      let cut : drop i l ≡ 0 ∷ drop (suc i) l = drop-cons l i 0 h ∙ ap (λ (x : ℕ). x ∷ drop (suc i) l) z in
-      let none : text_length (drop i l) ≡ 0 = ap text_length cut ∙ nothing (drop (suc i) l) in
-      omega arith
+pub text_none : text_length [] ≡ 0
+unfolding text_length
+text_none = refl
 
-  pub text_step_lem : i < length l → (get_or l i 0 ≡ 0 → ⊥) → i + text_length (drop i l) ≡ n → i + 1 + text_length (drop (i + 1) l) ≡ n
-  text_step_lem h z e =
-      let one : text_length (drop i l) ≡ suc (text_length (drop (suc i) l)) = ap text_length (drop-cons l i 0 h) ∙ counted (get_or l i 0) (drop (suc i) l) z in
-      let on : text_length (drop (i + 1) l) ≡ text_length (drop (suc i) l) = ap (λ (k : ℕ). text_length (drop k l)) (add-one i) in
-      omega arith
+pub text_hit : (x : ℕ) (l : List ℕ) → x ≡ 0 → text_length (x ∷ l) ≡ 0
+unfolding text_length
+text_hit zero l z = refl
+text_hit (suc x) l z = absurd (omega arith)
 
-  pub text_all : length l ≤ i → i + text_length (drop i l) ≡ n → i ≡ n
-  text_all h e = let none : text_length (drop i l) ≡ 0 = ap text_length (drop_of_length-le l h) ∙ empty in omega arith
+pub text_miss : (x : ℕ) (l : List ℕ) → (x ≡ 0 → ⊥) → text_length (x ∷ l) ≡ text_length l + 1
+unfolding text_length
+text_miss zero l z = absurd (z refl)
+text_miss (suc x) l z = sym (add-one (text_length l))

@@ -58,14 +58,7 @@ pub fn entry_at(state: &[u8], i: u8) -> usize
 fn text_length(entry: &[u8]) -> usize
     ensures { result ≡ text_length entry.now }
 {
-    let mut i = 0;
-    while i < entry.len() {
-        if entry[i] == 0 {
-            return i;
-        }
-        i += 1;
-    }
-    i
+    entry.iter().position(|b| *b == 0).unwrap_or(entry.len())
 }
 
 // Part 4: the current entry, "handed out as a part .. of the stack memory".

@@ -11,9 +11,6 @@ use Rattle.check_state.proofs.each_fits.Goals as goal
 pub loop-i-init : goal.loop-i-init
 loop-i-init c = (omega arith, blocks_start entry_check most_entry_bytes 20 c.args.stack.now)
 
-pub loop-i-smaller : goal.loop-i-smaller
-loop-i-smaller c = omega (arith, c.loop-i-test.true, c.loop-i.invariant)
-
 pub loop-i-preserved : goal.loop-i-preserved
 loop-i-preserved c =
     let l = c.args.stack.now in

@@ -8,6 +8,3 @@ use Rattle.check_state.proofs.each_fits.Given as goal
 
 abbrev pub invariant-loop-i : goal.invariant-loop-i
 invariant-loop-i l = (l.i ≤ 20) × (l.ok && blocks_check entry_check most_entry_bytes (20 - l.i) (drop (most_entry_bytes * l.i) l.stack) ≡ blocks_check entry_check most_entry_bytes 20 l.stack)
-
-abbrev pub decreases-loop-i : goal.decreases-loop-i
-decreases-loop-i l = 20 - l.i

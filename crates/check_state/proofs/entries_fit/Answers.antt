@@ -21,9 +21,6 @@ stack_fits-ok-requires c =
     let whole : stack_bytes * i + stack_bytes - stack_bytes * i ≡ stack_bytes = omega arith in
     rw whole (length-take-le stack_bytes (drop (stack_bytes * i) l) (omega (arith, length-drop (stack_bytes * i) l)))
 
-pub loop-i-smaller : goal.loop-i-smaller
-loop-i-smaller c = omega (arith, c.loop-i-test.true, c.loop-i.invariant)
-
 pub loop-i-preserved : goal.loop-i-preserved
 loop-i-preserved c =
     let l = c.args.entries.now in

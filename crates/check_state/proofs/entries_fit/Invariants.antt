@@ -9,6 +9,3 @@ use Rattle.check_state.proofs.entries_fit.Given as goal
 
 abbrev pub invariant-loop-i : goal.invariant-loop-i
 invariant-loop-i l = (l.i ≤ 26) × (l.ok && blocks_check (blocks_check entry_check most_entry_bytes 20) stack_bytes (26 - l.i) (drop (stack_bytes * l.i) l.entries) ≡ blocks_check (blocks_check entry_check most_entry_bytes 20) stack_bytes 26 l.entries)
-
-abbrev pub decreases-loop-i : goal.decreases-loop-i
-decreases-loop-i l = 26 - l.i

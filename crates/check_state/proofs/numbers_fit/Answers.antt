@@ -10,9 +10,6 @@ use Rattle.check_state.proofs.numbers_fit.Goals as goal
 pub loop-i-init : goal.loop-i-init
 loop-i-init c = (omega arith, blocks_start number_check 4 52 c.args.numbers.now)
 
-pub loop-i-smaller : goal.loop-i-smaller
-loop-i-smaller c = omega (arith, c.loop-i-test.true, c.loop-i.invariant)
-
 pub loop-i-preserved : goal.loop-i-preserved
 loop-i-preserved c =
     let l = c.args.numbers.now in

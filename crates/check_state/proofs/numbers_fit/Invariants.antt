@@ -7,6 +7,3 @@ use Rattle.check_state.proofs.numbers_fit.Given as goal
 
 abbrev pub invariant-loop-i : goal.invariant-loop-i
 invariant-loop-i l = (l.i ≤ 52) × (l.ok && blocks_check number_check 4 (52 - l.i) (drop (4 * l.i) l.numbers) ≡ blocks_check number_check 4 52 l.numbers)
-
-abbrev pub decreases-loop-i : goal.decreases-loop-i
-decreases-loop-i l = 52 - l.i

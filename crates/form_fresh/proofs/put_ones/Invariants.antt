@@ -1,4 +1,4 @@
-use Prim.Native.Nat.{◌-◌, ◌≤◌}
+use Prim.Native.Nat.{◌≤◌}
 use mathlib.Core.Path.{◌≡◌}
 use lib.ListN.{length}
 use Rattle.form_state.specs.Access.{replaced}
@@ -7,6 +7,3 @@ use Rattle.form_fresh.proofs.put_ones.Given as goal
 
 abbrev pub invariant-loop-i : goal.invariant-loop-i
 invariant-loop-i l = (l.i ≤ 52) × (length l.state ≡ length l.initial.state) × (l.state ≡ replaced l.initial.state 28 (ones l.i))
-
-abbrev pub decreases-loop-i : goal.decreases-loop-i
-decreases-loop-i l = 52 - l.i

@@ -13,6 +13,3 @@ invariant-loop-i l =
     (l.i ≤ 520)
     × (l.ok && blocks_check short_check most_entry_bytes (entry_count - l.i) (drop (most_entry_bytes * l.i) (drop entries_from l.state))
     ≡ blocks_check short_check most_entry_bytes entry_count (drop entries_from l.state))
-
-abbrev pub decreases-loop-i : goal.decreases-loop-i
-decreases-loop-i l = 520 - l.i

@@ -1,4 +1,4 @@
-use Prim.Native.Nat.{◌≤◌, ◌-◌}
+use Prim.Native.Nat.{◌≤◌}
 use mathlib.Core.Path.{◌≡◌}
 use lib.ListN.{length, drop}
 use Rattle.form_state.specs.Form.{entries_from}
@@ -8,6 +8,3 @@ use Rattle.form_old.proofs.widen_entries.Given as goal
 
 abbrev pub invariant-loop-i : goal.invariant-loop-i
 invariant-loop-i l = (l.i ≤ 520) × (length l.state ≡ length l.initial.state) × (l.state ≡ replaced l.initial.state entries_from (widened_entries l.i (drop entries_from l.old)))
-
-abbrev pub decreases-loop-i : goal.decreases-loop-i
-decreases-loop-i l = 520 - l.i
