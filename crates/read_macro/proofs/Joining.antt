@@ -8,7 +8,7 @@ use Prim.Native.Nat.{ℕ, suc, ◌+◌, ◌-◌, ◌≤◌, ◌<◌}
 use native.Mathlib.Omega.{arith}
 use native.Mathlib.Numerals.{add-one}
 use lib.Dec.{eqb}
-use lib.ListN.{length, get_or, drop, replicate, length-append, length-replicate}
+use lib.ListN.{length, get_or, drop, length-append}
 use borrow.Author.Tests.{lt-ltb, le-ltb, ne_eqb}
 use Rattle.macros.specs.Refusals.FileRefusal.{macro_too_long}
 use Rattle.macros.specs.Macro.{Macro, Action, Call, pick, tags}
@@ -28,23 +28,16 @@ use Rattle.read_scan.specs.Scan.{MacroRead, read_macro, run, Here, Reached}
 use Rattle.form_items.specs.Items.{Wrote}
 use Rattle.read_pattern.specs.Pattern.{Begins, Patterned}
 use Rattle.read_call.specs.Call.{mark_of}
-use Rattle.read_action.specs.Action.{FrontAt, ReplacedFrom, Replaced, symbol_of}
+use Rattle.read_action.specs.Action.{FrontAt, Replaced, symbol_of}
 use Rattle.read_command.specs.Commands.{CommandsFrom, BeforeFrom}
-use Rattle.read_macro.specs.OneMacro.{ended, macro_at, Preceded, PrecededBy, MacroFrom, ReadsMacro, PartsFrom, no_pattern, no_next, no_end}
+use Rattle.read_macro.specs.OneMacro.{ended, macro_at, Preceded, PrecededBy, MacroFrom, PartsFrom}
 use Rattle.read_start.specs.Start.{first_part, started}
-use Rattle.read_scan.specs.declared.FileFault.{FileFault}
 use Rattle.read_scan.specs.declared.FileFault.TheVariants.{MacroTooLong}
-use Rattle.read_scan.specs.declared.Next.{Next}
-use Rattle.read_scan.specs.declared.Next.TheVariants.{Byte, Refused as NoByte}
-use Rattle.read_pattern.specs.declared.Whole.{Whole}
-use Rattle.read_pattern.specs.declared.Whole.TheVariants.{Pattern, Refused as NoWhole}
-use Rattle.read_ends.specs.declared.Ended.{Ended}
-use Rattle.read_ends.specs.declared.Ended.TheVariants.{Upto, Refused as NoEnd}
-use Rattle.read_macro.specs.declared.Head.{Head}
+use Rattle.std.specs.Prelude.{Result, Ok, Err}
+use Rattle.read_scan.specs.declared.ReadError.{ReadError}
 use Rattle.read_macro.specs.declared.Built.{Built}
-use Rattle.read_macro.specs.declared.Built.TheVariants.{Made, Refused as NoMacro}
 use Rattle.read_scan.proofs.Laws.{out_of, macro_refuse, run_here, here_opens, reached_behind}
-use Rattle.form_items.proofs.Writing.{wrote_none, wrote_behind, wrote_all}
+use Rattle.form_items.proofs.Writing.{wrote_none, wrote_behind}
 
 -- AT THE `;`
 
@@ -78,65 +71,48 @@ module _ {s : List ℕ} {a q : ℕ} (x : Here s a q 59) (f : Front) (l : List Ac
 
 -- REPLACEMENT AND COMMANDS
 
-module _ (s : List ℕ) (a p : ℕ) (o₁ : List ℕ) (b n i t : ℕ) (o₂ : List ℕ) {m : Ended} (w : ReplacedFrom s a p o₁ o₂ i t m) where
-  pub parts_replacement_fault : {f : FileFault} {q : ℕ} {d : Built} → m ≡ NoEnd f q → d ≡ no_end m → PartsFrom s a p o₁ o₂ b n i t d
-  parts_replacement_fault {f} {q} i₁ j =
-      let g : ReplacedFrom s a p o₁ o₂ i t (NoEnd f q) = rw i₁ at w in
-      rw (j ∙ ap no_end i₁) g
+module _ (s : List ℕ) (a p : ℕ) (o₁ : List ℕ) (b n i t : ℕ) (o₂ : List ℕ) where
+  module _ {g j : ℕ} (w : Replaced s a p o₁ o₂ i t g j) (o₃ : List ℕ) where
+    module _ {q k : ℕ} (d : CommandsFrom s a g o₂ o₃ j t (Ok (q, k))) where
+      abbrev its_calls : List Call
+      its_calls = d.2.calls
 
-  module _ {g j : ℕ} (k₄ : m ≡ Upto g j) where
-    pub its_replacement : Replaced s a p o₁ o₂ i t g j
-    its_replacement = rw k₄ at w
+      to_end : (f : Front) → tags f.pieces ≡ t → (pr : Prior) → run s a pr false p (replacement none f []) ≡ run s a pr false q (commands none f w.actions its_calls)
+      to_end f u pr = w.answer f u pr ∙ rw append-nil at (d.2.answer f w.actions [] u pr)
 
-    module _ (o₃ : List ℕ) {m₂ : Ended} (d : CommandsFrom s a g o₂ o₃ j t m₂) where
-      pub parts_commands_fault : {f : FileFault} {q : ℕ} {b₁ : Built} → m₂ ≡ NoEnd f q → b₁ ≡ no_end m₂ → PartsFrom s a p o₁ o₃ b n i t b₁
-      parts_commands_fault {f} {q} i₁ j₁ =
-          let y₁ : CommandsFrom s a g o₂ o₃ j t (NoEnd f q) = rw i₁ at d in
-          rw (j₁ ∙ ap no_end i₁) (y₁.0, λ h u pr. its_replacement.answer h u pr ∙ y₁.1 h its_replacement.actions [] u pr)
+      pub parts_late : 512 ≤ q - a → PartsFrom s a p o₁ o₃ b n i t (Err (record { fault = MacroTooLong; place = q }))
+      parts_late l =
+          let x = d.1.stands in
+          (omega (arith, x.there), λ f u pr. to_end f u pr ∙ done_late d.1 f w.actions its_calls pr l)
 
-      module _ {q k₆ : ℕ} (k₅ : m₂ ≡ Upto q k₆) where
-        its_commands : CommandsFrom s a g o₂ o₃ j t (Upto q k₆)
-        its_commands = rw k₅ at d
+      pub parts_order : (i ≤ j) × (j ≤ k) × (a ≤ q) × (q < length s)
+      parts_order =
+          let x = d.1.stands in
+          (omega (arith, w.used), omega (arith, d.2.used), x.behind, x.there)
 
-        abbrev its_calls : List Call
-        its_calls = its_commands.2.calls
+      its_wrote : Wrote o₁ o₃ i (replacement_items (reverse w.actions) ++ calls_items (reverse its_calls))
+      its_wrote = wrote_behind w.wrote w.used d.2.wrote
 
-        to_end : (f : Front) → tags f.pieces ≡ t → (pr : Prior) → run s a pr false p (replacement none f []) ≡ run s a pr false q (commands none f its_replacement.actions its_calls)
-        to_end f u pr = its_replacement.answer f u pr ∙ rw append-nil at (its_commands.2.answer f its_replacement.actions [] u pr)
-
-        pub parts_late : 512 ≤ q - a → PartsFrom s a p o₁ o₃ b n i t (NoMacro MacroTooLong q)
-        parts_late l₁ =
-            let t₁ = its_commands.1.stands in
-            (omega (arith, t₁.there), λ f u pr. to_end f u pr ∙ done_late its_commands.1 f its_replacement.actions its_calls pr l₁)
-
-        pub parts_order : (i ≤ j) × (j ≤ k₆) × (a ≤ q) × (q < length s)
-        parts_order =
-            let t₁ = its_commands.1.stands in
-            (omega (arith, its_replacement.used), omega (arith, its_commands.2.used), t₁.behind, t₁.there)
-
-        its_wrote : Wrote o₁ o₃ i (replacement_items (reverse its_replacement.actions) ++ calls_items (reverse its_calls))
-        its_wrote = wrote_behind its_replacement.wrote its_replacement.used its_commands.2.wrote
-
-        pub parts_made : {y₁ : ℕ} → y₁ ≡ symbol_code (symbol_of b) → q - a < 512
-            → PartsFrom s a p o₁ o₃ b n i t (Made (q + 1) (record { symbol = y₁; tags = t; before = n; pattern = i - n; replacement = j - i; commands = k₆ - j }))
-        parts_made e₁ l₁ =
-            let t₁ = its_commands.1.stands in
-            record {
-              actions = its_replacement.actions;
-              calls = its_calls;
-              symbol = e₁;
-              tagged = refl;
-              first = refl;
-              second = refl;
-              third = omega (arith, its_replacement.used);
-              fourth = omega (arith, its_commands.2.used);
-              wrote = its_wrote;
-              room = omega (arith, its_replacement.room, its_replacement.further, its_commands.2.room, its_commands.0, its_replacement.used, its_commands.2.used);
-              further = omega (arith, its_replacement.further, its_commands.0);
-              reached = omega (arith, t₁.there);
-              counted = omega (arith, t₁.behind);
-              answer = λ f u pr. rw add-one (to_end f u pr ∙ done_go its_commands.1 f its_replacement.actions its_calls pr l₁);
-            }
+      pub parts_made : {y : ℕ} → y ≡ symbol_code (symbol_of b) → q - a < 512
+          → PartsFrom s a p o₁ o₃ b n i t (Ok (record { place = q + 1; head = record { symbol = y; tags = t; before = n; pattern = i - n; replacement = j - i; commands = k - j } }))
+      parts_made e l =
+          let x = d.1.stands in
+          record {
+            actions = w.actions;
+            calls = its_calls;
+            symbol = e;
+            tagged = refl;
+            first = refl;
+            second = refl;
+            third = omega (arith, w.used);
+            fourth = omega (arith, d.2.used);
+            wrote = its_wrote;
+            room = omega (arith, w.room, w.further, d.2.room, d.0, w.used, d.2.used);
+            further = omega (arith, w.further, d.0);
+            reached = omega (arith, x.there);
+            counted = omega (arith, x.behind);
+            answer = λ f u pr. rw add-one (to_end f u pr ∙ done_go d.1 f w.actions its_calls pr l);
+          }
 
 -- THE CALLS BEFORE THE PATTERN
 
@@ -146,7 +122,7 @@ opens_byte cs = refl
 
 module _ (s : List ℕ) (a p : ℕ) (old : List ℕ) where
   -- there are none
-  pub first_quote : get_or s a 0 ≡ 39 → Reached s a p → PrecededBy s a p old old (Upto p 0)
+  pub first_quote : get_or s a 0 ≡ 39 → Reached s a p → PrecededBy s a p old old (Ok (p, 0))
   unfolding first_part pick calls_items
   first_quote e h =
       record { calls = []; wrote = wrote_none old 0; used = refl; room = omega arith; further = omega arith; reached = h; answer = λ ms. rw e refl }
@@ -155,35 +131,28 @@ module _ (s : List ℕ) (a p : ℕ) (old : List ℕ) where
   unfolding first_part pick
   its_first e = simp (ne_eqb _ _ e)
 
-  module _ (e : get_or s a 0 ≡ 39 → ⊥) (o₁ : List ℕ) {r : Ended} (x : BeforeFrom s a p old o₁ 0 (eqb (get_or s a 0) 35) r) where
-    pub first_fault : {f : FileFault} {q : ℕ} → r ≡ NoEnd f q → PrecededBy s a p old o₁ (NoEnd f q)
-    first_fault {f} {q} i =
-        let y : BeforeFrom s a p old o₁ 0 (eqb (get_or s a 0) 35) (NoEnd f q) = rw i at x in
-        (y.0, λ ms. rw (its_first e) (y.1 (no_calls ms)))
+  module _ (e : get_or s a 0 ≡ 39 → ⊥) (o₁ : List ℕ) where
+    pub first_fault : (x : ReadError) → BeforeFrom s a p old o₁ 0 (eqb (get_or s a 0) 35) (Err x) → PrecededBy s a p old o₁ (Err x)
+    first_fault x y = (y.0, λ ms. rw (its_first e) (y.1 (no_calls ms)))
 
-    module _ {q n : ℕ} (i : r ≡ Upto q n) where
-      pub its_first_calls : BeforeFrom s a p old o₁ 0 (eqb (get_or s a 0) 35) (Upto q n)
-      its_first_calls = rw i at x
-
-      pub first_calls : PrecededBy s a p old o₁ (Upto (q + 1) n)
-      first_calls =
-          let y = its_first_calls in
-          let z = y.2 in
-          record {
-            calls = z.calls;
-            wrote = z.wrote;
-            used = omega (arith, z.used);
-            room = omega (arith, z.room, y.0);
-            further = omega (arith, y.0);
-            reached = reached_behind y.1.stands;
-            answer = λ ms. rw (its_first e) (z.answer (no_calls ms)) ∙ here_opens y.1 (no_calls ms) (calls none z.calls) z.calls (λ q o. refl) (opens_byte z.calls);
-          }
+    pub first_calls : {q n : ℕ} → BeforeFrom s a p old o₁ 0 (eqb (get_or s a 0) 35) (Ok (q, n)) → PrecededBy s a p old o₁ (Ok (q + 1, n))
+    first_calls y =
+        let z = y.2 in
+        record {
+          calls = z.calls;
+          wrote = z.wrote;
+          used = omega (arith, z.used);
+          room = omega (arith, z.room, y.0);
+          further = omega (arith, y.0);
+          reached = reached_behind y.1.stands;
+          answer = λ ms. rw (its_first e) (z.answer (no_calls ms)) ∙ here_opens y.1 (no_calls ms) (calls none z.calls) z.calls (λ q o. refl) (opens_byte z.calls);
+        }
 
 -- THE WHOLE MACRO
 
 module _ (s : List ℕ) (a p : ℕ) where
   -- the `(` of its first call stands behind the 513th byte
-  pub macro_late : (old : List ℕ) → 512 < p - a → p ≤ length s → MacroFrom s a p old old (NoMacro MacroTooLong (a + 512))
+  pub macro_late : (old : List ℕ) → 512 < p - a → p ≤ length s → MacroFrom s a p old old (Err (record { fault = MacroTooLong; place = a + 512 }))
   unfolding macro_at started ended pick
   macro_late old h l = (omega arith, λ ms. rw (lt-ltb _ _ h) refl)
 
@@ -193,79 +162,53 @@ module _ (s : List ℕ) (a p : ℕ) where
     unfolding macro_at started pick
     macro_by ms e = rw (le-ltb _ _ h) (ap ended e)
 
-    module _ (old o₁ : List ℕ) {r : Ended} (x : PrecededBy s a p old o₁ r) where
-      pub macro_calls_fault : {f : FileFault} {q : ℕ} {w : Built} → r ≡ NoEnd f q → w ≡ no_end r → MacroFrom s a p old o₁ w
+    module _ (old o₁ : List ℕ) where
+      pub macro_calls_fault : (e : ReadError) → PrecededBy s a p old o₁ (Err e) → MacroFrom s a p old o₁ (Err e)
       unfolding ended
-      macro_calls_fault {f} {q} i j =
-          let z : PrecededBy s a p old o₁ (NoEnd f q) = rw i at x in
-          rw (j ∙ ap no_end i) (z.0, λ ms. macro_by ms (z.1 ms))
+      macro_calls_fault e z = (z.0, λ ms. macro_by ms (z.1 ms))
 
-      module _ {v n : ℕ} (k₀ : r ≡ Upto v n) where
-        pub its_before : Preceded s a p old o₁ v n
-        its_before = rw k₀ at x
-
+      module _ {v n : ℕ} (y : Preceded s a p old o₁ v n) where
         -- what was read before the pattern, behind the macros ms
         abbrev prior : List Macro → Prior
-        prior ms = record { calls = its_before.calls; macros = ms }
+        prior ms = record { calls = y.calls; macros = ms }
 
-        module _ (o₂ : List ℕ) {w₁ : Whole} (y : Begins s a v o₁ o₂ n w₁) where
-          pub macro_pattern_fault : {f : FileFault} {q : ℕ} {w : Built} → w₁ ≡ NoWhole f q → w ≡ no_pattern w₁ → MacroFrom s a p old o₂ w
+        module _ (o₂ : List ℕ) where
+          pub macro_pattern_fault : (e : ReadError) → Begins s a v o₁ o₂ n (Err e) → MacroFrom s a p old o₂ (Err e)
           unfolding ended
-          macro_pattern_fault {f} {q} i j =
-              let z : Begins s a v o₁ o₂ n (NoWhole f q) = rw i at y in
-              rw (j ∙ ap no_pattern i) (z.0, λ ms. macro_by ms (its_before.answer ms ∙ z.1 (prior ms)))
+          macro_pattern_fault e z = (z.0, λ ms. macro_by ms (y.answer ms ∙ z.1 (prior ms)))
 
-          module _ {g t i : ℕ} (k₁ : w₁ ≡ Pattern g t i) where
-            pub its_pattern : Patterned s a v g t o₁ o₂ n i
-            its_pattern = rw k₁ at y
-
+          module _ {g t i : ℕ} (z : Patterned s a v g t o₁ o₂ n i) where
             -- what follows the pattern
-            behind_it : (ms : List Macro) {o : MacroRead} → run s a (prior ms) false g (await_symbol its_pattern.pieces) ≡ o → macro_at s a p ms ≡ ended o
+            behind_it : (ms : List Macro) {o : MacroRead} → run s a (prior ms) false g (await_symbol z.pieces) ≡ o → macro_at s a p ms ≡ ended o
             unfolding ended
-            behind_it ms f = macro_by ms (its_before.answer ms ∙ (its_pattern.answer (prior ms) ∙ ap (pattern_to g its_pattern.pieces) f))
+            behind_it ms f = macro_by ms (y.answer ms ∙ (z.answer (prior ms) ∙ ap (pattern_to g z.pieces) f))
 
-            module _ {m : Next} (u : FrontAt s a g m) where
-              pub macro_front_fault : {f : FileFault} {q : ℕ} {w : Built} → m ≡ NoByte f q → w ≡ no_next m → MacroFrom s a p old o₂ w
-              unfolding ended
-              macro_front_fault {f} {q} k j =
-                  let z : FrontAt s a g (NoByte f q) = rw k at u in
-                  rw (j ∙ ap no_next k) (z.0, λ ms. behind_it ms (z.1 its_pattern.pieces (prior ms)))
+            pub macro_front_fault : (e : ReadError) → FrontAt s a g (Err e) → MacroFrom s a p old o₂ (Err e)
+            unfolding ended
+            macro_front_fault e u = (u.0, λ ms. behind_it ms (u.1 z.pieces (prior ms)))
 
-              module _ {b c : ℕ} (k₂ : m ≡ Byte b c) where
-                pub its_front : FrontAt s a g (Byte b c)
-                its_front = rw k₂ at u
+            module _ (b c : ℕ) (u : FrontAt s a g (Ok (b, c))) where
+              abbrev front : Front
+              front = record { pieces = z.pieces; symbol = symbol_of b }
 
-                abbrev front : Front
-                front = record { pieces = its_pattern.pieces; symbol = symbol_of b }
+              to_replacement : (ms : List Macro) → run s a (prior ms) false g (await_symbol z.pieces) ≡ run s a (prior ms) false (c + 1) (replacement none front [])
+              to_replacement ms = u.2 z.pieces (prior ms)
 
-                to_replacement : (ms : List Macro) → run s a (prior ms) false g (await_symbol its_pattern.pieces) ≡ run s a (prior ms) false (c + 1) (replacement none front [])
-                to_replacement ms = its_front.2 its_pattern.pieces (prior ms)
-
-                pub macro_whole : a < p → (o₃ : List ℕ) (w : Built) → PartsFrom s a (c + 1) o₂ o₃ b n i t w → MacroFrom s a p old o₃ w
-                unfolding header body ended macro_of
-                macro_whole l o₃ (Made q d) z =
-                    let first : length (calls_items (reverse its_before.calls)) ≡ d.before = sym its_before.used ∙ sym z.first in
-                    let second : length (pattern_items (reverse its_pattern.pieces)) ≡ d.pattern = omega (arith, its_pattern.used, z.second) in
-                    record {
-                      itself = macro_of its_before.calls front z.actions z.calls;
-                      head = rw (first, second, ← z.third, ← z.fourth, tags_reverse its_pattern.pieces, its_pattern.tagged, ← z.tagged, ← z.symbol) refl;
-                      size = rw (length-append, length-append, length-append, first, second, ← z.third, ← z.fourth) (omega arith);
-                      few = omega (arith, its_pattern.few, z.tagged);
-                      fits = omega (arith, its_before.room, its_before.further, its_pattern.room, its_pattern.further, its_pattern.used, z.room, z.further, z.first, z.second, z.counted, its_front.0);
-                      wrote = wrote_behind its_before.wrote (omega (arith, its_before.used)) (wrote_behind its_pattern.wrote its_pattern.used z.wrote);
-                      further = omega (arith, z.further, its_front.0, its_pattern.further, its_before.further);
-                      reached = z.reached;
-                      exact = λ ms. behind_it ms (to_replacement ms ∙ z.answer front its_pattern.tagged (prior ms));
-                    }
-                macro_whole l o₃ (NoMacro f q) z = (z.0, λ ms. behind_it ms (to_replacement ms ∙ z.1 front its_pattern.tagged (prior ms)))
-
--- ALL LENT BYTES
-
-module _ {s : List ℕ} {a p : ℕ} {old out : List ℕ} {r : Built} (x : MacroFrom s a p old out r) where
-  pub reads_made : {q : ℕ} {h : Head} → r ≡ Made q h → ReadsMacro s a p old out (Made q h)
-  reads_made e = record { from = rw e at x; zeros = tt }
-
-  pub reads_none : {f : FileFault} {q : ℕ} → r ≡ NoMacro f q → {fin : List ℕ} {k : ℕ} → Wrote out fin 0 (replicate k 0) → k ≡ length fin → length fin ≡ length old → ReadsMacro s a p old fin (NoMacro f q)
-  reads_none {f} {q} e {fin} {k} w g h =
-      let d : MacroFrom s a p old out (NoMacro f q) = rw e at x in
-      record { from = d; zeros = wrote_all w (length-replicate {A = ℕ} k 0 ∙ g) ∙ ap (λ (n : ℕ). replicate {A = ℕ} n 0) (g ∙ h) }
+              pub macro_whole : a < p → (o₃ : List ℕ) (w : Result Built ReadError) → PartsFrom s a (c + 1) o₂ o₃ b n i t w → MacroFrom s a p old o₃ w
+              unfolding header body ended macro_of
+              macro_whole l o₃ (Ok w) x =
+                  let d = w.head in
+                  let first : length (calls_items (reverse y.calls)) ≡ d.before = sym y.used ∙ sym x.first in
+                  let second : length (pattern_items (reverse z.pieces)) ≡ d.pattern = omega (arith, z.used, x.second) in
+                  record {
+                    itself = macro_of y.calls front x.actions x.calls;
+                    head = rw (first, second, ← x.third, ← x.fourth, tags_reverse z.pieces, z.tagged, ← x.tagged, ← x.symbol) refl;
+                    size = rw (length-append, length-append, length-append, first, second, ← x.third, ← x.fourth) (omega arith);
+                    few = omega (arith, z.few, x.tagged);
+                    fits = omega (arith, y.room, y.further, z.room, z.further, z.used, x.room, x.further, x.first, x.second, x.counted, u.0);
+                    wrote = wrote_behind y.wrote (omega (arith, y.used)) (wrote_behind z.wrote z.used x.wrote);
+                    further = omega (arith, x.further, u.0, z.further, y.further);
+                    reached = x.reached;
+                    exact = λ ms. behind_it ms (to_replacement ms ∙ x.answer front z.tagged (prior ms));
+                  }
+              macro_whole l o₃ (Err e) x = (x.0, λ ms. behind_it ms (to_replacement ms ∙ x.1 front z.tagged (prior ms)))

@@ -1,5 +1,6 @@
 -- A macro from where it begins to its `;`: what reading it says of the machine.
 use Rattle.std.specs.Prelude.{ℕ, ◌+◌, ◌-◌, ◌*◌, ◌≤◌, ◌<◌, ◌≡◌, false, List, [], ◌∷◌, ◌++◌, reverse, length, get_or, replicate}
+use Rattle.std.specs.Prelude.{Result, Ok, Err}
 use Rattle.std.proofs.Math.Option.{none}
 use Rattle.macros.specs.Bounds.{most_tags}
 use Rattle.macros.specs.Macro.{Macro, Action, Call, tags}
@@ -12,16 +13,10 @@ use Rattle.read_scan.specs.Scan.MacroRead.{refused_at as none_at, pattern_to, ma
 use Rattle.form_items.specs.Items.{Wrote}
 use Rattle.read_action.specs.Action.{symbol_of}
 use Rattle.read_start.specs.Start.{first_part, started}
-use Rattle.read_scan.specs.declared.FileFault.TheVariants.{Incomplete}
-use Rattle.read_scan.specs.declared.Next.{Next}
-use Rattle.read_scan.specs.declared.Next.TheVariants.{Byte, Refused as NoByte}
-use Rattle.read_pattern.specs.declared.Whole.{Whole}
-use Rattle.read_pattern.specs.declared.Whole.TheVariants.{Pattern, Refused as NoWhole}
-use Rattle.read_ends.specs.declared.Ended.{Ended}
-use Rattle.read_ends.specs.declared.Ended.TheVariants.{Upto, Refused as NoEnd}
+use Rattle.read_scan.specs.declared.ReadError.{ReadError}
+use Rattle.read_ends.specs.Ends.{Ended}
 use Rattle.read_macro.specs.declared.Head.{Head}
 use Rattle.read_macro.specs.declared.Built.{Built}
-use Rattle.read_macro.specs.declared.Built.TheVariants.{Made, Refused as NoMacro}
 
 -- reading one macro, without where its pattern ends
 unfoldable pub ended : MacroRead → MacroRead
@@ -46,9 +41,9 @@ pub record Preceded (s : List ℕ) (a p : ℕ) (old out : List ℕ) (v n : ℕ) 
 
 -- what reading them says
 abbrev pub PrecededBy : List ℕ → (a p : ℕ) → List ℕ → List ℕ → Ended → Type 0
-PrecededBy s a p old out (Upto v n) = Preceded s a p old out v n
-PrecededBy s a p old out (NoEnd f q) =
-    (q ≤ length s) × ((ms : List Macro) → run s a (no_calls ms) false p (first_part (get_or s a 0)) ≡ none_at (fault_of f) q)
+PrecededBy s a p old out (Ok (v, n)) = Preceded s a p old out v n
+PrecededBy s a p old out (Err e) =
+    (e.place ≤ length s) × ((ms : List Macro) → run s a (no_calls ms) false p (first_part (get_or s a 0)) ≡ none_at (fault_of e.fault) e.place)
 
 -- the first ten bytes of a slot
 abbrev pub head_bytes : Head → List ℕ
@@ -72,17 +67,17 @@ pub record Macroed (s : List ℕ) (a p q : ℕ) (old out : List ℕ) (h : Head) 
   pub exact : (ms : List Macro) → macro_at s a p ms ≡ macro_to q itself
 
 -- what reading a macro says
-abbrev pub MacroFrom : List ℕ → (a p : ℕ) → List ℕ → List ℕ → Built → Type 0
-MacroFrom s a p old out (Made q h) = Macroed s a p q old out h
-MacroFrom s a p old out (NoMacro f q) = (q ≤ length s) × ((ms : List Macro) → macro_at s a p ms ≡ none_at (fault_of f) q)
+abbrev pub MacroFrom : List ℕ → (a p : ℕ) → List ℕ → List ℕ → Result Built ReadError → Type 0
+MacroFrom s a p old out (Ok b) = Macroed s a p b.place old out b.head
+MacroFrom s a p old out (Err e) = (e.place ≤ length s) × ((ms : List Macro) → macro_at s a p ms ≡ none_at (fault_of e.fault) e.place)
 
 -- that a refusal leaves zeros
-abbrev pub NoMacroZeros : List ℕ → List ℕ → Built → Type 0
-NoMacroZeros old out (Made q h) = Unit {0}
-NoMacroZeros old out (NoMacro f q) = out ≡ replicate (length old) 0
+abbrev pub NoMacroZeros : List ℕ → List ℕ → Result Built ReadError → Type 0
+NoMacroZeros old out (Ok b) = Unit {0}
+NoMacroZeros old out (Err e) = out ≡ replicate (length old) 0
 
 -- what reading a macro says of the answer and of all lent bytes
-pub record ReadsMacro (s : List ℕ) (a p : ℕ) (old out : List ℕ) (r : Built) : Type 0 where
+pub record ReadsMacro (s : List ℕ) (a p : ℕ) (old out : List ℕ) (r : Result Built ReadError) : Type 0 where
   pub from : MacroFrom s a p old out r
   pub zeros : NoMacroZeros old out r
 
@@ -107,22 +102,8 @@ pub record Parted (s : List ℕ) (a p : ℕ) (old out : List ℕ) (b n i k q : �
       → run s a pr false p (parting none f []) ≡ macro_to q (macro_of pr.calls f actions calls)
 
 -- what reading them says
-abbrev pub PartsFrom : List ℕ → ℕ → ℕ → List ℕ → List ℕ → (b n i k : ℕ) → Built → Type 0
-PartsFrom s a p old out b n i k (Made q h) = Parted s a p old out b n i k q h
-PartsFrom s a p old out b n i k (NoMacro f q) =
-    (q ≤ length s) × ((g : Front) → tags g.pieces ≡ k → (pr : Prior)
-    → run s a pr false p (parting none g []) ≡ none_at (fault_of f) q)
-
--- REFUSALS HANDED ON
-
-abbrev pub no_pattern : Whole → Built
-no_pattern (Pattern q t j) = NoMacro Incomplete q
-no_pattern (NoWhole f q) = NoMacro f q
-
-abbrev pub no_next : Next → Built
-no_next (Byte b q) = NoMacro Incomplete q
-no_next (NoByte f q) = NoMacro f q
-
-abbrev pub no_end : Ended → Built
-no_end (Upto q e) = NoMacro Incomplete q
-no_end (NoEnd f q) = NoMacro f q
+abbrev pub PartsFrom : List ℕ → ℕ → ℕ → List ℕ → List ℕ → (b n i k : ℕ) → Result Built ReadError → Type 0
+PartsFrom s a p old out b n i k (Ok x) = Parted s a p old out b n i k x.place x.head
+PartsFrom s a p old out b n i k (Err e) =
+    (e.place ≤ length s) × ((g : Front) → tags g.pieces ≡ k → (pr : Prior)
+    → run s a pr false p (parting none g []) ≡ none_at (fault_of e.fault) e.place)
