@@ -6,6 +6,7 @@ use mathlib.Core.Bool.{Bool, true, false}
 use mathlib.Core.List.{List, []}
 use native.Mathlib.Omega.{arith}
 use lib.ListN.{length, take, replicate, length-replicate}
+use Rattle.std.specs.Prelude.{Result, Ok, Err, is_err, ◌&&◌}
 use Rattle.kinds.specs.Kind.{kind_table}
 use Rattle.pass_lack.specs.Lacking.{flags_of}
 use Rattle.macros.specs.Bounds.{most_line_bytes, most_trace_bytes}
@@ -21,9 +22,10 @@ use Rattle.line_memory.specs.Memory.{padded, laid_if}
 use Rattle.line_memory.proofs.Copying.{padded_whole, padded_front, padded_size}
 use Rattle.line_passes.specs.Contract.{Run, Left, Started, Comes, RunsTo, Runs}
 use Rattle.line_stand.specs.Standing.{Open}
-use Rattle.line_passes.specs.Passing.{Given, Memories, Stands, Ready, left_of, Ends, FromStart, run_of, is_refused, drops_trace}
+use Rattle.line_passes.specs.Passing.{Given, Memories, Stands, Ready, left_of, Ends, FromStart, run_of}
 use Rattle.line_stand.specs.declared.Ended.{Ended}
-use Rattle.line_stand.specs.declared.Ended.TheVariants.{Done, Control, Refused}
+use Rattle.line_stand.specs.declared.Ended.TheVariants.{Done, Control}
+use Rattle.line_stand.specs.declared.PassesError.{PassesError}
 use Rattle.line_passes.proofs.Closing.{due_all, none_closed, none_begun}
 
 -- an empty trace
@@ -60,7 +62,7 @@ stands_start ms st g m n h l f t =
     let e : g.budget - 0 ≡ g.budget = omega arith in
     record { so_far = []; state = st; closed = []; begun = []; rest = rw (e, due_all [] ms g.count l, t) refl; count = refl; occurs = refl; lines = λ asked. refl; holds = h; closes = rw f none_closed; begins = rw f none_begun }
 
-pub runs_start : {g : Given} {m : Memories} {left : Left} {n : ℕ} {r : Ended} → m.flags ≡ replicate 96 0 → OfState m.state (λ st. g.traced ≡ is_on st.trace)
+pub runs_start : {g : Given} {m : Memories} {left : Left} {n : ℕ} {r : Result Ended PassesError} → m.flags ≡ replicate 96 0 → OfState m.state (λ st. g.traced ≡ is_on st.trace)
     → Ends g m left (record { size = n; occurred = false; due = g.count; begun = 0; written = 0 }) r → RunsTo (run_of g.table g.count (left_of m) n g.budget g.traced) (left_of m) left r
 runs_start {g} {m} {left} {n} f t x =
     record { comes = λ ms h l st hb. x.comes _ ms h l (stands_start ms st g m n hb l f (t st hb)); lies = x.lies; untraced = x.untraced }
@@ -72,13 +74,13 @@ state_length s = ap length (sym s.1.form) ∙ (state_size_lem s.0 s.1.in_range).
 
 -- a trace that is put back is as it came
 as_it_came : (b : Bool) {came ran left : List ℕ} → (b ≡ false → ran ≡ came) → (b ≡ true → came ≡ replicate most_trace_bytes 0) → length ran ≡ length came
-    → left ≡ laid_if (drops_trace b true) [] ran → left ≡ came
+    → left ≡ laid_if ((b && true)) [] ran → left ≡ came
 as_it_came true {came} {ran} f g l e =
     let n : length ran - 0 ≡ most_trace_bytes = omega (arith, l, ap length (g refl) ∙ length-replicate {A = ℕ} most_trace_bytes 0) in
     e ∙ ap (λ (k : ℕ). replicate {A = ℕ} k 0) n ∙ sym (g refl)
 as_it_came false f g l e = e ∙ f refl
 
-kept_trace : (b : Bool) {ran left : List ℕ} → left ≡ laid_if (drops_trace b false) [] ran → left ≡ ran
+kept_trace : (b : Bool) {ran left : List ℕ} → left ≡ laid_if ((b && false)) [] ran → left ≡ ran
 kept_trace true e = e
 kept_trace false e = e
 
@@ -116,10 +118,10 @@ module _ {run : Run} {old : Left} (y : Started run old) where
           trace = y.trace;
         }
 
-    abbrev ran_to : Left → Ended → Type 0
+    abbrev ran_to : Left → Result Ended PassesError → Type 0
     ran_to left r = RunsTo (run_of run.table run.count first (length t) run.sent.budget run.traced) first left r
 
-    ran : {left : Left} (r : Ended) → ran_to left r → RunsTo run old left r
+    ran : {left : Left} (r : Result Ended PassesError) → ran_to left r → RunsTo run old left r
     ran {left} r x =
         record {
           comes = λ ms h l st hb.
@@ -131,22 +133,22 @@ module _ {run : Run} {old : Left} (y : Started run old) where
 
     module _ {z tx tr z₂ tx₂ tr₂ : List ℕ} where
       -- as the passes left them
-      kept : (r : Ended) → ran_to (record { state = z; text = tx; trace = tr }) r → z₂ ≡ z → tx₂ ≡ tx → tr₂ ≡ tr → RunsTo run old (record { state = z₂; text = tx₂; trace = tr₂ }) r
+      kept : (r : Result Ended PassesError) → ran_to (record { state = z; text = tx; trace = tr }) r → z₂ ≡ z → tx₂ ≡ tx → tr₂ ≡ tr → RunsTo run old (record { state = z₂; text = tx₂; trace = tr₂ }) r
       kept r x a b c = rw (a, b, c) (ran r x)
 
-      pub runs_end : (r : Ended) → ran_to (record { state = z; text = tx; trace = tr }) r → {q : Bool} → q ≡ is_refused r → {d : Bool} → d ≡ drops_trace run.traced q
+      pub runs_end : (r : Result Ended PassesError) → ran_to (record { state = z; text = tx; trace = tr }) r → {q : Bool} → q ≡ is_err r → {d : Bool} → d ≡ (run.traced && q)
           → length z ≡ length old.state → length tx ≡ length old.text → length tr ≡ length old.trace
           → z₂ ≡ laid_if q run.state z → tx₂ ≡ laid_if q t tx → tr₂ ≡ laid_if d [] tr → Runs run old (record { state = z₂; text = tx₂; trace = tr₂ }) r
-      runs_end (Done n o p) x e f i k v a b c =
-          record { runs = kept (Done n o p) x (rw e at a) (rw e at b) (kept_trace run.traced (rw (f, e) at c)); back = tt }
-      runs_end (Control n p) x e f i k v a b c =
-          record { runs = kept (Control n p) x (rw e at a) (rw e at b) (kept_trace run.traced (rw (f, e) at c)); back = tt }
-      runs_end (Refused w p) x e f i k v a b c =
+      runs_end (Ok (Done n o p)) x e f i k v a b c =
+          record { runs = kept (Ok (Done n o p)) x (rw e at a) (rw e at b) (kept_trace run.traced (rw (f, e) at c)); back = tt }
+      runs_end (Ok (Control n p)) x e f i k v a b c =
+          record { runs = kept (Ok (Control n p)) x (rw e at a) (rw e at b) (kept_trace run.traced (rw (f, e) at c)); back = tt }
+      runs_end (Err w) x e f i k v a b c =
           let a₂ : z₂ ≡ padded run.state (length z) = rw e at a in
           let b₂ : tx₂ ≡ padded t (length tx) = rw e at b in
-          let c₂ : tr₂ ≡ laid_if (drops_trace run.traced true) [] tr = rw (f, e) at c in
+          let c₂ : tr₂ ≡ laid_if ((run.traced && true)) [] tr = rw (f, e) at c in
           let same = as_it_came run.traced x.untraced y.trace v c₂ in
           record {
-            runs = record { comes = (ran (Refused w p) x).comes; lies = tt; untraced = λ n. same };
+            runs = record { comes = (ran (Err w) x).comes; lies = tt; untraced = λ n. same };
             back = record { state = padded_whole run.state (length z) (ap length (sym y.same) ∙ sym i) a₂; line = whole_line (b₂ ∙ ap (padded t) k); trace = same };
           }

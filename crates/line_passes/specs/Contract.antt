@@ -1,5 +1,5 @@
 -- THE CONTRACT OF run_line: how a line ends, and what the memories of the state, of the text and of the trace then hold (01, part 6; 02, N1).
-use Rattle.std.specs.Prelude.{ℕ, ◌≤◌, ◌≡◌, Bool, true, false, List, length, take, replicate}
+use Rattle.std.specs.Prelude.{ℕ, ◌≤◌, ◌≡◌, Bool, true, false, List, length, take, replicate, Result, Ok, Err}
 use Rattle.macros.specs.Bounds.{most_line_bytes, most_trace_bytes}
 use Rattle.macros.specs.Refusals.{WorkRefusal}
 use Rattle.macros.specs.Refusals.WorkRefusal.{budget_used_up, trace_too_long}
@@ -15,7 +15,8 @@ use Rattle.line_memory.specs.Memory.{IsTable, Counted, padded}
 use Rattle.line_stand.specs.declared.Why.{Why}
 use Rattle.line_stand.specs.declared.Why.TheVariants.{BudgetUsedUp, AtWork, TraceTooLong}
 use Rattle.line_stand.specs.declared.Ended.{Ended}
-use Rattle.line_stand.specs.declared.Ended.TheVariants.{Done, Control, Refused}
+use Rattle.line_stand.specs.declared.Ended.TheVariants.{Done, Control}
+use Rattle.line_stand.specs.declared.PassesError.{PassesError}
 
 -- 01's refusal for each reason
 abbrev pub refusal_of : Why → WorkRefusal
@@ -72,10 +73,10 @@ pub record IsRefused (whole : Line) (r : WorkRefusal) (p : ℕ) : Type 0 where
   pub ends : ending whole ≡ refused r
   pub count : length (passes_of whole) ≡ p
 
-abbrev pub Comes : Bool → Line → Left → Ended → Type 0
-Comes traced whole left (Done n o p) = IsDone traced whole left n o p
-Comes traced whole left (Control n p) = IsControl traced whole left n p
-Comes traced whole left (Refused w p) = IsRefused whole (refusal_of w) p
+abbrev pub Comes : Bool → Line → Left → Result Ended PassesError → Type 0
+Comes traced whole left (Ok (Done n o p)) = IsDone traced whole left n o p
+Comes traced whole left (Ok (Control n p)) = IsControl traced whole left n p
+Comes traced whole left (Err e) = IsRefused whole (refusal_of e.why) e.begun
 
 -- WHAT IS LEFT
 
@@ -87,10 +88,10 @@ pub record LineLeft (left : Left) (n : ℕ) : Type 0 where
   pub laid : left.text ≡ padded (take n left.text) most_line_bytes
 
 -- of a line that is not refused
-abbrev pub Lies : Left → Ended → Type 0
-Lies left (Done n o p) = LineLeft left n
-Lies left (Control n p) = LineLeft left n
-Lies left (Refused w p) = Unit {0}
+abbrev pub Lies : Left → Result Ended PassesError → Type 0
+Lies left (Ok (Done n o p)) = LineLeft left n
+Lies left (Ok (Control n p)) = LineLeft left n
+Lies left (Err e) = Unit {0}
 
 -- a refused line leaves the state and the line that came, and the trace's memory as it was
 pub record PutBack (run : Run) (old left : Left) : Type 0 where
@@ -98,19 +99,19 @@ pub record PutBack (run : Run) (old left : Left) : Type 0 where
   pub line : left.text ≡ padded run.sent.line most_line_bytes
   pub trace : left.trace ≡ old.trace
 
-abbrev pub Back : Run → (old left : Left) → Ended → Type 0
-Back run old left (Done n o p) = Unit {0}
-Back run old left (Control n p) = Unit {0}
-Back run old left (Refused w p) = PutBack run old left
+abbrev pub Back : Run → (old left : Left) → Result Ended PassesError → Type 0
+Back run old left (Ok (Done n o p)) = Unit {0}
+Back run old left (Ok (Control n p)) = Unit {0}
+Back run old left (Err e) = PutBack run old left
 
 -- the line runs to the end r; of the memories of a refused one nothing is said; without a trace its memory is as it was
-pub record RunsTo (run : Run) (old left : Left) (r : Ended) : Type 0 where
+pub record RunsTo (run : Run) (old left : Left) (r : Result Ended PassesError) : Type 0 where
   pub comes : (ms : Table) → IsTable run.table ms → length ms ≡ run.count → (st : State) → Holds run.state st
       → Comes run.traced (history_of ms st run.sent) left r
   pub lies : Lies left r
   pub untraced : run.traced ≡ false → left.trace ≡ old.trace
 
 -- the contract
-pub record Runs (run : Run) (old left : Left) (r : Ended) : Type 0 where
+pub record Runs (run : Run) (old left : Left) (r : Result Ended PassesError) : Type 0 where
   pub runs : RunsTo run old left r
   pub back : Back run old left r

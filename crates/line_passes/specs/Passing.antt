@@ -1,11 +1,11 @@
 -- What the passes of a line promise, from one to the next (01, part 6).
-use Rattle.std.specs.Prelude.{ℕ, ◌+◌, ◌-◌, ◌≤◌, ◌≡◌, Bool, true, false, List, length, take, replicate}
+use Rattle.std.specs.Prelude.{ℕ, ◌+◌, ◌-◌, ◌≤◌, ◌≡◌, Bool, true, false, List, length, take, replicate, suc, ◌<◌, Result, Ok, Err}
 use Rattle.kinds.specs.Kind.{kind_table}
 use Rattle.macros.specs.Bounds.{most_macros, most_line_bytes, most_trace_bytes}
 use Rattle.macros.specs.Macro.{Table}
 use Rattle.macros.specs.Formed.{Bytes}
 use Rattle.lines.specs.State.{State}
-use Rattle.lines.specs.Line.{Pass, Line, passes, had_occurrence, passes_then}
+use Rattle.lines.specs.Line.{Pass, Line, passes, had_occurrence, passes_then, is_control}
 use Rattle.lines.specs.Trace.{trace_of, is_on, cut_if}
 use Rattle.form_state.specs.Access.{Holds, IsState, OfState}
 use Rattle.pass_lack.specs.Lacking.{flags_of}
@@ -16,9 +16,8 @@ use Rattle.line_stand.specs.Standing.{Open}
 use Rattle.line_passes.specs.Due.{due_below, Closes}
 use Rattle.line_stand.specs.declared.Stand.{Stand}
 use Rattle.line_stand.specs.declared.Ended.{Ended}
-use Rattle.line_stand.specs.declared.Ended.TheVariants.{Done, Control, Refused}
-use Rattle.line_stand.specs.declared.Next.{Next}
-use Rattle.line_stand.specs.declared.Next.TheVariants.{On, Over}
+use Rattle.line_stand.specs.declared.PassesError.{PassesError}
+use Rattle.line_stand.specs.Closed.{OpenBelow}
 
 -- WHERE A LINE STANDS, before a pass or at its end
 
@@ -82,17 +81,21 @@ abbrev pub left_of : Memories → Left
 left_of m = record { state = m.state; text = m.text; trace = m.trace }
 
 -- the end of every line that stands here
-pub record Ends (g : Given) (m : Memories) (left : Left) (a : Stand) (r : Ended) : Type 0 where
+pub record Ends (g : Given) (m : Memories) (left : Left) (a : Stand) (r : Result Ended PassesError) : Type 0 where
   pub comes : (whole : Line) (ms : Table) → IsTable g.table ms → length ms ≡ g.count → Stands whole ms g m a → Comes g.traced whole left r
   pub lies : Lies left r
   pub untraced : g.traced ≡ false → left.trace ≡ m.trace
 
--- one pass further, or at the end
-abbrev pub GoesOn : Given → Memories → Memories → Stand → Next → Type 0
-GoesOn g m m' a (On z) = Ready g m' z × (z.begun ≡ a.begun + 1) × Onward g m m' a z × (g.traced ≡ false → m'.trace ≡ m.trace)
-GoesOn g m m' a (Over r) = Ends g m (left_of m') a r
+-- the pass of the macro k is due
+abbrev pub PassDue : Given → Memories → Stand → ℕ → Type 0
+PassDue g m a k = (is_control (take a.size m.text) ≡ false) × OpenBelow m.flags a.due (suc k) × (a.begun < g.budget)
 
-pub record Steps (g : Given) (m m' : Memories) (a : Stand) (r : Next) : Type 0 where
+-- one pass further, or refused
+abbrev pub GoesOn : Given → Memories → Memories → Stand → Result Stand PassesError → Type 0
+GoesOn g m m' a (Ok z) = Ready g m' z × (z.begun ≡ a.begun + 1) × Onward g m m' a z × (g.traced ≡ false → m'.trace ≡ m.trace)
+GoesOn g m m' a (Err e) = Ends g m (left_of m') a (Err e)
+
+pub record Steps (g : Given) (m m' : Memories) (a : Stand) (r : Result Stand PassesError) : Type 0 where
   pub goes : GoesOn g m m' a r
 
 -- FROM THE START
@@ -111,14 +114,3 @@ pub record FromStart (tb : List ℕ) (count : ℕ) (old : Left) (n : ℕ) (trace
 -- the line that runs so
 abbrev pub run_of : List ℕ → ℕ → Left → ℕ → ℕ → Bool → Run
 run_of tb count old n budget traced = record { table = tb; count = count; state = old.state; sent = record { line = take n old.text; budget = budget }; traced = traced }
-
--- whether a line is refused
-abbrev pub is_refused : Ended → Bool
-is_refused (Done n o p) = false
-is_refused (Control n p) = false
-is_refused (Refused w p) = true
-
--- whether the trace of its passes goes again
-abbrev pub drops_trace : (traced refused : Bool) → Bool
-drops_trace true refused = refused
-drops_trace false refused = false

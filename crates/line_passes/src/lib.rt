@@ -3,26 +3,14 @@
 
 mod passes;
 
-ghost use Rattle.std.specs.Prelude.{◌≡◌};
 ghost use Rattle.line_passes.specs.Contract.{Started, Runs, RunsTo};
-ghost use Rattle.line_passes.specs.Passing.{FromStart, run_of, is_refused, drops_trace};
+ghost use Rattle.line_passes.specs.Passing.{FromStart, run_of};
 
 use kinds::kind_table;
 use line_memory::{lay_out, lay_out_if};
-use line_stand::{Ended, Stand};
+use line_stand::{Ended, PassesError, Stand};
 use pass_lack::note;
 use passes::all_passes;
-
-// Whether a line is refused.
-fn is_refused(ended: Ended) -> bool
-    ensures { result ≡ is_refused ended }
-{
-    match ended {
-        Ended::Done(_, _, _) => false,
-        Ended::Control(_, _) => false,
-        Ended::Refused(_, _) => true,
-    }
-}
 
 // The passes of a line that stands in the text, in memories of their own.
 fn from_start(
@@ -34,7 +22,7 @@ fn from_start(
     traced: bool,
     size: usize,
     budget: usize,
-) -> Ended
+) -> Result<Ended, PassesError>
     requires { FromStart table.now count (record { state = state.now; text = text.old; trace = trace.old }) size traced }
     ensures { RunsTo (run_of table.now count (record { state = state.entry.now; text = text.old; trace = trace.old }) size budget traced) (record { state = state.entry.now; text = text.old; trace = trace.old }) (record { state = state.exit.now; text = text.new; trace = trace.new }) result }
 {
@@ -44,7 +32,7 @@ fn from_start(
     note(&text[..size], &mut present);
     let mut flags = [0u8; 96];
     let start = Stand {
-        size: size,
+        size,
         occurred: false,
         due: count,
         begun: 0,
@@ -66,16 +54,6 @@ fn from_start(
     )
 }
 
-// Whether a trace was begun that goes again, as its line is refused.
-fn drops_trace(traced: bool, refused: bool) -> bool
-    ensures { result ≡ drops_trace traced refused }
-{
-    if traced {
-        return refused;
-    }
-    false
-}
-
 // Runs the passes of a line on the lent state, which stands in `before` too: `state` and `text` are the state and the line at its end, `trace`
 // its trace, if it is traced; of a refused line all three are put back as they came.
 pub fn run_line(
@@ -88,15 +66,15 @@ pub fn run_line(
     text: &mut [u8],
     trace: &mut [u8],
     traced: bool,
-) -> Ended
+) -> Result<Ended, PassesError>
     requires { Started (record { table = table.now; count = count; state = before.now; sent = record { line = line.now; budget = budget }; traced = traced }) (record { state = state.now; text = text.old; trace = trace.old }) }
     ensures { Runs (record { table = table.entry.now; count = count; state = before.now; sent = record { line = line.entry.now; budget = budget }; traced = traced }) (record { state = state.entry.now; text = text.old; trace = trace.old }) (record { state = state.exit.now; text = text.new; trace = trace.new }) result }
 {
     lay_out(text, line);
     let ended = from_start(table, count, state, text, trace, traced, line.len(), budget);
-    let refused = is_refused(ended);
+    let refused = ended.is_err();
     lay_out_if(state, before, refused);
     lay_out_if(text, line, refused);
-    lay_out_if(trace, b"", drops_trace(traced, refused));
+    lay_out_if(trace, b"", traced && refused);
     ended
 }

@@ -1,10 +1,10 @@
 // The passes of a line (01, part 6).
-ghost use Rattle.line_passes.specs.Passing.{Ready, Steps, Ends};
+ghost use Rattle.line_passes.specs.Passing.{Ready, PassDue, Steps, Ends};
 
 use line_begin::run_pass;
-use line_stand::{Due, Ended, Next, Stand, after_pass, next_due};
+use line_stand::{Due, Ended, PassesError, Stand, after_pass, next_due};
 
-// One pass further, or the end.
+// The pass of the macro k, which is due: one pass further.
 fn step(
     table: &[u8],
     count: usize,
@@ -18,40 +18,31 @@ fn step(
     traced: bool,
     budget: usize,
     stand: Stand,
-) -> Next
-    requires { Ready (record { table = table.now; count = count; kinds = kinds.now; budget = budget; traced = traced }) (record { state = state.now; text = text.old; new = new.old; present = present.old; flags = flags.old; trace = trace.old }) stand }
+    k: usize,
+) -> Result<Stand, PassesError>
+    requires { Ready (record { table = table.now; count = count; kinds = kinds.now; budget = budget; traced = traced }) (record { state = state.now; text = text.old; new = new.old; present = present.old; flags = flags.old; trace = trace.old }) stand × PassDue (record { table = table.now; count = count; kinds = kinds.now; budget = budget; traced = traced }) (record { state = state.now; text = text.old; new = new.old; present = present.old; flags = flags.old; trace = trace.old }) stand k }
     ensures { Steps (record { table = table.entry.now; count = count; kinds = kinds.now; budget = budget; traced = traced }) (record { state = state.entry.now; text = text.old; new = new.old; present = present.old; flags = flags.old; trace = trace.old }) (record { state = state.exit.now; text = text.new; new = new.new; present = present.new; flags = flags.new; trace = trace.new }) stand result }
 {
     let n = stand.size;
-    let due = next_due(&text[..n], flags, budget, stand);
-    match due {
-        Due::Over(end) => {
-            return Next::Over(end);
-        }
-        Due::Pass(k) => {
-            let a = 1024 * k;
-            let passed = run_pass(
-                &table[a..a + 1024],
-                kinds,
-                present,
-                &text[..n],
-                state,
-                new,
-                flags,
-                k,
-            );
-            let on = Stand {
-                size: n,
-                occurred: stand.occurred,
-                due: k,
-                begun: stand.begun + 1,
-                written: stand.written,
-            };
-            return after_pass(
-                table, count, text, new, present, flags, trace, traced, passed, on,
-            );
-        }
-    }
+    let a = 1024 * k;
+    let passed = run_pass(
+        &table[a..a + 1024],
+        kinds,
+        present,
+        &text[..n],
+        state,
+        new,
+        flags,
+        k,
+    );
+    let on = Stand {
+        due: k,
+        begun: stand.begun + 1,
+        ..stand
+    };
+    after_pass(
+        table, count, text, new, present, flags, trace, traced, passed, on,
+    )
 }
 
 // The passes from where the line stands to its end.
@@ -68,21 +59,22 @@ pub(crate) fn all_passes(
     traced: bool,
     budget: usize,
     start: Stand,
-) -> Ended
+) -> Result<Ended, PassesError>
     requires { Ready (record { table = table.now; count = count; kinds = kinds.now; budget = budget; traced = traced }) (record { state = state.now; text = text.old; new = new.old; present = present.old; flags = flags.old; trace = trace.old }) start }
     ensures { Ends (record { table = table.entry.now; count = count; kinds = kinds.now; budget = budget; traced = traced }) (record { state = state.entry.now; text = text.old; new = new.old; present = present.old; flags = flags.old; trace = trace.old }) (record { state = state.exit.now; text = text.new; trace = trace.new }) start result }
 {
     let mut stand = start;
     loop {
-        let next = step(
-            table, count, kinds, state, text, new, present, flags, trace, traced, budget, stand,
-        );
-        match next {
-            Next::On(then) => {
-                stand = then;
+        let n = stand.size;
+        match next_due(&text[..n], flags, budget, stand)? {
+            Due::Over(end) => {
+                return Ok(end);
             }
-            Next::Over(end) => {
-                return end;
+            Due::Pass(k) => {
+                stand = step(
+                    table, count, kinds, state, text, new, present, flags, trace, traced, budget,
+                    stand, k,
+                )?;
             }
         }
     }
