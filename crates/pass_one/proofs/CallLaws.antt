@@ -1,13 +1,10 @@
 -- The calls of a pattern, and the marks that hold as long as these stand for the same texts.
-use Prim.Native.Nat.{ℕ, ◌+◌, ◌-◌, ◌*◌, ◌≤◌, ◌<◌}
+use Prim.Native.Nat.{ℕ, ◌*◌, ◌≤◌, ◌<◌}
 use mathlib.Core.Path.{◌≡◌, refl, sym, ap, ◌∙◌, subst}
 use mathlib.Core.Bool.{true, false}
 use mathlib.Core.List.{List, [], ◌∷◌, ◌++◌, reverse, reverse_aux}
-use native.Mathlib.Nat.{zero-add}
-use native.Mathlib.Numerals.{add-one}
 use native.Mathlib.Omega.{arith}
-use lib.ListN.{length, get_or, take, drop, set}
-use lib.Seq.{take-suc, take_all}
+use lib.ListN.{length, get_or, drop}
 use Rattle.macros.specs.Macro.{Member, Piece}
 use Rattle.macros.specs.Macro.Member.{single, range}
 use Rattle.macros.specs.Macro.Mark.{stack, counter}
@@ -19,9 +16,8 @@ use Rattle.form_table.specs.Form.{unit_code, unit_operand, member_items, members
 use Rattle.form_table.proofs.Octet.{closure_code_lem}
 use Rattle.form_table.proofs.Order.{oldest}
 use Rattle.lines.specs.State.{State, contents}
-use Rattle.form_state.specs.Access.{IsState, replaced}
+use Rattle.form_state.specs.Access.{IsState}
 use Rattle.form_state.proofs.Decode.{one_state_form}
-use Rattle.form_state.proofs.Replaced.{replaced_whole, text_more, text_end}
 use Rattle.pass_marks.specs.Marks.{cleared}
 use Rattle.pass_marks.proofs.MarkLaws.{cleared_zero, cleared_rest}
 use Rattle.pass_one.specs.Marks.{Sound, Agree}
@@ -158,17 +154,3 @@ module _ (items b : List ℕ) (es : List Piece) (p : IsPattern items es) (s : Is
         sees = λ before y. seen_self items b seen' es p s (omega arith) e;
         outside = ap (drop (66 * length items)) f ∙ cleared_rest marks (66 * length items);
       }
-
--- BYTES THAT ARE COPIED OR COMPARED
-
-pub copy_more : (b s t : List ℕ) (i : ℕ) → i < length t → length t ≡ length b → s ≡ replaced b 0 (take i t) → set s i (get_or t i 0) ≡ replaced b 0 (take (i + 1) t)
-copy_more b s t i h l e = ap (λ (j : ℕ). set s j (get_or t i 0)) (sym (zero-add i)) ∙ text_more b s t 0 i h (omega arith) e
-
-pub copy_done : (b s t : List ℕ) (i : ℕ) → length t ≤ i → length t ≡ length b → s ≡ replaced b 0 (take i t) → s ≡ t
-copy_done b s t i h l e = text_end b s t 0 i h e ∙ replaced_whole b t (sym l)
-
-pub text_next : (a b : List ℕ) (i : ℕ) → i < length a → length a ≡ length b → take i a ≡ take i b → get_or a i 0 ≡ get_or b i 0 → take (i + 1) a ≡ take (i + 1) b
-text_next a b i h l e f = rw add-one (take-suc a i 0 h ∙ rw (e, f) (sym (take-suc b i 0 (omega arith))))
-
-pub text_same : (a b : List ℕ) (i : ℕ) → length a ≤ i → length a ≡ length b → take i a ≡ take i b → a ≡ b
-text_same a b i h l e = sym (take_all i a h) ∙ e ∙ take_all i b (omega arith)

@@ -29,7 +29,7 @@ use Rattle.pass_moment.specs.Moments.{past_places}
 use Rattle.pass_lack.specs.Lacking.{differs_in}
 use Rattle.pass_unit.specs.Pattern.{IsPattern, IsRest}
 use Rattle.pass_one.specs.Finding.{Ready, pick_last, last_of, FoundAt, counted_of, Differs, LastPlace, Finds}
-use Rattle.pass_one.specs.Trying.{answer, last_stop, Said, Trying, Tried}
+use Rattle.pass_one.specs.Trying.{last_stop, Said, Trying, Tried}
 use Rattle.pass_unit.proofs.TextLaws.{byte_here_lem, byte_past}
 
 -- the whole pattern begins at 0

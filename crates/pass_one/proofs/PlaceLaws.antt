@@ -13,7 +13,6 @@ use Rattle.macros.specs.Macro.{Piece, Macro}
 use Rattle.lines.specs.Matching.{Division, end_of, stops}
 use Rattle.lines.specs.Replacing.{Work}
 use Rattle.form_state.specs.Access.{IsState}
-use Rattle.refusals.specs.declared.WorkFault.{WorkFault}
 use Rattle.refusals.specs.declared.WorkFault.TheVariants.{NewLineTooLong}
 use Rattle.refusals.specs.declared.WorkError.{WorkError}
 use Rattle.pass_replace.specs.Contract.{EndsFrom, IsSlot, IsDivided, Lent, Occurs}

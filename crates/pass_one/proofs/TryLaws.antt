@@ -1,7 +1,7 @@
 -- The steps of the matcher: what each answer says.
 -- Assumes nothing.
 use Rattle.std.specs.Prelude.{Option as CodeOption, Some, None}
-use mathlib.Core.Path.{◌≡◌, refl, sym, ap, ◌∙◌, subst}
+use mathlib.Core.Path.{◌≡◌, refl, sym, ap, ◌∙◌}
 use mathlib.Core.Bool.{Bool, true, false, false≢true}
 use mathlib.Core.List.{List, [], ◌∷◌}
 use mathlib.Core.Option.{Option, none, some}

@@ -4,7 +4,6 @@ use Rattle.std.proofs.Math.Option.{Option, none, some}
 use Rattle.kinds.specs.Kind.{kind_table}
 use Rattle.macros.specs.Bounds.{most_line_bytes}
 use Rattle.macros.specs.Macro.{Piece}
-use Rattle.macros.specs.Macro.Piece.{end}
 use Rattle.form_table.specs.Form.{body_bytes}
 use Rattle.lines.specs.State.{State}
 use Rattle.lines.specs.Matching.{Division, end_of, stops}

@@ -93,7 +93,17 @@ fn matched(
         );
     }
     walk(
-        slot, items, kinds, line, first, end, state, out, marks, &mut [], ends,
+        slot,
+        items,
+        kinds,
+        line,
+        first,
+        end,
+        state,
+        out,
+        marks,
+        &mut [],
+        ends,
     )
 }
 

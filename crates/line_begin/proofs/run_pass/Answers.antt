@@ -1,8 +1,5 @@
-use Rattle.line_begin.proofs.Preparing.{calls_lent, places_lent, runs_places, runs_refused}
+use Rattle.line_begin.proofs.Preparing.{places_lent, runs_places, runs_refused}
 use Rattle.line_begin.proofs.run_pass.Goals as goal
-
-pub prepare-requires : goal.prepare-requires
-prepare-requires c = calls_lent c.requires
 
 pub pass-requires : goal.pass-requires
 pass-requires c = places_lent c.requires c.prepare.ensures

@@ -15,12 +15,12 @@ same_calls-requires c =
 pub returns-then-is_empty : goal.returns-then-is_empty
 returns-then-is_empty c =
     elim c.then-is_empty.branch [
-      then-is_empty-via-then-is_empty w ↦
-        let n = eqb-true (length c.args.seen.now) 0 (sym c.is_empty.ensures ∙ w.if-is_empty.true) in
-        renew_none _ _ c.requires.pattern.0 c.requires.pattern.1 c.requires.state c.args.seen.now c.args.marks.now (omega arith)
-    | then-is_empty-via-else-is_empty+then-same_calls w ↦
-        let n = eqb-false (length c.args.seen.now) 0 (sym c.is_empty.ensures ∙ w.if-is_empty.false) in
-        renew_same _ _ c.requires.pattern.0 c.requires.pattern.1 c.requires.state c.args.seen.now c.args.marks.now (omega arith) (w.same_calls.ensures w.if-same_calls.true)
+      | then-is_empty-via-then-is_empty w ↦
+          let n = eqb-true (length c.args.seen.now) 0 (sym c.is_empty.ensures ∙ w.if-is_empty.true) in
+          renew_none _ _ c.requires.pattern.0 c.requires.pattern.1 c.requires.state c.args.seen.now c.args.marks.now (omega arith)
+      | then-is_empty-via-else-is_empty+then-same_calls w ↦
+          let n = eqb-false (length c.args.seen.now) 0 (sym c.is_empty.ensures ∙ w.if-is_empty.false) in
+          renew_same _ _ c.requires.pattern.0 c.requires.pattern.1 c.requires.state c.args.seen.now c.args.marks.now (omega arith) (w.same_calls.ensures w.if-same_calls.true)
     ]
 
 pub copy_from_slice-requires : goal.copy_from_slice-requires

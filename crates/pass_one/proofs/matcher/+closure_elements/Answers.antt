@@ -1,30 +1,14 @@
-use mathlib.Core.Path.{refl, sym, ◌∙◌}
+use mathlib.Core.Path.{sym, ◌∙◌}
 use native.Mathlib.Omega.{arith}
 use borrow.Author.Tests.{eqb-true}
-use lib.ListN.{length-set}
 use Rattle.pass_unit.proofs.ItemLaws.{piece_here}
 use Rattle.pass_one.proofs.TryLaws.{again_wide, read_here, behind_inside, stands, element_here, tried_done, tried_nothing, tried_more, tried_first, tried_fails, next_trying, next_inside, copied_marked, at_small, in_row, in_ends, place_small}
-use Rattle.pass_one.proofs.RowLaws.{some_is, none_is, row_small, start_place, start_small, copied_first, copied_none, upper_repeating, copied_upper, lower_repeating, copied_lower, count_inside}
-use mir.Val.{Fits}
-use mir.Syntax.{w16, w64}
-use Rattle.macros.specs.Bounds.{most_line_bytes}
-use Prim.Native.Nat.{ℕ, ◌+◌, ◌-◌, ◌*◌, ◌/◌, ◌≤◌}
+use Rattle.pass_one.proofs.RowLaws.{some_is, none_is, start_place, copied_first, copied_none, upper_repeating, copied_upper, lower_repeating, count_inside}
+use Prim.Native.Nat.{◌-◌, ◌/◌}
 use Rattle.pass_one.proofs.matcher.+closure_elements.Goals as goal
 
-fit-part : (q x y : ℕ) → q + x * y ≤ most_line_bytes → Fits w64 (x * y)
-fit-part q x y l = omega arith
-
-fit-place : (x : ℕ) → x ≤ most_line_bytes → Fits w64 x
-fit-place x l = omega arith
-
-fit-cast : (x : ℕ) → x ≤ most_line_bytes → Fits w16 x
-fit-cast x l = omega arith
-
 pub closure-elements-requires : goal.closure-elements-requires
-closure-elements-requires t c = let i = next_inside _ _ _ c.requires.stands c.requires.behind in (omega arith, next_trying _ _ _ _ _ _ _ _ _ c.requires.given c.requires.noted c.requires.stands c.requires.behind (start_place c.args.items.now c.args.kinds.now c.args.state.now c.args.line.now c.args.at c.args.next c.args.w c.args.q c.args.most c.args.marks.now c.args.ends.now c.requires))
-
-pub closure-overflow_cast-ends : goal.closure-overflow_cast-ends
-closure-overflow_cast-ends t c = fit-cast _ (start_small c.args.items.now c.args.kinds.now c.args.state.now c.args.line.now c.args.at c.args.next c.args.w c.args.q c.args.most c.args.marks.now c.args.ends.now c.requires)
+closure-elements-requires t c = let i = next_inside _ _ _ c.requires.stands c.requires.behind in (omega arith, next_trying _ _ _ _ _ _ _ _ _ c.requires.given c.requires.noted c.requires.stands c.requires.behind (start_place _ _ _ _ _ _ _ _ _ _ _ c.requires))
 
 pub closure-offset_bounds-ends-at : goal.closure-offset_bounds-ends-at
 closure-offset_bounds-ends-at t c = let z = at_small _ _ _ _ _ c.requires.given c.requires.stands in omega arith
@@ -32,62 +16,26 @@ closure-offset_bounds-ends-at t c = let z = at_small _ _ _ _ _ c.requires.given 
 pub closure-bounds-ends-at : goal.closure-bounds-ends-at
 closure-bounds-ends-at t c = in_ends _ _ _ _ _ c.requires.given c.requires.stands _ c.elements.ensures.kept.noted.count
 
-pub closure-shape_of-marks-in-Some : goal.closure-shape_of-marks-in-Some
-closure-shape_of-marks-in-Some t c = c.elements.ensures.kept.noted.size ∙ sym c.requires.noted.size
-
-pub closure-shape_of-ends-in-Some : goal.closure-shape_of-ends-in-Some
-closure-shape_of-ends-in-Some t c = simp length-set (c.elements.ensures.kept.noted.count ∙ sym c.requires.noted.count)
-
 pub closure-returns-in-Some : goal.closure-returns-in-Some
-closure-returns-in-Some t c = copied_first c.args.items.now c.args.kinds.now c.args.state.now c.args.line.now c.args.at c.args.next c.args.w c.args.q c.args.most c.args.marks.now c.args.ends.now c.requires c.if-most-eq0.true _ _ _ (in_ends _ _ _ _ _ c.requires.given c.requires.stands _ c.elements.ensures.kept.noted.count) (rw c.in-Some.is at c.elements.ensures)
+closure-returns-in-Some t c = copied_first _ _ _ _ _ _ _ _ _ _ _ c.requires c.if-most-eq0.true _ _ _ (in_ends _ _ _ _ _ c.requires.given c.requires.stands _ c.elements.ensures.kept.noted.count) (rw c.in-Some.is at c.elements.ensures)
 
 pub closure-set_mark-requires : goal.closure-set_mark-requires
-closure-set_mark-requires t c = in_row _ _ _ _ _ c.requires.given c.requires.stands _ _ c.elements.ensures.kept.noted.size (start_place c.args.items.now c.args.kinds.now c.args.state.now c.args.line.now c.args.at c.args.next c.args.w c.args.q c.args.most c.args.marks.now c.args.ends.now c.requires)
-
-pub closure-shape_of-marks-then-most-eq0 : goal.closure-shape_of-marks-then-most-eq0
-closure-shape_of-marks-then-most-eq0 t c = c.set_mark.auto.marks ∙ c.elements.ensures.kept.noted.size ∙ sym c.requires.noted.size
-
-pub closure-shape_of-ends-then-most-eq0 : goal.closure-shape_of-ends-then-most-eq0
-closure-shape_of-ends-then-most-eq0 t c = c.elements.ensures.kept.noted.count ∙ sym c.requires.noted.count
+closure-set_mark-requires t c = in_row _ _ _ _ _ c.requires.given c.requires.stands _ _ c.elements.ensures.kept.noted.size (start_place _ _ _ _ _ _ _ _ _ _ _ c.requires)
 
 pub closure-returns-then-most-eq0 : goal.closure-returns-then-most-eq0
-closure-returns-then-most-eq0 t c = copied_none c.args.items.now c.args.kinds.now c.args.state.now c.args.line.now c.args.at c.args.next c.args.w c.args.q c.args.most c.args.marks.now c.args.ends.now c.requires c.if-most-eq0.true _ _ (rw c.in_default.is at c.elements.ensures) _ c.set_mark.ensures
-
-pub closure-overflow_sub-low : goal.closure-overflow_sub-low
-closure-overflow_sub-low t c = let n = c.if-most-eq0.false in omega arith
-
-pub closure-overflow_mul-r : goal.closure-overflow_mul-r
-closure-overflow_mul-r t c = fit-part _ _ _ (row_small c.args.items.now c.args.kinds.now c.args.state.now c.args.line.now c.args.at c.args.next c.args.w c.args.q c.args.most c.args.marks.now c.args.ends.now c.requires _ _ (omega arith) (let s = c.requires.some in omega arith))
-
-pub closure-overflow_add-r : goal.closure-overflow_add-r
-closure-overflow_add-r t c = fit-place _ (row_small c.args.items.now c.args.kinds.now c.args.state.now c.args.line.now c.args.at c.args.next c.args.w c.args.q c.args.most c.args.marks.now c.args.ends.now c.requires _ _ (omega arith) (let s = c.requires.some in omega arith))
+closure-returns-then-most-eq0 t c = copied_none _ _ _ _ _ _ _ _ _ _ _ c.requires c.if-most-eq0.true _ _ (rw c.in_default.is at c.elements.ensures) _ c.set_mark.ensures
 
 pub closure-closure-found-requires : goal.closure-closure-found-requires
-closure-closure-found-requires t c = let n = c.if-most-eq0.false in (omega arith, upper_repeating c.args.items.now c.args.kinds.now c.args.state.now c.args.line.now c.args.at c.args.next c.args.w c.args.q c.args.most c.args.marks.now c.args.ends.now c.requires (c.args.most - c.args.most / 2) (c.args.most / 2) (omega arith))
-
-pub closure-shape_of-marks-then-is_some : goal.closure-shape_of-marks-then-is_some
-closure-shape_of-marks-then-is_some t c = c.closure-found.ensures.kept.noted.size ∙ sym c.requires.noted.size
-
-pub closure-shape_of-ends-then-is_some : goal.closure-shape_of-ends-then-is_some
-closure-shape_of-ends-then-is_some t c = c.closure-found.ensures.kept.noted.count ∙ sym c.requires.noted.count
+closure-closure-found-requires t c = let n = c.if-most-eq0.false in (omega arith, upper_repeating _ _ _ _ _ _ _ _ _ _ _ c.requires (c.args.most - c.args.most / 2) (c.args.most / 2) (omega arith))
 
 pub closure-returns-then-is_some : goal.closure-returns-then-is_some
-closure-returns-then-is_some t c = copied_upper c.args.items.now c.args.kinds.now c.args.state.now c.args.line.now c.args.at c.args.next c.args.w c.args.q c.args.most c.args.marks.now c.args.ends.now c.requires (c.args.most - c.args.most / 2) (c.args.most / 2) (omega arith) _ _ _ _ (some_is _ (sym c.is_some.ensures ∙ c.if-is_some.true)).1 c.closure-found.ensures
+closure-returns-then-is_some t c = copied_upper _ _ _ _ _ _ _ _ _ _ _ c.requires (c.args.most - c.args.most / 2) (c.args.most / 2) (omega arith) _ _ _ _ (some_is _ (sym c.is_some.ensures ∙ c.if-is_some.true)).1 c.closure-found.ensures
 
 pub closure-closure-requires : goal.closure-closure-requires
-closure-closure-requires t c = let n = c.if-most-eq0.false in (omega arith, lower_repeating c.args.items.now c.args.kinds.now c.args.state.now c.args.line.now c.args.at c.args.next c.args.w c.args.q c.args.most c.args.marks.now c.args.ends.now c.requires (c.args.most - c.args.most / 2) (c.args.most / 2) (omega arith) (let n = c.if-most-eq0.false in omega arith) _ _ (rw (none_is _ (sym c.is_some.ensures ∙ c.if-is_some.false)) at c.closure-found.ensures))
-
-pub closure-shape_of-marks : goal.closure-shape_of-marks
-closure-shape_of-marks t c = c.closure.ensures.kept.noted.size ∙ sym c.requires.noted.size
-
-pub closure-shape_of-ends : goal.closure-shape_of-ends
-closure-shape_of-ends t c = c.closure.ensures.kept.noted.count ∙ sym c.requires.noted.count
-
-pub closure-returns : goal.closure-returns
-closure-returns t c = copied_lower c.args.items.now c.args.kinds.now c.args.state.now c.args.line.now c.args.at c.args.next c.args.w c.args.q c.args.most c.args.marks.now c.args.ends.now c.requires (c.args.most - c.args.most / 2) (c.args.most / 2) (omega arith) (let n = c.if-most-eq0.false in omega arith) _ _ (rw (none_is _ (sym c.is_some.ensures ∙ c.if-is_some.false)) at c.closure-found.ensures) _ _ _ c.closure.ensures
+closure-closure-requires t c = let n = c.if-most-eq0.false in (omega arith, lower_repeating _ _ _ _ _ _ _ _ _ _ _ c.requires (c.args.most - c.args.most / 2) (c.args.most / 2) (omega arith) (let n = c.if-most-eq0.false in omega arith) _ _ (rw (none_is _ (sym c.is_some.ensures ∙ c.if-is_some.false)) at c.closure-found.ensures))
 
 pub elements-returns-then-at-items : goal.elements-returns-then-at-items
-elements-returns-then-at-items t c = tried_done c.args.items.now c.args.kinds.now c.args.state.now c.args.line.now c.args.at c.args.p c.args.marks.now c.args.ends.now c.requires c.if-at-items.true
+elements-returns-then-at-items t c = tried_done _ _ _ _ _ _ _ _ c.requires c.if-at-items.true
 
 pub elements-element_at-e-requires : goal.elements-element_at-e-requires
 elements-element_at-e-requires t c = piece_here _ _ (stands _ _ _ _ _ _ _ _ c.requires c.if-at-items.false)
@@ -104,11 +52,8 @@ elements-behind-next-requires t c = (element_here _ _ _ _ _ _ _ _ c.requires c.i
 pub elements-is_marked-requires : goal.elements-is_marked-requires
 elements-is_marked-requires t c = in_row _ _ _ _ _ c.requires.given (element_here _ _ _ _ _ _ _ _ c.requires c.if-at-items.false _ c.element_at-e.ensures).unit.stands _ _ c.requires.noted.size (behind_inside _ _ _ _ _ _ _ _ c.requires c.if-at-items.false _ c.element_at-e.ensures _ c.width_of-w.ensures _ c.lead_at.ensures _ c.in_ok-q.was)
 
-pub elements-shape_of-marks-then-is_marked : goal.elements-shape_of-marks-then-is_marked
-elements-shape_of-marks-then-is_marked t c = refl
-
 pub elements-returns-then-is_marked : goal.elements-returns-then-is_marked
-elements-returns-then-is_marked t c = tried_more c.args.items.now c.args.state.now c.args.line.now c.args.at c.args.p c.if-at-items.false c.element_at-e.result c.width_of-w.result c.lead_at.result (read_here _ _ _ _ _ _ _ _ c.requires c.if-at-items.false _ c.element_at-e.ensures _ c.width_of-w.ensures _ c.lead_at.ensures) _ c.in_ok-q.was (sym c.may_repeat.ensures ∙ c.if-may_repeat.true) _ _ _ _ (copied_marked _ _ _ _ _ _ _ c.requires.noted (place_small _ _ _ _ _ c.requires.given (behind_inside _ _ _ _ _ _ _ _ c.requires c.if-at-items.false _ c.element_at-e.ensures _ c.width_of-w.ensures _ c.lead_at.ensures _ c.in_ok-q.was)) (eqb-true _ _ (sym c.is_marked.ensures ∙ c.if-is_marked.true)))
+elements-returns-then-is_marked t c = tried_more _ _ _ _ _ c.if-at-items.false _ _ _ (read_here _ _ _ _ _ _ _ _ c.requires c.if-at-items.false _ c.element_at-e.ensures _ c.width_of-w.ensures _ c.lead_at.ensures) _ c.in_ok-q.was (sym c.may_repeat.ensures ∙ c.if-may_repeat.true) _ _ _ _ (copied_marked _ _ _ _ _ _ _ c.requires.noted (place_small _ _ _ _ _ c.requires.given (behind_inside _ _ _ _ _ _ _ _ c.requires c.if-at-items.false _ c.element_at-e.ensures _ c.width_of-w.ensures _ c.lead_at.ensures _ c.in_ok-q.was)) (eqb-true _ _ (sym c.is_marked.ensures ∙ c.if-is_marked.true)))
 
 pub elements-most_copies-most-requires : goal.elements-most_copies-most-requires
 elements-most_copies-most-requires t c = record { given = c.requires.given; size = c.requires.noted.size; sound = c.requires.noted.sound; unit = (element_here _ _ _ _ _ _ _ _ c.requires c.if-at-items.false _ c.element_at-e.ensures).unit; wide = c.width_of-w.ensures; some = again_wide c.element_at-e.result.closure c.width_of-w.result (sym c.may_repeat.ensures ∙ c.if-may_repeat.true); place = (behind_inside _ _ _ _ _ _ _ _ c.requires c.if-at-items.false _ c.element_at-e.ensures _ c.width_of-w.ensures _ c.lead_at.ensures _ c.in_ok-q.was) }
@@ -116,23 +61,17 @@ elements-most_copies-most-requires t c = record { given = c.requires.given; size
 pub elements-closure-requires : goal.elements-closure-requires
 elements-closure-requires t c = let k = c.most_copies-most.ensures.row.inside in let w = again_wide c.element_at-e.result.closure c.width_of-w.result (sym c.may_repeat.ensures ∙ c.if-may_repeat.true) in let l = count_inside _ _ _ _ w k in let s = c.requires.given.short in (omega arith, record { given = c.requires.given; noted = c.requires.noted; stands = (element_here _ _ _ _ _ _ _ _ c.requires c.if-at-items.false _ c.element_at-e.ensures).unit.stands; behind = c.behind-next.ensures; some = w; most = c.most_copies-most.ensures })
 
-pub elements-shape_of-marks-then-may_repeat : goal.elements-shape_of-marks-then-may_repeat
-elements-shape_of-marks-then-may_repeat t c = c.closure.ensures.kept.noted.size ∙ sym c.requires.noted.size
-
-pub elements-shape_of-ends-then-may_repeat : goal.elements-shape_of-ends-then-may_repeat
-elements-shape_of-ends-then-may_repeat t c = c.closure.ensures.kept.noted.count ∙ sym c.requires.noted.count
-
 pub elements-returns-then-may_repeat : goal.elements-returns-then-may_repeat
-elements-returns-then-may_repeat t c = tried_more c.args.items.now c.args.state.now c.args.line.now c.args.at c.args.p c.if-at-items.false c.element_at-e.result c.width_of-w.result c.lead_at.result (read_here _ _ _ _ _ _ _ _ c.requires c.if-at-items.false _ c.element_at-e.ensures _ c.width_of-w.ensures _ c.lead_at.ensures) _ c.in_ok-q.was (sym c.may_repeat.ensures ∙ c.if-may_repeat.true) _ _ _ _ c.closure.ensures
+elements-returns-then-may_repeat t c = tried_more _ _ _ _ _ c.if-at-items.false _ _ _ (read_here _ _ _ _ _ _ _ _ c.requires c.if-at-items.false _ c.element_at-e.ensures _ c.width_of-w.ensures _ c.lead_at.ensures) _ c.in_ok-q.was (sym c.may_repeat.ensures ∙ c.if-may_repeat.true) _ _ _ _ c.closure.ensures
 
 pub elements-elements-requires : goal.elements-elements-requires
 elements-elements-requires t c = let i = next_inside _ _ _ (element_here _ _ _ _ _ _ _ _ c.requires c.if-at-items.false _ c.element_at-e.ensures).unit.stands c.behind-next.ensures in (omega arith, next_trying _ _ _ _ _ _ _ _ _ c.requires.given c.requires.noted (element_here _ _ _ _ _ _ _ _ c.requires c.if-at-items.false _ c.element_at-e.ensures).unit.stands c.behind-next.ensures (behind_inside _ _ _ _ _ _ _ _ c.requires c.if-at-items.false _ c.element_at-e.ensures _ c.width_of-w.ensures _ c.lead_at.ensures _ c.in_ok-q.was))
 
 pub elements-returns-in_err-q : goal.elements-returns-in_err-q
-elements-returns-in_err-q t c = rw c.from_residual.ensures (tried_nothing c.args.items.now c.args.state.now c.args.line.now c.args.at c.args.p c.if-at-items.false c.element_at-e.result c.width_of-w.result c.lead_at.result (read_here _ _ _ _ _ _ _ _ c.requires c.if-at-items.false _ c.element_at-e.ensures _ c.width_of-w.ensures _ c.lead_at.ensures) c.args.marks.now c.args.ends.now c.requires.noted c.in_err-q.was)
+elements-returns-in_err-q t c = rw c.from_residual.ensures (tried_nothing _ _ _ _ _ c.if-at-items.false _ _ _ (read_here _ _ _ _ _ _ _ _ c.requires c.if-at-items.false _ c.element_at-e.ensures _ c.width_of-w.ensures _ c.lead_at.ensures) c.args.marks.now c.args.ends.now c.requires.noted c.in_err-q.was)
 
 pub elements-overflow_cast-ends : goal.elements-overflow_cast-ends
-elements-overflow_cast-ends t c = let l = behind_inside _ _ _ _ _ _ _ _ c.requires c.if-at-items.false _ c.element_at-e.ensures _ c.width_of-w.ensures _ c.lead_at.ensures _ c.in_ok-q.was in let h = c.requires.given.short in fit-cast _ (omega arith)
+elements-overflow_cast-ends t c = let l = behind_inside _ _ _ _ _ _ _ _ c.requires c.if-at-items.false _ c.element_at-e.ensures _ c.width_of-w.ensures _ c.lead_at.ensures _ c.in_ok-q.was in let h = c.requires.given.short in omega arith
 
 pub elements-offset_bounds-ends-at : goal.elements-offset_bounds-ends-at
 elements-offset_bounds-ends-at t c = let z = at_small _ _ _ _ _ c.requires.given (element_here _ _ _ _ _ _ _ _ c.requires c.if-at-items.false _ c.element_at-e.ensures).unit.stands in omega arith
@@ -141,7 +80,7 @@ pub elements-bounds-ends-at : goal.elements-bounds-ends-at
 elements-bounds-ends-at t c = in_ends _ _ _ _ _ c.requires.given (element_here _ _ _ _ _ _ _ _ c.requires c.if-at-items.false _ c.element_at-e.ensures).unit.stands _ c.elements.ensures.kept.noted.count
 
 pub elements-returns-in_err-end : goal.elements-returns-in_err-end
-elements-returns-in_err-end t c = rw c.from_residual-in_err-end.ensures (tried_fails c.args.items.now c.args.state.now c.args.line.now c.args.at c.args.p c.if-at-items.false c.element_at-e.result c.width_of-w.result c.lead_at.result (read_here _ _ _ _ _ _ _ _ c.requires c.if-at-items.false _ c.element_at-e.ensures _ c.width_of-w.ensures _ c.lead_at.ensures) _ c.in_ok-q.was (sym c.may_repeat.ensures ∙ c.if-may_repeat.false) _ c.behind-next.ensures _ _ _ c.in_err-end.ensures)
+elements-returns-in_err-end t c = rw c.from_residual-in_err-end.ensures (tried_fails _ _ _ _ _ c.if-at-items.false _ _ _ (read_here _ _ _ _ _ _ _ _ c.requires c.if-at-items.false _ c.element_at-e.ensures _ c.width_of-w.ensures _ c.lead_at.ensures) _ c.in_ok-q.was (sym c.may_repeat.ensures ∙ c.if-may_repeat.false) _ c.behind-next.ensures _ _ _ c.in_err-end.ensures)
 
 pub elements-returns : goal.elements-returns
-elements-returns t c = tried_first c.args.items.now c.args.state.now c.args.line.now c.args.at c.args.p c.if-at-items.false c.element_at-e.result c.width_of-w.result c.lead_at.result (read_here _ _ _ _ _ _ _ _ c.requires c.if-at-items.false _ c.element_at-e.ensures _ c.width_of-w.ensures _ c.lead_at.ensures) _ c.in_ok-q.was (sym c.may_repeat.ensures ∙ c.if-may_repeat.false) _ c.behind-next.ensures _ _ _ _ (in_ends _ _ _ _ _ c.requires.given (element_here _ _ _ _ _ _ _ _ c.requires c.if-at-items.false _ c.element_at-e.ensures).unit.stands _ c.elements.ensures.kept.noted.count) (behind_inside _ _ _ _ _ _ _ _ c.requires c.if-at-items.false _ c.element_at-e.ensures _ c.width_of-w.ensures _ c.lead_at.ensures _ c.in_ok-q.was) c.in_ok-end.ensures
+elements-returns t c = tried_first _ _ _ _ _ c.if-at-items.false _ _ _ (read_here _ _ _ _ _ _ _ _ c.requires c.if-at-items.false _ c.element_at-e.ensures _ c.width_of-w.ensures _ c.lead_at.ensures) _ c.in_ok-q.was (sym c.may_repeat.ensures ∙ c.if-may_repeat.false) _ c.behind-next.ensures _ _ _ _ (in_ends _ _ _ _ _ c.requires.given (element_here _ _ _ _ _ _ _ _ c.requires c.if-at-items.false _ c.element_at-e.ensures).unit.stands _ c.elements.ensures.kept.noted.count) (behind_inside _ _ _ _ _ _ _ _ c.requires c.if-at-items.false _ c.element_at-e.ensures _ c.width_of-w.ensures _ c.lead_at.ensures _ c.in_ok-q.was) c.in_ok-end.ensures

@@ -2,15 +2,11 @@ use mathlib.Core.Path.{sym, ◌∙◌}
 use native.Mathlib.Omega.{arith}
 use borrow.Author.Tests.{eqb-true}
 use Rattle.pass_unit.proofs.ItemLaws.{unit_inside}
-use Rattle.pass_one.proofs.RowLaws.{count_start, counted_inside, step_inside, count_step, count_stop, count_marked, count_inside}
-use Rattle.pass_one.proofs.matcher.most_copies.Lts as lts
+use Rattle.pass_one.proofs.RowLaws.{count_start, step_inside, count_step, count_stop, count_marked}
 use Rattle.pass_one.proofs.matcher.most_copies.Goals as goal
 
 pub loop-element-init : goal.loop-element-init
 loop-element-init c = count_start _ _ _ _ _ _ _ _ _ c.requires
-
-pub copy_at-requires : goal.copy_at-requires
-copy_at-requires c = record { unit = c.requires.unit; table = c.requires.given.table; state = c.requires.given.state; place = counted_inside _ _ _ _ _ _ _ _ _ c.requires _ _ c.loop-element.invariant }
 
 pub overflow_add-r : goal.overflow_add-r
 overflow_add-r c = let l = step_inside _ _ _ _ _ _ _ _ _ c.requires _ _ c.loop-element.invariant _ c.copy_at.ensures c.loop-element-test.true in let s = c.requires.given.short in omega arith
@@ -20,9 +16,6 @@ is_marked-requires c = let l = step_inside _ _ _ _ _ _ _ _ _ c.requires _ _ c.lo
 
 pub returns-then-is_marked : goal.returns-then-is_marked
 returns-then-is_marked c = count_marked _ _ _ _ _ _ _ _ _ c.requires _ _ c.loop-element.invariant _ c.copy_at.ensures c.loop-element-test.true (eqb-true _ _ (sym c.is_marked.ensures ∙ c.if-is_marked.true))
-
-pub overflow_add-n : goal.overflow_add-n
-overflow_add-n c = let l = count_inside _ _ _ _ c.requires.some c.loop-element.invariant.row.inside in let s = c.requires.given.short in omega arith
 
 pub loop-element-smaller : goal.loop-element-smaller
 loop-element-smaller c = let l = step_inside _ _ _ _ _ _ _ _ _ c.requires _ _ c.loop-element.invariant _ c.copy_at.ensures c.loop-element-test.true in let s = c.requires.some in omega arith

@@ -1,7 +1,6 @@
 use Prim.Native.Nat.{◌-◌}
 use lib.ListN.{length}
 use Rattle.pass_one.proofs.RowLaws.{Counted}
-use Rattle.pass_one.proofs.matcher.most_copies.Lts as lts
 use Rattle.pass_one.proofs.matcher.most_copies.Given as goal
 
 abbrev pub invariant-loop-element : goal.invariant-loop-element

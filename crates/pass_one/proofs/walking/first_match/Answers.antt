@@ -1,11 +1,7 @@
-use mathlib.Core.Path.{sym, ◌∙◌}
 use native.Mathlib.Omega.{arith}
 use Rattle.pass_one.proofs.FindLaws.{ready_trying}
-use Rattle.pass_one.proofs.GoingLaws.{search, nowhere, ready_here, search_past, search_on, found_first}
+use Rattle.pass_one.proofs.GoingLaws.{ready_here, search_past, search_on, found_first}
 use Rattle.pass_one.proofs.walking.first_match.Goals as goal
-
-pub loop-p-init : goal.loop-p-init
-loop-p-init c = (search _ _ _ _ _ _ c.requires, omega arith)
 
 pub loop-p-preserved-then-differs : goal.loop-p-preserved-then-differs
 loop-p-preserved-then-differs c = (search_past _ _ _ _ _ _ c.requires _ _ _ c.loop-p.invariant.0 (let l = c.last_place-top.ensures.inside in omega arith) _ c.differs.ensures c.if-differs.true, let l = c.last_place-top.ensures.inside in omega arith)
@@ -13,23 +9,8 @@ loop-p-preserved-then-differs c = (search_past _ _ _ _ _ _ c.requires _ _ _ c.lo
 pub elements-requires : goal.elements-requires
 elements-requires c = ready_trying _ _ _ _ _ _ _ (ready_here _ _ _ _ _ _ c.requires _ _ _ c.loop-p.invariant.0 (let l = c.last_place-top.ensures.inside in omega arith))
 
-pub shape_of-marks-in-Some : goal.shape_of-marks-in-Some
-shape_of-marks-in-Some c = c.elements.auto.marks ∙ c.loop-p.invariant.0.size
-
-pub shape_of-ends-in-Some : goal.shape_of-ends-in-Some
-shape_of-ends-in-Some c = c.elements.auto.ends ∙ c.loop-p.invariant.0.count ∙ sym c.requires.count
-
 pub returns-in-Some : goal.returns-in-Some
 returns-in-Some c = found_first _ _ _ _ _ _ c.requires _ _ _ c.loop-p.invariant.0 (let l = c.last_place-top.ensures.inside in omega arith) _ _ c.elements.auto.marks c.elements.auto.ends _ c.elements.ensures _ c.in-Some.is
 
 pub loop-p-preserved : goal.loop-p-preserved
 loop-p-preserved c = (search_on _ _ _ _ _ _ c.requires _ _ _ c.loop-p.invariant.0 (let l = c.last_place-top.ensures.inside in omega arith) _ _ c.elements.auto.marks c.elements.auto.ends _ c.elements.ensures c.in_default.is, let l = c.last_place-top.ensures.inside in omega arith)
-
-pub shape_of-marks : goal.shape_of-marks
-shape_of-marks c = c.loop-p.invariant.0.size
-
-pub shape_of-ends : goal.shape_of-ends
-shape_of-ends c = c.loop-p.invariant.0.count ∙ sym c.requires.count
-
-pub returns : goal.returns
-returns c = nowhere _ _ _ _ _ _ c.requires _ _ _ c.loop-p.invariant.0 _ c.last_place-top.ensures (omega arith)

@@ -1,4 +1,4 @@
-use Prim.Native.Nat.{◌+◌, ◌-◌, ◌≤◌}
+use Prim.Native.Nat.{◌+◌, ◌≤◌}
 use lib.ListN.{length}
 use Rattle.pass_one.proofs.GoingLaws.{Searching}
 use Rattle.pass_one.proofs.walking.first_match.Given as goal

@@ -1,35 +1,13 @@
 use mathlib.Core.Path.{◌∙◌}
-use native.Mathlib.Omega.{arith}
 use Rattle.pass_one.proofs.MomentLaws.{steps_occurred}
 use Rattle.pass_one.proofs.GoingLaws.{making, behind_first_lem}
 use Rattle.pass_one.proofs.walking.walk.Goals as goal
 
-pub start-begun-requires : goal.start-begun-requires
-start-begun-requires c = (c.requires.0.first.place, omega (arith, c.requires.0.first.place, c.requires.0.short, c.requires.0.room))
-
 pub replace-made-requires : goal.replace-made-requires
 replace-made-requires c = (making _ _ _ _ (record { state = c.args.state.now; out = c.args.out.now; marks = c.args.marks.now; seen = c.args.seen.now; ends = c.args.ends.now; place = c.args.first; stop = c.args.end }) c.requires.0 c.requires.1 _ _ c.start-begun.ensures c.start-begun.auto.out, c.requires.1)
 
-pub step_over-at-requires : goal.step_over-at-requires
-step_over-at-requires c = (omega (arith, c.requires.0.first.place, c.requires.0.short), c.replace-made.auto.out ∙ c.start-begun.auto.out ∙ c.requires.0.room)
-
 pub walk_on-requires : goal.walk_on-requires
 walk_on-requires c = record { origin = (record { state = c.args.state.now; out = c.args.out.now; marks = c.args.marks.now; seen = c.args.seen.now; ends = c.args.ends.now; place = c.args.first; stop = c.args.end }); came = c.requires.0; going = (behind_first_lem _ _ _ _ (record { state = c.args.state.now; out = c.args.out.now; marks = c.args.marks.now; seen = c.args.seen.now; ends = c.args.ends.now; place = c.args.first; stop = c.args.end }) c.requires.0 c.requires.1 _ _ c.start-begun.ensures c.start-begun.auto.out _ _ _ _ _ _ _ c.replace-made.ensures.0 c.step_over-at.ensures c.replace-made.auto.state (c.step_over-at.auto.out ∙ c.replace-made.auto.out) c.replace-made.auto.marks c.replace-made.auto.seen) }
-
-pub shape_of-state : goal.shape_of-state
-shape_of-state c = c.walk_on.auto.state ∙ c.replace-made.auto.state
-
-pub shape_of-out : goal.shape_of-out
-shape_of-out c = c.walk_on.auto.out ∙ c.step_over-at.auto.out ∙ c.replace-made.auto.out ∙ c.start-begun.auto.out
-
-pub shape_of-marks : goal.shape_of-marks
-shape_of-marks c = c.walk_on.auto.marks ∙ c.replace-made.auto.marks
-
-pub shape_of-seen : goal.shape_of-seen
-shape_of-seen c = c.walk_on.auto.seen ∙ c.replace-made.auto.seen
-
-pub shape_of-ends : goal.shape_of-ends
-shape_of-ends c = c.walk_on.auto.ends
 
 pub returns : goal.returns
 returns c = c.walk_on.ensures.comes (record { state = c.args.state.now; out = c.args.out.now; marks = c.args.marks.now; seen = c.args.seen.now; ends = c.args.ends.now; place = c.args.first; stop = c.args.end }) c.requires.0 (behind_first_lem _ _ _ _ (record { state = c.args.state.now; out = c.args.out.now; marks = c.args.marks.now; seen = c.args.seen.now; ends = c.args.ends.now; place = c.args.first; stop = c.args.end }) c.requires.0 c.requires.1 _ _ c.start-begun.ensures c.start-begun.auto.out _ _ _ _ _ _ _ c.replace-made.ensures.0 c.step_over-at.ensures c.replace-made.auto.state (c.step_over-at.auto.out ∙ c.replace-made.auto.out) c.replace-made.auto.marks c.replace-made.auto.seen) (steps_occurred _ _ _ _ _ _ c.step_over-at.ensures c.replace-made.ensures.1)
