@@ -7,8 +7,8 @@ use native.Mathlib.Nat.{add-zero}
 use native.Mathlib.Omega.{arith}
 use borrow.Author.Tests.{ltb-true, ltb-false, ne_eqb}
 use lib.Dec.{eqb, ltb}
-use lib.ListN.{length, get_or, take, drop, length-drop, length-take, drop_of_length-le}
-use lib.Seq.{drop-cons, drop-drop, get_or-drop, slice, slice_empty}
+use lib.ListN.{length, get_or, take, drop, length-take, drop_of_length-le}
+use lib.Seq.{drop-drop, get_or-drop, slice, slice_empty}
 use Rattle.macros.specs.Macro.{Closure, Member, PatternUnit, Piece}
 use Rattle.macros.specs.Macro.Member.{single, range}
 use Rattle.macros.specs.Macro.Mark.{stack, counter}
@@ -58,77 +58,60 @@ module _ (c n : ℕ) (s : List ℕ) (on : ℕ → List ℕ) where
   unfolding tag_step
   tag_other_step f = rw (ne_eqb c 1 f)
 
--- AT A PLACE OF THE PATTERN
+-- THE FIRST OF SOME ITEMS
 
-close_short : (l ends : List ℕ) (n : ℕ) → length l ≤ 1 → close_in n l ends ≡ 0
+pub close_short : (l ends : List ℕ) (n : ℕ) → length l < 2 → close_in n l ends ≡ 0
 unfolding close_in
 close_short [] ends n h = refl
 close_short (c ∷ []) ends n h = refl
 close_short (c ∷ b ∷ l) ends n h = absurd (omega arith)
 
-tag_short : (t l ends : List ℕ) (n : ℕ) → length l ≤ 1 → tag_in t n l ends ≡ []
+tag_short : (t l ends : List ℕ) (n : ℕ) → length l < 2 → tag_in t n l ends ≡ []
 unfolding tag_in
 tag_short t [] ends n h = refl
 tag_short t (c ∷ []) ends n h = refl
 tag_short t (c ∷ b ∷ l) ends n h = absurd (omega arith)
 
-first_at : (l : List ℕ) (i : ℕ) → get_or (drop i l) 0 0 ≡ get_or l i 0
-first_at l i = get_or-drop i l 0 0 ∙ ap (λ (j : ℕ). get_or l j 0) (add-zero i)
+at_close : (l ends : List ℕ) (n : ℕ) → 2 ≤ length l → close_in n l ends ≡ close_step (eqb (get_or l 0 0) 1) (eqb (get_or l 0 0) 2) n (get_or ends 0 0) (λ k. close_in k (drop 2 l) (drop 2 ends))
+unfolding close_in
+at_close [] ends n h = absurd (omega arith)
+at_close (c ∷ []) ends n h = absurd (omega arith)
+at_close (c ∷ b ∷ l) ends n h = refl
 
-module _ (pat ends : List ℕ) (i : ℕ) where
-  pub close_end : (n : ℕ) → length pat ≤ i + 1 → close_in n (drop i pat) (drop i ends) ≡ 0
-  close_end n h = close_short (drop i pat) (drop i ends) n (let z = length-drop i pat in omega arith)
+at_tag : (t l ends : List ℕ) (n : ℕ) → 2 ≤ length l
+    → tag_in t n l ends ≡ tag_step (eqb (get_or l 0 0) 1) n (slice (get_or ends 0 0) (close_in 0 (drop 2 l) (drop 2 ends)) t) (λ k. tag_in t k (drop 2 l) (drop 2 ends))
+unfolding tag_in
+at_tag t [] ends n h = absurd (omega arith)
+at_tag t (c ∷ []) ends n h = absurd (omega arith)
+at_tag t (c ∷ b ∷ l) ends n h = refl
 
-  pub tag_end_lem : (t : List ℕ) (n : ℕ) → length pat ≤ i + 1 → tag_in t n (drop i pat) (drop i ends) ≡ []
-  tag_end_lem t n h = tag_short t (drop i pat) (drop i ends) n (let z = length-drop i pat in omega arith)
+module _ (l ends : List ℕ) (h : 2 ≤ length l) where
+  abbrev next : ℕ → ℕ
+  next k = close_in k (drop 2 l) (drop 2 ends)
 
-  module _ (h : i + 1 < length pat) where
-    cut : drop i pat ≡ get_or pat i 0 ∷ get_or pat (suc i) 0 ∷ drop (i + 2) pat
-    cut =
-        drop-cons pat i 0 (omega arith)
-        ∙ ap (λ (l : List ℕ). get_or pat i 0 ∷ l) (drop-cons pat (suc i) 0 (omega arith) ∙ ap (λ (j : ℕ). get_or pat (suc i) 0 ∷ drop j pat) (let z : suc (suc i) ≡ i + 2 = omega arith in z))
+  abbrev tag_next : List ℕ → ℕ → List ℕ
+  tag_next t k = tag_in t k (drop 2 l) (drop 2 ends)
 
-    at_close : (n : ℕ) → close_in n (drop i pat) (drop i ends) ≡ close_step (eqb (get_or pat i 0) 1) (eqb (get_or pat i 0) 2) n (get_or ends i 0) (λ k. close_in k (drop (i + 2) pat) (drop (i + 2) ends))
-    unfolding close_in
-    at_close n =
-        ap (λ (l : List ℕ). close_in n l (drop i ends)) cut
-        ∙ ap (λ (q : ℕ). close_step (eqb (get_or pat i 0) 1) (eqb (get_or pat i 0) 2) n q (λ k. close_in k (drop (i + 2) pat) (drop 2 (drop i ends)))) (first_at ends i)
-        ∙ ap (λ (es : List ℕ). close_step (eqb (get_or pat i 0) 1) (eqb (get_or pat i 0) 2) n (get_or ends i 0) (λ k. close_in k (drop (i + 2) pat) es)) (drop-drop 2 i ends)
+  pub close_left : (n : ℕ) → get_or l 0 0 ≡ 1 → close_in n l ends ≡ next (n + 1)
+  close_left n e = at_close l ends n h ∙ left_step (get_or l 0 0) n (get_or ends 0 0) next e
 
-    at_tag : (t : List ℕ) (n : ℕ) → tag_in t n (drop i pat) (drop i ends)
-        ≡ tag_step (eqb (get_or pat i 0) 1) n (slice (get_or ends i 0) (close_in 0 (drop (i + 2) pat) (drop (i + 2) ends)) t) (λ k. tag_in t k (drop (i + 2) pat) (drop (i + 2) ends))
-    unfolding tag_in
-    at_tag t n =
-        ap (λ (l : List ℕ). tag_in t n l (drop i ends)) cut
-        ∙ ap (λ (q : ℕ). tag_step (eqb (get_or pat i 0) 1) n (slice q (close_in 0 (drop (i + 2) pat) (drop 2 (drop i ends))) t) (λ k. tag_in t k (drop (i + 2) pat) (drop 2 (drop i ends)))) (first_at ends i)
-        ∙ ap (λ (es : List ℕ). tag_step (eqb (get_or pat i 0) 1) n (slice (get_or ends i 0) (close_in 0 (drop (i + 2) pat) es) t) (λ k. tag_in t k (drop (i + 2) pat) es)) (drop-drop 2 i ends)
+  pub close_here : (n : ℕ) → get_or l 0 0 ≡ 2 → n < 1 → close_in n l ends ≡ get_or ends 0 0
+  close_here n e k = at_close l ends n h ∙ here_step (get_or l 0 0) n (get_or ends 0 0) next e k
 
-    abbrev next : ℕ → ℕ
-    next k = close_in k (drop (i + 2) pat) (drop (i + 2) ends)
+  pub close_right : (n : ℕ) → get_or l 0 0 ≡ 2 → 1 ≤ n → close_in n l ends ≡ next (n - 1)
+  close_right n e k = at_close l ends n h ∙ right_step (get_or l 0 0) n (get_or ends 0 0) next e k
 
-    abbrev tag_next : List ℕ → ℕ → List ℕ
-    tag_next t k = tag_in t k (drop (i + 2) pat) (drop (i + 2) ends)
+  pub close_other : (n : ℕ) → (get_or l 0 0 ≡ 1 → ⊥) → (get_or l 0 0 ≡ 2 → ⊥) → close_in n l ends ≡ next n
+  close_other n f g = at_close l ends n h ∙ other_step (get_or l 0 0) n (get_or ends 0 0) next f g
 
-    pub close_left : (n : ℕ) → get_or pat i 0 ≡ 1 → close_in n (drop i pat) (drop i ends) ≡ next (n + 1)
-    close_left n e = at_close n ∙ left_step (get_or pat i 0) n (get_or ends i 0) next e
+  pub tag_here : (t : List ℕ) (n : ℕ) → get_or l 0 0 ≡ 1 → n < 1 → tag_in t n l ends ≡ slice (get_or ends 0 0) (close_in 0 (drop 2 l) (drop 2 ends)) t
+  tag_here t n e k = at_tag t l ends n h ∙ tag_here_step (get_or l 0 0) n _ (tag_next t) e k
 
-    pub close_here : (n : ℕ) → get_or pat i 0 ≡ 2 → n < 1 → close_in n (drop i pat) (drop i ends) ≡ get_or ends i 0
-    close_here n e l = at_close n ∙ here_step (get_or pat i 0) n (get_or ends i 0) next e l
+  pub tag_left : (t : List ℕ) (n : ℕ) → get_or l 0 0 ≡ 1 → 1 ≤ n → tag_in t n l ends ≡ tag_next t (n - 1)
+  tag_left t n e k = at_tag t l ends n h ∙ tag_left_step (get_or l 0 0) n _ (tag_next t) e k
 
-    pub close_right : (n : ℕ) → get_or pat i 0 ≡ 2 → 1 ≤ n → close_in n (drop i pat) (drop i ends) ≡ next (n - 1)
-    close_right n e l = at_close n ∙ right_step (get_or pat i 0) n (get_or ends i 0) next e l
-
-    pub close_other : (n : ℕ) → (get_or pat i 0 ≡ 1 → ⊥) → (get_or pat i 0 ≡ 2 → ⊥) → close_in n (drop i pat) (drop i ends) ≡ next n
-    close_other n f g = at_close n ∙ other_step (get_or pat i 0) n (get_or ends i 0) next f g
-
-    pub tag_here : (t : List ℕ) (n : ℕ) → get_or pat i 0 ≡ 1 → n < 1 → tag_in t n (drop i pat) (drop i ends) ≡ slice (get_or ends i 0) (close_in 0 (drop (i + 2) pat) (drop (i + 2) ends)) t
-    tag_here t n e l = at_tag t n ∙ tag_here_step (get_or pat i 0) n _ (tag_next t) e l
-
-    pub tag_left : (t : List ℕ) (n : ℕ) → get_or pat i 0 ≡ 1 → 1 ≤ n → tag_in t n (drop i pat) (drop i ends) ≡ tag_next t (n - 1)
-    tag_left t n e l = at_tag t n ∙ tag_left_step (get_or pat i 0) n _ (tag_next t) e l
-
-    pub tag_other : (t : List ℕ) (n : ℕ) → (get_or pat i 0 ≡ 1 → ⊥) → tag_in t n (drop i pat) (drop i ends) ≡ tag_next t n
-    tag_other t n f = at_tag t n ∙ tag_other_step (get_or pat i 0) n _ (tag_next t) f
+  pub tag_other : (t : List ℕ) (n : ℕ) → (get_or l 0 0 ≡ 1 → ⊥) → tag_in t n l ends ≡ tag_next t n
+  tag_other t n f = at_tag t l ends n h ∙ tag_other_step (get_or l 0 0) n _ (tag_next t) f
 
 -- WITHIN THE LINE
 
@@ -158,24 +141,32 @@ least_part t a b = by (ltb b a) refl
         ∙ sym (drop_of_length-le (take b t) {i = a} (let y = ltb-true b a e in let z = length-take b t in omega arith))
     by false e = ap (λ (r : ℕ). slice r b t) (let y = ltb-false b a e in let z : min a b ≡ a = omega arith in z)
 
--- the tag's text, as it is found at item i
-pub spans_here : (pat ends : List ℕ) (n m i : ℕ) {from to : ℕ} → ((t : List ℕ) → tag_in t n pat ends ≡ tag_in t m (drop i pat) (drop i ends)) → i + 1 < length pat → get_or pat i 0 ≡ 1 → m < 1
-    → (a : ℕ) → a ≡ get_or ends i 0 → to ≡ close_in 0 (drop (i + 2) pat) (drop (i + 2) ends) → from ≡ min a to → Spans (λ t. tag_in t n pat ends) ends from to
-spans_here pat ends n m i {from} {to} inv h e l a f g o =
-    record {
-      text = λ t.
-          inv t
-          ∙ tag_here pat ends i h t m e l
-          ∙ ap (λ (x : ℕ). slice x (close_in 0 (drop (i + 2) pat) (drop (i + 2) ends)) t) (sym f)
-          ∙ ap (λ (x : ℕ). slice a x t) (sym g)
-          ∙ sym (least_part t a to)
-          ∙ ap (λ (x : ℕ). slice x to t) (sym o);
-      ordered = omega arith;
-      inside = λ z w. let x = close_inside 0 (drop (i + 2) pat) (drop (i + 2) ends) z (λ j. let y = get_or-drop (i + 2) ends j 0 in let v = w (i + 2 + j) in omega arith) in omega arith;
-    }
+-- the ends l stay within what the ends e are within
+abbrev pub Among : List ℕ → List ℕ → Type 0
+Among l e = (z : ℕ) → ((i : ℕ) → get_or e i 0 ≤ z) → (i : ℕ) → get_or l i 0 ≤ z
 
-pub spans_none : (pat ends : List ℕ) (n m i : ℕ) → ((t : List ℕ) → tag_in t n pat ends ≡ tag_in t m (drop i pat) (drop i ends)) → length pat ≤ i + 1 → Spans (λ t. tag_in t n pat ends) ends 0 0
-spans_none pat ends n m i inv h = record { text = λ t. inv t ∙ tag_end_lem pat ends i t m h; ordered = omega arith; inside = λ z w. omega arith }
+pub among_behind : (l e : List ℕ) → Among l e → Among (drop 2 l) e
+among_behind l e f z w i = let g : get_or (drop 2 l) i 0 ≡ get_or l (2 + i) 0 = get_or-drop 2 l i 0 in let h = f z w (2 + i) in omega arith
+
+-- the tag's text, as it is found at the first of the items that are left
+module _ (pat ends rest stops : List ℕ) (n m : ℕ) (inv : (t : List ℕ) → tag_in t n pat ends ≡ tag_in t m rest stops) where
+  pub spans_here : {a from to : ℕ} → Among stops ends → 2 ≤ length rest → get_or rest 0 0 ≡ 1 → m < 1 → a ≡ get_or stops 0 0 → to ≡ close_in 0 (drop 2 rest) (drop 2 stops) → from ≡ min a to
+      → Spans (λ t. tag_in t n pat ends) ends from to
+  spans_here {a} {from} {to} among h e l f g o =
+      record {
+        text = λ t.
+            inv t
+            ∙ tag_here rest stops h t m e l
+            ∙ ap (λ (x : ℕ). slice x (close_in 0 (drop 2 rest) (drop 2 stops)) t) (sym f)
+            ∙ ap (λ (x : ℕ). slice a x t) (sym g)
+            ∙ sym (least_part t a to)
+            ∙ ap (λ (x : ℕ). slice x to t) (sym o);
+        ordered = omega arith;
+        inside = λ z w. let x = close_inside 0 (drop 2 rest) (drop 2 stops) z (among_behind stops ends among z w) in omega arith;
+      }
+
+  pub spans_none : length rest < 2 → Spans (λ t. tag_in t n pat ends) ends 0 0
+  spans_none h = record { text = λ t. inv t ∙ tag_short t rest stops m h; ordered = omega arith; inside = λ z w. omega arith }
 
 -- the same for another way to take the text
 pub spans_by : {f g : List ℕ → List ℕ} {ends : List ℕ} {from to : ℕ} → ((t : List ℕ) → f t ≡ g t) → Spans f ends from to → Spans g ends from to
@@ -220,6 +211,9 @@ unit_code_lem (class true ms) = omega arith
 element_plain : (u : PatternUnit) (c : Closure) → Plain (piece_items (element u c))
 unfolding piece_items
 element_plain u c = item (4 * unit_code u + closure_code c) (let z = unit_code_lem u in omega arith) (unit_plain u)
+
+first_at : (l : List ℕ) (i : ℕ) → get_or (drop i l) 0 0 ≡ get_or l i 0
+first_at l i = get_or-drop i l 0 0 ∙ ap (λ (j : ℕ). get_or l j 0) (add-zero i)
 
 on_drop : (l ends : List ℕ) → drop (length l) (drop 2 ends) ≡ drop (suc (suc (length l))) ends
 on_drop l ends = drop-drop (length l) 2 ends ∙ ap (λ (k : ℕ). drop k ends) (let z : 2 + length l ≡ suc (suc (length l)) = omega arith in z)

@@ -1,11 +1,17 @@
-use Prim.Native.Nat.{◌-◌, ◌≤◌}
+use Prim.Native.Nat.{◌+◌, ◌≤◌}
 use mathlib.Core.Path.{◌≡◌}
-use lib.ListN.{length, drop}
+use lib.ListN.{length}
+use Rattle.form_table.specs.Form.{body_bytes}
 use Rattle.pass_replace.specs.Tags.{close_in}
 use Rattle.pass_replace.proofs.tags.close_of.Given as goal
 
-abbrev pub invariant-loop-i : goal.invariant-loop-i
-invariant-loop-i l = (l.i ≤ 1014) × (l.n ≤ l.i) × (close_in 0 (drop l.first l.pat) (drop l.first l.ends) ≡ close_in l.n (drop l.i l.pat) (drop l.i l.ends))
+abbrev pub invariant-loop-rest : goal.invariant-loop-rest
+invariant-loop-rest l =
+    record {
+      long : length l.rest ≤ length l.stops;
+      few : l.n + length l.rest ≤ body_bytes;
+      same : close_in 0 l.pat l.ends ≡ close_in l.n l.rest l.stops;
+    }
 
-abbrev pub decreases-loop-i : goal.decreases-loop-i
-decreases-loop-i l = length l.pat - l.i
+abbrev pub decreases-loop-rest : goal.decreases-loop-rest
+decreases-loop-rest l = length l.rest
