@@ -2,14 +2,13 @@
 -- Assumes nothing.
 use Prim.Native.Nat.{ℕ, suc, ◌+◌, ◌-◌, ◌*◌, ◌≤◌, ◌<◌}
 use mathlib.Core.Path.{◌≡◌, refl, ap, sym, ◌∙◌, subst}
-use mathlib.Core.Bool.{Bool, true, false, false≢true}
+use mathlib.Core.Bool.{Bool, true, false, false≢true, ◌&&◌}
 use mathlib.Core.List.{List, [], ◌∷◌, ◌++◌, append_assoc}
-use native.Mathlib.Numerals.{add-one}
 use native.Mathlib.Omega.{arith}
 use borrow.Author.Tests.{eq-eqb, ne_eqb, eqb-true}
 use lib.Dec.{eqb}
-use lib.ListN.{length, get_or, take, drop, replicate, length-drop, length-replicate, drop_of_length-le}
-use lib.Seq.{drop-cons, take_at, take_all}
+use lib.ListN.{length, take, drop, replicate, length-replicate}
+use lib.Seq.{take_at, take_all}
 use Rattle.macros.specs.Bounds.{most_macros, most_entry_bytes}
 use Rattle.macros.specs.Refusals.Refusal.{of_line}
 use Rattle.macros.specs.Refusals.LineRefusal.{bad_control}
@@ -24,18 +23,17 @@ use Rattle.lines.specs.State.{State}
 use Rattle.lines.specs.Matching.{begins}
 use Rattle.lines.specs.Feeding.{Order, bytes, same, with_trace, with_nflag, flag_order, macro_order, order_of}
 use Rattle.lines.specs.Feeding.Order.{wrong, orders}
-use Rattle.lines.proofs.KeepBytes.{bytes_octets, bytes_drop}
+use Rattle.lines.proofs.KeepBytes.{bytes_octets}
 use Rattle.read_file.specs.File.{Onto}
-use Rattle.read_scan.specs.declared.FileFault.{FileFault}
-use Rattle.read_file.specs.declared.Reading.{Reading}
-use Rattle.read_file.specs.declared.Reading.TheVariants.{Table as TableOf, Refused as NoTable}
 use Rattle.form_items.specs.Items.{Wrote}
+use Rattle.form_state.specs.Access.{Holds}
 use Rattle.line_control.specs.Contract.{refusal_of, Obeys, Orders}
-use Rattle.line_control.specs.Ordering.{value_of, Puts, Sets, OneMore, AddsOne, refused_of}
-use Rattle.line_control.specs.declared.Why.{Why}
-use Rattle.line_control.specs.declared.Why.TheVariants.{BadControl}
-use Rattle.line_control.specs.declared.Order.{Order as Obeyed}
-use Rattle.line_control.specs.declared.Order.TheVariants.{Taken, Refused}
+use Rattle.line_control.specs.Ordering.{value_of, Valued, Sets, OneMore, AddsOne}
+use Rattle.std.specs.Prelude.{Result, Ok, Err}
+use Rattle.std.specs.Cmp.Lexicographic.{pointwise}
+use Rattle.read_scan.specs.declared.ReadError.{ReadError}
+use Rattle.line_control.specs.declared.ControlError.{ControlError}
+use Rattle.line_control.specs.declared.ControlError.TheVariants.{BadControl, InMacro}
 
 -- WORDS
 
@@ -48,40 +46,24 @@ module _ (c b : ℕ) (w s : List ℕ) where
   unfolding same
   same_cons x e = rw (e, same)
 
-pub begins_short : (w s : List ℕ) → length s < length w → begins w s ≡ false
-unfolding begins
-begins_short [] s h = absurd (omega arith)
-begins_short (c ∷ w) [] h = refl
-begins_short (c ∷ w) (b ∷ s) h = by (eqb c b) refl (begins_short w s (omega arith))
+if_same : (x y : Bool) → (y && x) ≡ (elim y [ true ↦ x | false ↦ false ])
+if_same x true = refl
+if_same x false = refl
+
+eqb_comm : (a b : ℕ) → eqb a b ≡ eqb b a
+eqb_comm a b = by (eqb a b) refl
   where
-    by : (x : Bool) → eqb c b ≡ x → begins w s ≡ false → begins (c ∷ w) (b ∷ s) ≡ false
-    by true e f = begins_cons c b w s true e ∙ f
-    by false e f = begins_cons c b w s false e
+    by : (x : Bool) → eqb a b ≡ x → x ≡ eqb b a
+    by true e = sym (eq-eqb b a (sym (eqb-true a b e)))
+    by false e = sym (ne_eqb b a (λ f. false≢true (sym e ∙ eq-eqb a b (sym f))))
 
-module _ (w s : List ℕ) (i : ℕ) (h : i < length w) (l : i < length s) where
-  heads : begins (drop i w) (drop i s) ≡ begins (get_or w i 0 ∷ drop (suc i) w) (get_or s i 0 ∷ drop (suc i) s)
-  heads = rw (drop-cons w i 0 h, drop-cons s i 0 l) refl
-
-  pub begins_step : get_or s i 0 ≡ get_or w i 0 → begins (drop i w) (drop i s) ≡ begins (drop (i + 1) w) (drop (i + 1) s)
-  begins_step e = rw (add-one i) (heads ∙ begins_cons (get_or w i 0) (get_or s i 0) (drop (suc i) w) (drop (suc i) s) true (eq-eqb _ _ (sym e)))
-
-  pub begins_differ : (get_or s i 0 ≡ get_or w i 0 → ⊥) → begins (drop i w) (drop i s) ≡ false
-  begins_differ f = heads ∙ begins_cons (get_or w i 0) (get_or s i 0) (drop (suc i) w) (drop (suc i) s) false (ne_eqb _ _ (λ e. f (sym e)))
-
-pub begins_end : (w s : List ℕ) (i : ℕ) → length w ≤ i → begins (drop i w) (drop i s) ≡ true
+-- whether a word stands at the head, as the library tests it
+pub prefix_is : (w s : List ℕ) → pointwise eqb (take (length w) s) w ≡ begins w s
 unfolding begins
-begins_end w s i h = rw (drop_of_length-le w h) refl
-
--- a line that begins with a word of six bytes has them
-pub begins_long : (w s : List ℕ) → begins w s ≡ true → length w ≤ length s
-unfolding begins
-begins_long [] s e = omega arith
-begins_long (c ∷ w) [] e = absurd (false≢true e)
-begins_long (c ∷ w) (b ∷ s) e = by (eqb c b) refl (begins_long w s)
-  where
-    by : (x : Bool) → eqb c b ≡ x → (begins w s ≡ true → length w ≤ length s) → suc (length w) ≤ suc (length s)
-    by true f ih = let h : length w ≤ length s = ih (sym (begins_cons c b w s true f) ∙ e) in omega arith
-    by false f ih = absurd (false≢true (sym (begins_cons c b w s false f) ∙ e))
+prefix_is [] s = refl
+prefix_is (c ∷ w) [] = refl
+prefix_is (c ∷ w) (b ∷ s) =
+    ap (λ (x : Bool). eqb b c && x) (prefix_is w s) ∙ (if_same (begins w s) (eqb b c) ∙ ap (λ (x : Bool). elim x [ true ↦ begins w s | false ↦ false ]) (eqb_comm b c))
 
 -- a line that begins with a word is the word and the rest
 pub begins_split : (w s : List ℕ) → begins w s ≡ true → s ≡ w ++ drop (length w) s
@@ -113,53 +95,26 @@ not_begins (c ∷ w) (b ∷ s) y e = by (eqb b c) refl (not_begins w s y)
 
 -- VALUES
 
-same_other : (s w : List ℕ) → (length s ≡ length w → ⊥) → same s w ≡ false
+-- whether two texts are the same, as the library tests it
+pub same_is : (s w : List ℕ) → pointwise eqb s w ≡ same s w
 unfolding same
-same_other [] [] f = absurd (f refl)
-same_other [] (b ∷ w) f = refl
-same_other (a ∷ s) [] f = refl
-same_other (a ∷ s) (b ∷ w) f = by (eqb a b) refl (same_other s w (λ e. f (ap suc e)))
-  where
-    by : (x : Bool) → eqb a b ≡ x → same s w ≡ false → same (a ∷ s) (b ∷ w) ≡ false
-    by true e g = same_cons a b s w true e ∙ g
-    by false e g = same_cons a b s w false e
+same_is [] [] = refl
+same_is [] (b ∷ w) = refl
+same_is (a ∷ s) [] = refl
+same_is (a ∷ s) (b ∷ w) = ap (λ (x : Bool). eqb a b && x) (same_is s w) ∙ if_same (same s w) (eqb a b)
 
-pub value_length : (s : List ℕ) → (length s ≡ 2 → ⊥) → value_of s ≡ 2
-unfolding value_of pick
-value_length s f = rw (same_other s (bytes " 0") f, same_other s (bytes " 1") f) refl
+module _ (s : List ℕ) where
+  pub value_zero : same s (bytes " 0") ≡ true → Valued s (Ok 0)
+  unfolding value_of pick
+  value_zero e = (rw e refl, omega arith)
 
-pub value_blank : (s : List ℕ) → length s ≡ 2 → (get_or s 0 0 ≡ 32 → ⊥) → value_of s ≡ 2
-unfolding value_of pick
-value_blank [] h f = absurd (omega arith)
-value_blank (x ∷ []) h f = absurd (omega arith)
-value_blank (x ∷ y ∷ []) h f = rw (same_cons x 32 (y ∷ []) (48 ∷ []) false (ne_eqb x 32 f), same_cons x 32 (y ∷ []) (49 ∷ []) false (ne_eqb x 32 f)) refl
-value_blank (x ∷ y ∷ z ∷ s) h f = absurd (omega arith)
+  pub value_one : same s (bytes " 0") ≡ false → same s (bytes " 1") ≡ true → Valued s (Ok 1)
+  unfolding value_of pick
+  value_one e f = (rw (e, f) refl, omega arith)
 
-last_same : (x y d : ℕ) (c : Bool) → x ≡ 32 → eqb y d ≡ c → same (x ∷ y ∷ []) (32 ∷ d ∷ []) ≡ c
-unfolding same
-last_same x y d true e f = same_cons x 32 (y ∷ []) (d ∷ []) true (eq-eqb x 32 e) ∙ same_cons y d [] [] true f
-last_same x y d false e f = same_cons x 32 (y ∷ []) (d ∷ []) true (eq-eqb x 32 e) ∙ same_cons y d [] [] false f
-
-pub value_zero : (s : List ℕ) → length s ≡ 2 → get_or s 0 0 ≡ 32 → get_or s 1 0 ≡ 48 → value_of s ≡ 0
-unfolding value_of pick
-value_zero [] h e g = absurd (omega arith)
-value_zero (x ∷ []) h e g = absurd (omega arith)
-value_zero (x ∷ y ∷ []) h e g = rw (last_same x y 48 true e (eq-eqb y 48 g)) refl
-value_zero (x ∷ y ∷ z ∷ s) h e g = absurd (omega arith)
-
-pub value_one : (s : List ℕ) → length s ≡ 2 → get_or s 0 0 ≡ 32 → (get_or s 1 0 ≡ 48 → ⊥) → get_or s 1 0 ≡ 49 → value_of s ≡ 1
-unfolding value_of pick
-value_one [] h e f g = absurd (omega arith)
-value_one (x ∷ []) h e f g = absurd (omega arith)
-value_one (x ∷ y ∷ []) h e f g = rw (last_same x y 48 false e (ne_eqb y 48 f), last_same x y 49 true e (eq-eqb y 49 g)) refl
-value_one (x ∷ y ∷ z ∷ s) h e f g = absurd (omega arith)
-
-pub value_else : (s : List ℕ) → length s ≡ 2 → get_or s 0 0 ≡ 32 → (get_or s 1 0 ≡ 48 → ⊥) → (get_or s 1 0 ≡ 49 → ⊥) → value_of s ≡ 2
-unfolding value_of pick
-value_else [] h e f g = absurd (omega arith)
-value_else (x ∷ []) h e f g = absurd (omega arith)
-value_else (x ∷ y ∷ []) h e f g = rw (last_same x y 48 false e (ne_eqb y 48 f), last_same x y 49 false e (ne_eqb y 49 g)) refl
-value_else (x ∷ y ∷ z ∷ s) h e f g = absurd (omega arith)
+  pub value_else : same s (bytes " 0") ≡ false → same s (bytes " 1") ≡ false → Valued s (Err BadControl)
+  unfolding value_of pick
+  value_else e f = (rw (e, f) (omega arith), refl)
 
 -- FLAGS
 
@@ -233,24 +188,22 @@ module _ (ms : Table) (st : State) (t : List ℕ) where
         not_begins (bytes "$NFLAG") t (bytes " 1") g,
       ) refl
 
--- the bytes behind a word, as they are lent
-behind : (t : List ℕ) → take (length t - 6) (drop 6 t) ≡ drop 6 t
-behind t = take_all (length t - 6) (drop 6 t) (omega (arith, length-drop 6 t))
-
-value_behind : (t : List ℕ) {v : ℕ} → v ≡ value_of (take (length t - 6) (drop 6 t)) → v ≡ value_of (drop 6 t)
-value_behind t e = e ∙ ap value_of (behind t)
-
 module _ {b t : List ℕ} where
-  module _ {v : ℕ} (e : v ≡ value_of (take (length t - 6) (drop 6 t))) where
-    pub sets_trace : begins (bytes "$TRACE") t ≡ true → {b' : List ℕ} (r : Obeyed) → Puts with_trace v b b' r → Sets b b' t r
-    sets_trace w Taken p = record { sets = λ ms st h. (with_trace v st, trace_set ms st t w v (value_behind t e) p.0, p.1 st h) }
-    sets_trace w (Refused x) p = record { sets = λ ms st h. (trace_wrong ms st t w v (value_behind t e) p.0 ∙ ap (λ (y : Why). wrong (refusal_of y)) (sym p.1), p.2) }
+  module _ (w : begins (bytes "$TRACE") t ≡ true) where
+    pub sets_trace : {v : ℕ} → Valued (drop 6 t) (Ok v) → {b' : List ℕ} → ((st : State) → Holds b st → Holds b' (with_trace v st)) → Sets b b' t (Ok tt)
+    sets_trace {v} p f = record { sets = λ ms st h. (with_trace v st, trace_set ms st t w v p.0 p.1, f st h) }
 
-    pub sets_nflag : begins (bytes "$NFLAG") t ≡ true → {b' : List ℕ} (r : Obeyed) → Puts with_nflag v b b' r → Sets b b' t r
-    sets_nflag w Taken p = record { sets = λ ms st h. (with_nflag v st, nflag_set ms st t w v (value_behind t e) p.0, p.1 st h) }
-    sets_nflag w (Refused x) p = record { sets = λ ms st h. (nflag_wrong ms st t w v (value_behind t e) p.0 ∙ ap (λ (y : Why). wrong (refusal_of y)) (sym p.1), p.2) }
+    pub trace_refused : {e : ControlError} → Valued (drop 6 t) (Err e) → Sets b b t (Err e)
+    trace_refused p = record { sets = λ ms st h. (trace_wrong ms st t w (value_of (drop 6 t)) refl p.0 ∙ ap (λ (y : ControlError). wrong (refusal_of y)) (sym p.1), refl) }
 
-  pub sets_none : begins (bytes "$TRACE") t ≡ false → begins (bytes "$NFLAG") t ≡ false → Sets b b t (Refused BadControl)
+  module _ (w : begins (bytes "$NFLAG") t ≡ true) where
+    pub sets_nflag : {v : ℕ} → Valued (drop 6 t) (Ok v) → {b' : List ℕ} → ((st : State) → Holds b st → Holds b' (with_nflag v st)) → Sets b b' t (Ok tt)
+    sets_nflag {v} p f = record { sets = λ ms st h. (with_nflag v st, nflag_set ms st t w v p.0 p.1, f st h) }
+
+    pub nflag_refused : {e : ControlError} → Valued (drop 6 t) (Err e) → Sets b b t (Err e)
+    nflag_refused p = record { sets = λ ms st h. (nflag_wrong ms st t w (value_of (drop 6 t)) refl p.0 ∙ ap (λ (y : ControlError). wrong (refusal_of y)) (sym p.1), refl) }
+
+  pub sets_none : begins (bytes "$TRACE") t ≡ false → begins (bytes "$NFLAG") t ≡ false → Sets b b t (Err BadControl)
   sets_none f g = record { sets = λ ms st h. (no_word ms st t f g, refl) }
 
 -- MACROS
@@ -276,55 +229,43 @@ put_back ms new count b out fin a c e f g =
     ap (take (1024 * count)) (sym f ∙ (ap (λ (y : List ℕ). y ++ x) (slots_append ms new) ∙ append_assoc (slots ms) (slots new) x)) ∙ take_at (slots ms) (slots new ++ x) (1024 * count) w in
     g ∙ (rw (t, n) refl ∙ e)
 
-module _ (b out : List ℕ) (count : ℕ) (s : List ℕ) (r : Reading) (o : Onto s count b out r) (y : Bytes s) where
-  pub add_wrong : {f : FileFault} {q : ℕ} {w : Obeyed} → r ≡ NoTable f q → w ≡ refused_of r → AddsOne b out count s w
+module _ (b out : List ℕ) (count : ℕ) (s : List ℕ) where
+  pub add_wrong : (e : ReadError) → Onto s count b out (Err e) → AddsOne b out count s (Err (InMacro e))
   unfolding macro_order
-  add_wrong {f} {q} {w} e g =
-      let o' : Onto s count b out (NoTable f q) = rw e at o in
-      rw (g ∙ ap refused_of e)
-      (record { obeys = λ ms h l st b' k. let x = o' ms h.accepted h.form l in (ap (macro_order ms st) x.0, x.1, refl) })
+  add_wrong e o = record { obeys = λ ms h l st b' k. let x = o ms h.accepted h.form l in (ap (macro_order ms st) x.0, x.1, refl) }
 
-  module _ {n : ℕ} (e : r ≡ TableOf n) where
-    read : Onto s count b out (TableOf n)
-    read = rw e at o
-
-    pub add_more : {fin : List ℕ} (w : Obeyed) → OneMore out fin count n w → AddsOne b fin count s w
-    unfolding macro_order pick
-    add_more Taken g =
-        record {
-          obeys = λ ms h l st b' k.
-              let x = read ms h.accepted h.form l in
-              let i : length x.0 ≡ suc (length ms) = omega (arith, x.2, g.0) in (
-                x.0,
-                st,
-                ap (macro_order ms st) x.1 ∙ rw (eq-eqb _ _ i) refl,
-                record { accepted = (read_keeps ms s x.0 h.accepted (bytes_octets s y) x.1).accepted; form = x.3 ∙ sym g.1 },
-                k,
-              );
-        }
-    add_more {fin} (Refused v) g =
-        record {
-          obeys = λ ms h l st b' k.
-              let x = read ms h.accepted h.form l in
-              let p = read_keeps ms s x.0 h.accepted (bytes_octets s y) x.1 in
-              let i : length x.0 ≡ suc (length ms) → ⊥ = λ j. g.0 (omega (arith, x.2, j)) in (
-                ap (macro_order ms st) x.1 ∙ (rw (ne_eqb _ _ i) refl ∙ ap (λ (z : Why). wrong (refusal_of z)) (sym g.1)),
-                put_back ms p.behind.0 count b out fin h.accepted l h.form (subst (λ (z : Table). form z ≡ out) p.behind.1 x.3) g.2,
-                refl,
-              );
-        }
+  pub add_more : {n : ℕ} → Onto s count b out (Ok n) → Bytes s → {fin : List ℕ} (w : Result (Unit {0}) ControlError) → OneMore out fin count n w → AddsOne b fin count s w
+  unfolding macro_order pick
+  add_more read y (Ok u) g =
+      record {
+        obeys = λ ms h l st b' k.
+            let x = read ms h.accepted h.form l in
+            let i : length x.0 ≡ suc (length ms) = omega (arith, x.2, g.0) in (
+              x.0,
+              st,
+              ap (macro_order ms st) x.1 ∙ rw (eq-eqb _ _ i) refl,
+              record { accepted = (read_keeps ms s x.0 h.accepted (bytes_octets s y) x.1).accepted; form = x.3 ∙ sym g.1 },
+              k,
+            );
+      }
+  add_more read y {fin} (Err v) g =
+      record {
+        obeys = λ ms h l st b' k.
+            let x = read ms h.accepted h.form l in
+            let p = read_keeps ms s x.0 h.accepted (bytes_octets s y) x.1 in
+            let i : length x.0 ≡ suc (length ms) → ⊥ = λ j. g.0 (omega (arith, x.2, j)) in (
+              ap (macro_order ms st) x.1 ∙ (rw (ne_eqb _ _ i) refl ∙ ap (λ (z : ControlError). wrong (refusal_of z)) (sym g.1)),
+              put_back ms p.behind.0 count b out fin h.accepted l h.form (subst (λ (z : Table). form z ≡ out) p.behind.1 x.3) g.2,
+              refl,
+            );
+      }
 
 -- CONTROL LINES
 
-pub bytes_behind : (t : List ℕ) → Bytes t → Bytes (take (length t - 6) (drop 6 t))
-bytes_behind t b = subst Bytes (sym (behind t)) (bytes_drop 6 t b)
-
 module _ {tb b t : List ℕ} {count : ℕ} where
-  pub orders_macro : {tb' : List ℕ} {r : Obeyed} → begins (bytes "$MACRO") t ≡ true → AddsOne tb tb' count (take (length t - 6) (drop 6 t)) r → Orders tb tb' b b count t r
-  orders_macro {tb'} {r} e x =
-      let x₂ : AddsOne tb tb' count (drop 6 t) r = subst (λ (s : List ℕ). AddsOne tb tb' count s r) (behind t) x in
-      record { obeys = λ ms h l st hs. subst (λ (o : Order). Obeys o tb tb' b b r) (sym (is_macro ms st t hs.in_range.entry_bytes e)) (x₂.obeys ms h l st b hs) }
+  pub orders_macro : {tb' : List ℕ} {r : Result (Unit {0}) ControlError} → begins (bytes "$MACRO") t ≡ true → AddsOne tb tb' count (drop 6 t) r → Orders tb tb' b b count t r
+  orders_macro {tb'} {r} e x = record { obeys = λ ms h l st hs. subst (λ (o : Order). Obeys o tb tb' b b r) (sym (is_macro ms st t hs.in_range.entry_bytes e)) (x.obeys ms h l st b hs) }
 
-  pub orders_flag : begins (bytes "$MACRO") t ≡ false → {b' : List ℕ} (r : Obeyed) → Sets b b' t r → Orders tb tb b b' count t r
-  orders_flag m Taken x = record { obeys = λ ms h l st hs. let y = x.sets ms st hs in (ms, y.0, no_macro_lem ms st t m ∙ y.1, h, y.2) }
-  orders_flag m (Refused w) x = record { obeys = λ ms h l st hs. let y = x.sets ms st hs in (no_macro_lem ms st t m ∙ y.0, refl, y.1) }
+  pub orders_flag : begins (bytes "$MACRO") t ≡ false → {b' : List ℕ} (r : Result (Unit {0}) ControlError) → Sets b b' t r → Orders tb tb b b' count t r
+  orders_flag m (Ok u) x = record { obeys = λ ms h l st hs. let y = x.sets ms st hs in (ms, y.0, no_macro_lem ms st t m ∙ y.1, h, y.2) }
+  orders_flag m (Err w) x = record { obeys = λ ms h l st hs. let y = x.sets ms st hs in (no_macro_lem ms st t m ∙ y.0, refl, y.1) }

@@ -1,5 +1,6 @@
 -- What the functions behind a control line promise (01, part 6).
 use Rattle.std.specs.Prelude.{ℕ, ◌+◌, ◌-◌, ◌*◌, ◌≤◌, ◌<◌, ◌≡◌, List, ◌++◌, length, take, replicate}
+use Rattle.std.specs.Prelude.{Result, Ok, Err}
 use Rattle.macros.specs.Macro.{Table, pick}
 use Rattle.macros.specs.Read.{read_onto}
 use Rattle.form_table.specs.Form.{table_bytes}
@@ -7,14 +8,11 @@ use Rattle.lines.specs.State.{State}
 use Rattle.lines.specs.Feeding.{bytes, same, flag_order, macro_order}
 use Rattle.lines.specs.Feeding.{Order as Ordered}
 use Rattle.lines.specs.Feeding.Order.{wrong, orders}
-use Rattle.form_state.specs.Access.{Holds, OfState}
+use Rattle.form_state.specs.Access.{Holds}
 use Rattle.line_memory.specs.Memory.{IsTable}
-use Rattle.read_file.specs.declared.Reading.{Reading}
-use Rattle.read_file.specs.declared.Reading.TheVariants.{Table as TableOf, Refused as NoTable}
 use Rattle.line_control.specs.Contract.{refusal_of, Obeys}
-use Rattle.line_control.specs.declared.Order.{Order}
-use Rattle.line_control.specs.declared.Order.TheVariants.{Taken, Refused}
-use Rattle.line_control.specs.declared.Why.TheVariants.{BadControl, InMacro}
+use Rattle.line_control.specs.declared.ControlError.{ControlError}
+use Rattle.line_control.specs.declared.ControlError.TheVariants.{BadControl}
 
 -- FLAGS
 
@@ -22,34 +20,29 @@ use Rattle.line_control.specs.declared.Why.TheVariants.{BadControl, InMacro}
 unfoldable pub value_of : List ℕ → ℕ
 value_of s = pick (same s (bytes " 0")) 0 (pick (same s (bytes " 1")) 1 2)
 
--- a flag set to 0 or 1, or another value
-abbrev pub Puts : (ℕ → State → State) → ℕ → List ℕ → List ℕ → Order → Type 0
-Puts set_to v b b' Taken = (v ≤ 1) × OfState b (λ st. Holds b' (set_to v st))
-Puts set_to v b b' (Refused w) = (1 < v) × (w ≡ BadControl) × (b' ≡ b)
+-- 0 or 1; another is refused
+abbrev pub Valued : List ℕ → Result ℕ ControlError → Type 0
+Valued s (Ok v) = (v ≡ value_of s) × (v ≤ 1)
+Valued s (Err w) = (1 < value_of s) × (w ≡ BadControl)
 
 -- what a line orders that may set a flag
-abbrev pub Flagged : Ordered → Table → List ℕ → List ℕ → Order → Type 0
-Flagged o ms b b' Taken = (st : State) × (o ≡ orders ms st) × Holds b' st
-Flagged o ms b b' (Refused w) = (o ≡ wrong (refusal_of w)) × (b' ≡ b)
+abbrev pub Flagged : Ordered → Table → List ℕ → List ℕ → Result (Unit {0}) ControlError → Type 0
+Flagged o ms b b' (Ok u) = (st : State) × (o ≡ orders ms st) × Holds b' st
+Flagged o ms b b' (Err w) = (o ≡ wrong (refusal_of w)) × (b' ≡ b)
 
 -- of every state that the bytes are, which flag the line t sets
-pub record Sets (b b' t : List ℕ) (r : Order) : Type 0 where
+pub record Sets (b b' t : List ℕ) (r : Result (Unit {0}) ControlError) : Type 0 where
   pub sets : (ms : Table) (st : State) → Holds b st → Flagged (flag_order ms st t) ms b b' r
 
 -- MACROS
 
 -- n macros are one more than count; or all slots behind count are zero
-abbrev pub OneMore : List ℕ → List ℕ → ℕ → ℕ → Order → Type 0
-OneMore table table' count n Taken = (n ≡ count + 1) × (table' ≡ table)
-OneMore table table' count n (Refused w) =
+abbrev pub OneMore : List ℕ → List ℕ → ℕ → ℕ → Result (Unit {0}) ControlError → Type 0
+OneMore table table' count n (Ok u) = (n ≡ count + 1) × (table' ≡ table)
+OneMore table table' count n (Err w) =
     (n ≡ count + 1 → ⊥) × (w ≡ BadControl) × (table' ≡ take (1024 * count) table ++ replicate (table_bytes - 1024 * count) 0)
 
 -- what the bytes behind `$MACRO` order, of any state
-pub record AddsOne (table table' : List ℕ) (count : ℕ) (s : List ℕ) (r : Order) : Type 0 where
+pub record AddsOne (table table' : List ℕ) (count : ℕ) (s : List ℕ) (r : Result (Unit {0}) ControlError) : Type 0 where
   pub obeys : (ms : Table) → IsTable table ms → length ms ≡ count → (st : State) (b : List ℕ) → Holds b st
       → Obeys (macro_order ms st (read_onto ms s)) table table' b b r
-
--- a fault handed on
-abbrev pub refused_of : Reading → Order
-refused_of (TableOf n) = Refused BadControl
-refused_of (NoTable f p) = Refused (InMacro f p)

@@ -1,12 +1,12 @@
 -- A file read onto a table: the new table's bytes, and the old table's after a refusal.
 -- Assumes nothing.
 use mathlib.Core.Path.{◌≡◌, refl, ap, sym, ◌∙◌}
-use mathlib.Core.Bool.{false}
-use mathlib.Core.List.{List, ◌++◌, reverse, append_assoc, reverse-append, reverse-reverse}
+use mathlib.Core.Bool.{true, false}
+use mathlib.Core.List.{List, [], ◌++◌, reverse, append-nil, reverse-append, reverse-reverse}
 use mathlib.Core.Option.{none, some}
 use Prim.Native.Nat.{ℕ, ◌+◌, ◌-◌, ◌*◌, ◌≤◌, ◌<◌}
 use native.Mathlib.Omega.{arith}
-use lib.ListN.{length, take, drop, replicate, length-append, length-replicate, length-reverse, take-append-drop, replicate-append-replicate}
+use lib.ListN.{length, take, drop, drop_of_length-le, replicate, length-append, length-replicate, length-reverse, take-append-drop, replicate-append-replicate}
 use lib.Seq.{take_at, drop_at, take-take, drop-drop}
 use borrow.Author.Tests.{lt-ltb, le-ltb}
 use Rattle.macros.specs.Refusals.{FileRefusal}
@@ -22,16 +22,14 @@ use Rattle.form_table.specs.Form.{slot_bytes, table_bytes, slots, form}
 use Rattle.form_table.proofs.Tables.{slots_size, form_size}
 use Rattle.read_scan.specs.Scan.{fault_of}
 use Rattle.form_items.specs.Items.{Wrote}
-use Rattle.read_file.specs.File.{Adds, AddsFrom, Lent, Onto, not_plain, macros_by, table_of}
+use Rattle.form_items.proofs.Writing.{wrote_is}
+use Rattle.read_file.specs.File.{AddsFrom, Lent, Onto}
 use Rattle.read_start.specs.Start.{WholeFile}
 use Rattle.read_start.specs.Start.WholeFile.{plain, long, zeroed}
 use Rattle.read_scan.specs.declared.FileFault.{FileFault}
-use Rattle.read_start.specs.declared.FileTest.{FileTest}
-use Rattle.read_start.specs.declared.FileTest.TheVariants.{Plain, Refused as NotPlain}
-use Rattle.read_file.specs.declared.Added.{Added}
-use Rattle.read_file.specs.declared.Added.TheVariants.{All, Refused as NotAll}
-use Rattle.read_file.specs.declared.Reading.{Reading}
-use Rattle.read_file.specs.declared.Reading.TheVariants.{Table as TableOf, Refused as NoTable}
+use Rattle.read_scan.specs.declared.FileFault.TheVariants.{FileTooLong, ZeroByte}
+use Rattle.read_scan.specs.declared.ReadError.{ReadError}
+use Rattle.std.specs.Prelude.{Result, Ok, Err, is_ok}
 use Rattle.read_file.proofs.Adding.{slots_append}
 
 -- THE WHOLE FILE FIRST
@@ -48,27 +46,23 @@ fresh : (ms : Table) (s : List ℕ) → length s ≤ 32768 → first_zero 0 s �
 unfolding read_onto_by pick
 fresh ms s h e = rw (le-ltb _ _ h, e) refl
 
-abbrev pub Refuses : FileTest → Type 0
-Refuses Plain = ⊥
-Refuses (NotPlain f q) = Unit {0}
-
-pub refuses : {t : FileTest} {f : FileFault} {q : ℕ} → t ≡ NotPlain f q → Refuses t
-refuses e = rw e tt
-
 -- a file that is refused as a whole
-pub onto_not_plain : (s : List ℕ) (c : ℕ) (old : List ℕ) (t : FileTest) {w : Reading} → WholeFile s t → Refuses t → w ≡ not_plain t → Onto s c old old w
-onto_not_plain s c old t x k e = rw e (by t x k)
+pub onto_not_plain : (s : List ℕ) (c : ℕ) (old : List ℕ) (e : ReadError) → WholeFile s (Err e) → Onto s c old old (Err e)
+onto_not_plain s c old e x = by (Err e) x refl
   where
-    by : (t : FileTest) → WholeFile s t → Refuses t → Onto s c old old (not_plain t)
-    by t (plain h z) k = absurd k
-    by t (long h) k = λ ms f e l. (too_long ms s h, refl)
-    by t (zeroed q h z) k = λ ms f e l. (with_zero ms s q h z, refl)
+    by : (t : Result (Unit {0}) ReadError) → WholeFile s t → t ≡ Err e → Onto s c old old (Err e)
+    by t (plain h z) k = cc
+    by t (long h) k = let i : e ≡ record { fault = FileTooLong; place = 32768 } = cc in rw i (λ ms f e l. (too_long ms s h, refl))
+    by t (zeroed q h z) k = let i : e ≡ record { fault = ZeroByte; place = q } = cc in rw i (λ ms f e l. (with_zero ms s q h z, refl))
 
 -- one that is not
-pub plain_file : (s : List ℕ) (t : FileTest) → WholeFile s t → t ≡ Plain → (length s ≤ 32768) × (first_zero 0 s ≡ none)
-plain_file s t (plain h z) e = (h, z)
-plain_file s t (long h) e = let z : ◌≡◌ {A = ℕ} 0 1 = cc in absurd (omega arith)
-plain_file s t (zeroed q h z) e = let z : ◌≡◌ {A = ℕ} 0 1 = cc in absurd (omega arith)
+pub plain_file : (s : List ℕ) {u : Unit {0}} → WholeFile s (Ok u) → (length s ≤ 32768) × (first_zero 0 s ≡ none)
+plain_file s {u} x = by (Ok u) x refl
+  where
+    by : (t : Result (Unit {0}) ReadError) → WholeFile s t → t ≡ Ok u → (length s ≤ 32768) × (first_zero 0 s ≡ none)
+    by t (plain h z) k = (h, z)
+    by t (long h) k = cc
+    by t (zeroed q h z) k = cc
 
 -- WHAT IS LENT
 
@@ -124,79 +118,68 @@ module _ (ms : Table) (f : Accepted ms) (c : ℕ) (l : length ms ≡ c) where
           sym (take-take (slot_bytes * c) (slot_bytes * c + length (slots new)) out (omega arith))
           ∙ (ap (take (slot_bytes * c)) w.written ∙ take_at (take (slot_bytes * c) old) (slots new) (slot_bytes * c) (ap length front ∙ wide))
 
-      -- the slots added are zeros again
-      restored : (fin : List ℕ) → Wrote out fin (c * 1024) (replicate ((n - c) * 1024) 0) → fin ≡ old
-      restored fin v =
-          let i : ℕ = length (slots new) in
+      -- the slots added are zeros again, as are those behind them
+      restored : (fin : List ℕ) → length out ≡ 98304 → Wrote out fin (c * 1024) (replicate (98304 - c * 1024) 0) → fin ≡ old
+      restored fin i v =
           let p : c * 1024 ≡ slot_bytes * c = omega arith in
-          let q : (n - c) * 1024 ≡ length (slots new) = omega arith in
-          let u : Wrote out fin (slot_bytes * c) (replicate (length (slots new)) 0) = rw (p, q) at v in
-          let m : length {A = ℕ} (replicate (length (slots new)) 0) ≡ length (slots new) = length-replicate (length (slots new)) 0 in
-          let s₁ : take (slot_bytes * c + length (slots new)) fin ≡ take (slot_bytes * c) old ++ replicate (length (slots new)) 0 = (rw m at u.written) ∙ ap (λ (x : List ℕ). x ++ replicate (length (slots new)) 0) same_front in
-          let s₂ : drop (slot_bytes * c + length (slots new)) fin ≡ replicate (slot_bytes * (96 - c) - length (slots new)) 0 = (rw m at u.kept) ∙ (w.kept ∙ further (length (slots new)) (omega arith)) in
-          sym (take-append-drop (slot_bytes * c + length (slots new)) fin)
-          ∙ (rw (s₁, s₂, append_assoc) (ap (λ (x : List ℕ). take (slot_bytes * c) old ++ x) (zeros_split (length (slots new)) (slot_bytes * (96 - c)) (omega arith) ∙ sym rest))
-          ∙ take-append-drop (slot_bytes * c) old)
+          let q : 98304 - slot_bytes * c ≡ slot_bytes * (96 - c) = omega arith in
+          let u : Wrote out fin (slot_bytes * c) (replicate (slot_bytes * (96 - c)) 0) = rw (p, q) at v in
+          let z : drop (slot_bytes * c + length {A = ℕ} (replicate (slot_bytes * (96 - c)) 0)) out ≡ [] =
+          drop_of_length-le out (omega (arith, length-replicate {A = ℕ} (slot_bytes * (96 - c)) 0)) in
+          wrote_is u ∙ (rw (z, same_front, append-nil, ← rest) refl ∙ take-append-drop (slot_bytes * c) old)
 
 -- READING
 
-module _ (s : List ℕ) (c : ℕ) (old out : List ℕ) (h : length s ≤ 32768) (x : first_zero 0 s ≡ none) {r : Added} (y : AddsFrom s c old out r) where
-  pub onto_table : {n : ℕ} → r ≡ All n → Onto s c old out (TableOf n)
-  onto_table {n} e = by
-    where
-      a : Adds s c old out n (λ ms. table (reverse ms))
-      a = rw e at y
+module _ (s : List ℕ) (c : ℕ) (old out : List ℕ) (h : length s ≤ 32768) (x : first_zero 0 s ≡ none) where
+  onto_table : {n : ℕ} → AddsFrom s c old out (Ok n) → Onto s c old out (Ok n)
+  onto_table {n} a ms f k l =
+      let b : reverse (a.added ++ reverse ms) ≡ ms ++ reverse a.added = reverse-append a.added (reverse ms) ∙ ap (λ (t : Table). t ++ reverse a.added) (reverse-reverse ms) in
+      let d : length (reverse a.added) ≡ length a.added = length-reverse a.added in (
+        ms ++ reverse a.added,
+        fresh ms s h x ∙ (a.answer (reverse ms) (length-reverse ms ∙ l) ∙ ap table b),
+        omega (arith, a.counted, length-append ms (reverse a.added), d),
+        joined ms f c l old k out (reverse a.added) n (omega (arith, a.size, d)) (omega (arith, a.counted, d)) a.few a.wrote,
+      )
 
-      by : Onto s c old out (TableOf n)
-      by ms f k l =
-          let b : reverse (a.added ++ reverse ms) ≡ ms ++ reverse a.added = reverse-append a.added (reverse ms) ∙ ap (λ (t : Table). t ++ reverse a.added) (reverse-reverse ms) in
-          let d : length (reverse a.added) ≡ length a.added = length-reverse a.added in (
-            ms ++ reverse a.added,
-            fresh ms s h x ∙ (a.answer (reverse ms) (length-reverse ms ∙ l) ∙ ap table b),
-            omega (arith, a.counted, length-append ms (reverse a.added), d),
-            joined ms f c l old k out (reverse a.added) n (omega (arith, a.size, d)) (omega (arith, a.counted, d)) a.few a.wrote,
-          )
+  onto_fault : (e : ReadError) → AddsFrom s c old out (Err e) → (fin : List ℕ) → length out ≡ 98304 → Wrote out fin (c * 1024) (replicate (98304 - c * 1024) 0)
+      → Onto s c old fin (Err e)
+  onto_fault e y fin i v ms g k l =
+      let a = y.1 in
+      let d : length (reverse a.added) ≡ length a.added = length-reverse a.added in (
+        fresh ms s h x ∙ a.answer (reverse ms) (length-reverse ms ∙ l),
+        restored ms g c l old k out (reverse a.added) y.0 (omega (arith, a.size, d)) (omega (arith, a.counted, d)) a.few a.wrote fin i v,
+      )
 
-  module _ {n q : ℕ} {f : FileFault} (e : r ≡ NotAll f q n) where
-    pub not_all : AddsFrom s c old out (NotAll f q n)
-    not_all = rw e at y
+  pub onto_added : (r : Result ℕ ReadError) → is_ok r ≡ true → AddsFrom s c old out r → Onto s c old out r
+  onto_added (Ok n) e a = onto_table a
+  onto_added (Err w) e a = cc
 
-    onto_fault : (fin : List ℕ) → Wrote out fin (c * 1024) (replicate ((n - c) * 1024) 0) → Onto s c old fin (NoTable f q)
-    onto_fault fin v ms g k l =
-        let a = not_all in
-        let d : length (reverse a.added) ≡ length a.added = length-reverse a.added in (
-          fresh ms s h x ∙ a.answer (reverse ms) (length-reverse ms ∙ l),
-          restored ms g c l old k out (reverse a.added) n (omega (arith, a.size, d)) (omega (arith, a.counted, d)) a.few a.wrote fin v,
-        )
-
-    pub by_then : {m : ℕ} → m ≡ macros_by r → m ≡ n
-    by_then g = g ∙ ap macros_by e
-
-    pub onto_refused : {m : ℕ} {w : Reading} → m ≡ macros_by r → w ≡ table_of r → (fin : List ℕ) → Wrote out fin (c * 1024) (replicate ((m - c) * 1024) 0) → Onto s c old fin w
-    onto_refused g j fin v = rw (j ∙ ap table_of e) (onto_fault fin (rw (by_then g) at v))
+  pub onto_refused : (r : Result ℕ ReadError) → is_ok r ≡ false → AddsFrom s c old out r → (fin : List ℕ) → length out ≡ 98304
+      → Wrote out fin (c * 1024) (replicate (98304 - c * 1024) 0) → Onto s c old fin r
+  onto_refused (Ok n) e a = cc
+  onto_refused (Err w) e a = onto_fault w a
 
 -- THE SAME, BY WHAT read_onto SAYS
 
 module _ (s : List ℕ) (c : ℕ) (old out : List ℕ) (ms : Table) (a : Accepted ms) (e : form ms ≡ old) (l : length ms ≡ c) where
-  pub where_read : (r : Reading) → Onto s c old out r → (ks : Table) → read_onto ms s ≡ table ks → (r ≡ TableOf (length ks)) × (form ks ≡ out)
-  where_read (TableOf n) x ks g =
+  pub where_read : (r : Result ℕ ReadError) → Onto s c old out r → (ks : Table) → read_onto ms s ≡ table ks → (r ≡ Ok (length ks)) × (form ks ≡ out)
+  where_read (Ok n) x ks g =
       let y = x ms a e l in
       let p : read_onto ms s ≡ table y.0 = y.1 in
       let i : y.0 ≡ ks = cc in
       let j : n ≡ length ks = y.2 ∙ ap length i in
-      (ap TableOf j, ap form (sym i) ∙ y.3)
-  where_read (NoTable f q) x ks g =
-      let p : read_onto ms s ≡ refused_at (fault_of f) q = (x ms a e l).0 in
-      let z : ◌≡◌ {A = ℕ} 0 1 = cc in
-      absurd (omega arith)
+      (ap (λ (k : ℕ). Ok k) j, ap form (sym i) ∙ y.3)
+  where_read (Err w) x ks g =
+      let p : read_onto ms s ≡ refused_at (fault_of w.fault) w.place = (x ms a e l).0 in
+      cc
 
-  pub where_refused : (r : Reading) → Onto s c old out r → (k : FileRefusal) (q : ℕ) → read_onto ms s ≡ refused_at k q → (f : FileFault) × (fault_of f ≡ k) × (r ≡ NoTable f q) × (out ≡ old)
-  where_refused (TableOf n) x k q g =
+  pub where_refused : (r : Result ℕ ReadError) → Onto s c old out r → (k : FileRefusal) (q : ℕ) → read_onto ms s ≡ refused_at k q
+      → (f : FileFault) × (fault_of f ≡ k) × (r ≡ Err (record { fault = f; place = q })) × (out ≡ old)
+  where_refused (Ok n) x k q g =
       let p : read_onto ms s ≡ table (x ms a e l).0 = (x ms a e l).1 in
-      let z : ◌≡◌ {A = ℕ} 0 1 = cc in
-      absurd (omega arith)
-  where_refused (NoTable f v) x k q g =
-      let p : read_onto ms s ≡ refused_at (fault_of f) v = (x ms a e l).0 in
-      let i : fault_of f ≡ k = cc in
-      let j : v ≡ q = cc in
-      (f, i, ap (λ (t : ℕ). NoTable f t) j, (x ms a e l).1)
+      cc
+  where_refused (Err w) x k q g =
+      let p : read_onto ms s ≡ refused_at (fault_of w.fault) w.place = (x ms a e l).0 in
+      let i : fault_of w.fault ≡ k = cc in
+      let j : w.place ≡ q = cc in
+      (w.fault, i, ap (λ (t : ℕ). Err (record { fault = w.fault; place = t })) j, (x ms a e l).1)

@@ -1,23 +1,22 @@
 -- A macro in its slot.
 -- Assumes nothing.
-use mathlib.Core.Path.{◌≡◌}
-use mathlib.Core.List.{List, [], ◌∷◌, ◌++◌}
-use Prim.Native.Nat.{ℕ, ◌+◌, ◌-◌, ◌≤◌, ◌<◌}
+use mathlib.Core.Path.{◌≡◌, ap, ◌∙◌}
+use mathlib.Core.List.{List, [], ◌∷◌}
+use Prim.Native.Nat.{ℕ, ◌+◌, ◌-◌, ◌≤◌}
 use native.Mathlib.Omega.{arith}
-use native.Mathlib.Numerals.{add-one}
-use lib.ListN.{length, get_or, take, set, replicate}
-use lib.Seq.{take-suc, length-take-le}
+use lib.ListN.{length, take, drop, replicate, length-append, length-drop}
+use lib.Seq.{length-take-le}
+use borrow.Rule.Slice.PartMut.{put_mid}
 use Rattle.form_table.specs.Form.{two}
 use Rattle.form_items.specs.Items.{Wrote}
 use Rattle.read_file.specs.File.{slot_of}
 use Rattle.read_macro.specs.OneMacro.{head_bytes, used_bytes}
 use Rattle.read_macro.specs.declared.Head.{Head}
-use Rattle.form_items.proofs.Writing.{wrote_one, wrote_behind}
+use Rattle.form_items.proofs.Writing.{wrote_behind, wrote_mid, wrote_fill}
 
-pub wrote_take : {a b : List ℕ} {n : ℕ} (f : List ℕ) (i : ℕ) → Wrote a b n (take i f) → i < length f → n + i < length b → Wrote a (set b (n + i) (get_or f i 0)) n (take (i + 1) f)
-wrote_take {a} {b} {n} f i w h l =
-    let e : n + i ≡ n + length (take i f) = omega (arith, length-take-le i f (omega arith)) in
-    rw (add-one, take-suc f i 0 h) (wrote_behind w e (wrote_one b (n + i) (get_or f i 0) l))
+-- a part laid out anew
+pub mid_length : (a ys : List ℕ) (n k : ℕ) → length ys ≡ k → n + k ≤ length a → length (put_mid n k a ys) ≡ length a
+mid_length a ys n k e h = let t = length-take-le n a (omega arith) in simp (length-append, length-drop) (omega arith)
 
 pub headed : {t₀ t₁ t₂ t₃ t₄ t₅ : List ℕ} {n : ℕ} (h : Head)
     → Wrote t₀ t₁ n (h.symbol ∷ h.tags ∷ []) → Wrote t₁ t₂ (n + 2) (two h.before) → Wrote t₂ t₃ (n + 4) (two h.pattern)
@@ -30,9 +29,16 @@ headed {n = n} h w₀ w₁ w₂ w₃ w₄ =
     wrote_behind x₃ (omega arith) w₄
 
 -- head, items and zeros
-pub stored : {t₀ t₁ t₂ t₃ : List ℕ} {n : ℕ} (h : Head) (b : List ℕ) → used_bytes h ≤ length b → Wrote t₀ t₁ n (head_bytes h)
-    → Wrote t₁ t₂ (n + 10) (take (used_bytes h) b) → Wrote t₂ t₃ (n + 10 + used_bytes h) (replicate (1014 - used_bytes h) 0) → Wrote t₀ t₃ n (slot_of h b)
+pub stored : {t₀ t₁ ys zs : List ℕ} {n k m : ℕ} (h : Head) (b : List ℕ) → used_bytes h ≤ length b → used_bytes h ≤ 1014 → n + 1024 ≤ length t₁
+    → Wrote t₀ t₁ n (head_bytes h) → ys ≡ take (used_bytes h) b → k ≡ used_bytes h → m ≡ 1014 - used_bytes h
+    → zs ≡ replicate (length (take m (drop (n + 10 + used_bytes h) (put_mid (n + 10) k t₁ ys)))) 0
+    → Wrote t₀ (put_mid (n + 10 + used_bytes h) m (put_mid (n + 10) k t₁ ys) zs) n (slot_of h b)
 unfolding two
-stored {n = n} h b l w₀ w₁ w₂ =
+stored {t₁ = t₁} {ys = ys} {zs = zs} {n = n} {k = k} {m = m} h b l f r w₀ e i j z =
+    let d = length-take-le (used_bytes h) b l in
+    let g : length ys ≡ used_bytes h = ap length e ∙ d in
+    let w₁ = wrote_mid t₁ ys (take (used_bytes h) b) (n + 10) k e (omega arith) (omega arith) in
+    let p : length (put_mid (n + 10) k t₁ ys) ≡ length t₁ = mid_length t₁ ys (n + 10) k (omega arith) (omega arith) in
+    let w₂ = wrote_fill (put_mid (n + 10) k t₁ ys) zs (n + 10 + used_bytes h) (1014 - used_bytes h) m 0 j (omega arith) z in
     let x₁ = wrote_behind w₀ (omega arith) w₁ in
-    wrote_behind x₁ (omega (arith, length-take-le (used_bytes h) b l)) w₂
+    wrote_behind x₁ (omega arith) w₂

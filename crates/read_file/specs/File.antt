@@ -1,5 +1,6 @@
 -- A file of macros, read onto a table: what reading it says of the machine.
 use Rattle.std.specs.Prelude.{ℕ, ◌+◌, ◌-◌, ◌*◌, ◌≤◌, ◌<◌, ◌≡◌, false, List, ◌++◌, reverse, length, take, replicate}
+use Rattle.std.specs.Prelude.{Option, Some, None, Result, Ok, Err}
 use Rattle.macros.specs.Bounds.{most_macros}
 use Rattle.macros.specs.Macro.{Macro, Table}
 use Rattle.macros.specs.Read.{Read, read_from, read_onto}
@@ -10,23 +11,11 @@ use Rattle.macros.specs.Accepted.{Accepted}
 use Rattle.form_table.specs.Form.{slot_bytes, body_bytes, slot, slots, form}
 use Rattle.read_scan.specs.Scan.{fault_of}
 use Rattle.form_items.specs.Items.{Wrote}
-use Rattle.read_scan.specs.declared.FileFault.TheVariants.{Incomplete}
+use Rattle.read_scan.specs.declared.ReadError.{ReadError}
 use Rattle.read_start.specs.Next.{next_from}
 use Rattle.read_start.specs.Next.Coming.{macro_to as next_to, refused_at as next_refused_at, no_more}
-use Rattle.read_start.specs.declared.Seek.{Seek}
-use Rattle.read_start.specs.declared.Seek.TheVariants.{Start, Done, Skipping}
-use Rattle.read_start.specs.declared.FileTest.{FileTest}
-use Rattle.read_start.specs.declared.FileTest.TheVariants.{Plain, Refused as NotPlain}
 use Rattle.read_macro.specs.OneMacro.{head_bytes, used_bytes}
 use Rattle.read_macro.specs.declared.Head.{Head}
-use Rattle.read_macro.specs.declared.Built.{Built}
-use Rattle.read_macro.specs.declared.Built.TheVariants.{Made, Refused as NoMacro}
-use Rattle.read_file.specs.declared.Found.{Found}
-use Rattle.read_file.specs.declared.Found.TheVariants.{Macro as MacroUpTo, End, Refused as NotFound}
-use Rattle.read_file.specs.declared.Added.{Added}
-use Rattle.read_file.specs.declared.Added.TheVariants.{All, Refused as NotAll}
-use Rattle.read_file.specs.declared.Reading.{Reading}
-use Rattle.read_file.specs.declared.Reading.TheVariants.{Table as TableOf, Refused as NoTable}
 
 -- SLOTS
 
@@ -49,11 +38,11 @@ pub record InSlot (s : List ℕ) (p n base : ℕ) (old out : List ℕ) (q : ℕ)
   pub reached : q ≤ length s
 
 -- what storing it says of the answer and of all lent bytes: a refusal and the file's end leave them as they were
-abbrev pub NextSlot : List ℕ → (p n base : ℕ) → List ℕ → List ℕ → Found → Type 0
-NextSlot s p n base old out (MacroUpTo q) = InSlot s p n base old out q
-NextSlot s p n base old out End = (out ≡ old) × ((ms : List Macro) → length ms ≡ n → next_from s p ms ≡ no_more)
-NextSlot s p n base old out (NotFound f q) =
-    (out ≡ old) × ((ms : List Macro) → length ms ≡ n → next_from s p ms ≡ next_refused_at (fault_of f) q)
+abbrev pub NextSlot : List ℕ → (p n base : ℕ) → List ℕ → List ℕ → Result (Option ℕ) ReadError → Type 0
+NextSlot s p n base old out (Ok (Some q)) = InSlot s p n base old out q
+NextSlot s p n base old out (Ok None) = (out ≡ old) × ((ms : List Macro) → length ms ≡ n → next_from s p ms ≡ no_more)
+NextSlot s p n base old out (Err e) =
+    (out ≡ old) × ((ms : List Macro) → length ms ≡ n → next_from s p ms ≡ next_refused_at (fault_of e.fault) e.place)
 
 -- A FILE
 
@@ -66,10 +55,10 @@ pub record Adds (s : List ℕ) (count : ℕ) (old out : List ℕ) (n : ℕ) (the
   pub wrote : Wrote old out (slot_bytes * count) (slots (reverse added))
   pub answer : (ms : List Macro) → length ms ≡ count → read_from 0 (between false clear ms) s ≡ then (added ++ ms)
 
--- what reading all macros of a file says
-abbrev pub AddsFrom : List ℕ → ℕ → List ℕ → List ℕ → Added → Type 0
-AddsFrom s c old out (All n) = Adds s c old out n (λ ms. table (reverse ms))
-AddsFrom s c old out (NotAll f q n) = Adds s c old out n (λ ms. refused_at (fault_of f) q)
+-- what reading all macros of a file says; a refusal leaves some of them stored
+abbrev pub AddsFrom : List ℕ → ℕ → List ℕ → List ℕ → Result ℕ ReadError → Type 0
+AddsFrom s c old out (Ok n) = Adds s c old out n (λ ms. table (reverse ms))
+AddsFrom s c old out (Err e) = (n : ℕ) × Adds s c old out n (λ ms. refused_at (fault_of e.fault) e.place)
 
 -- that the lent bytes are those of an accepted table of so many macros
 pub record Lent (old : List ℕ) (c : ℕ) : Type 0 where
@@ -79,38 +68,9 @@ pub record Lent (old : List ℕ) (c : ℕ) : Type 0 where
   pub counted : length itself ≡ c
 
 -- what reading a file onto a table says of every accepted table that has these bytes and so many macros
-abbrev pub Onto : List ℕ → ℕ → List ℕ → List ℕ → Reading → Type 0
-Onto s c old out (TableOf n) =
+abbrev pub Onto : List ℕ → ℕ → List ℕ → List ℕ → Result ℕ ReadError → Type 0
+Onto s c old out (Ok n) =
     (ms : Table) → Accepted ms → form ms ≡ old → length ms ≡ c → (ks : Table) × (read_onto ms s ≡ table ks) × (n ≡ length ks)
     × (form ks ≡ out)
-Onto s c old out (NoTable f q) =
-    (ms : Table) → Accepted ms → form ms ≡ old → length ms ≡ c → (read_onto ms s ≡ refused_at (fault_of f) q) × (out ≡ old)
-
--- REFUSALS HANDED ON
-
-abbrev pub no_start : Seek → ℕ → Found
-no_start (Start a q) k = NotFound Incomplete q
-no_start Done k = End
-no_start Skipping k = NotFound Incomplete k
-
-abbrev pub no_macro : Built → Found
-no_macro (Made q h) = NotFound Incomplete q
-no_macro (NoMacro f q) = NotFound f q
-
-abbrev pub none_found : Found → ℕ → Added
-none_found (MacroUpTo q) n = NotAll Incomplete q n
-none_found End n = All n
-none_found (NotFound f q) n = NotAll f q n
-
-abbrev pub not_plain : FileTest → Reading
-not_plain Plain = NoTable Incomplete 0
-not_plain (NotPlain f q) = NoTable f q
-
--- the macros that the table has by then
-abbrev pub macros_by : Added → ℕ
-macros_by (All n) = n
-macros_by (NotAll f q n) = n
-
-abbrev pub table_of : Added → Reading
-table_of (All n) = TableOf n
-table_of (NotAll f q n) = NoTable f q
+Onto s c old out (Err e) =
+    (ms : Table) → Accepted ms → form ms ≡ old → length ms ≡ c → (read_onto ms s ≡ refused_at (fault_of e.fault) e.place) × (out ≡ old)

@@ -1,5 +1,5 @@
 // Storing a macro in its slot of a table.
-ghost use Rattle.std.specs.Prelude.{◌≤◌, ◌<◌, ◌+◌, length, take};
+ghost use Rattle.std.specs.Prelude.{◌≤◌, ◌<◌, ◌+◌, length};
 ghost use Rattle.macros.specs.Bounds.{most_tags};
 ghost use Rattle.form_table.specs.Form.{slot_bytes, body_bytes, two};
 ghost use Rattle.form_items.specs.Items.{Wrote};
@@ -8,7 +8,7 @@ ghost use Rattle.read_file.specs.File.{slot_of};
 
 use crate::SLOT_BYTES;
 use form_items::layout::{BEFORE_AT, COMMANDS_AT, HEADER_BYTES, PATTERN_AT, REPLACEMENT_AT};
-use form_items::{clear, put_item};
+use form_items::put_item;
 use read_macro::Head;
 
 // A number of two bytes, low byte first.
@@ -17,18 +17,6 @@ fn put_two(out: &mut [u8], n: usize, v: usize)
     ensures { Wrote out.old out.new n (two v) }
 {
     put_item(out, n, (v % 256) as u8, (v / 256) as u8);
-}
-
-// The first k bytes of others.
-fn copy_in(out: &mut [u8], n: usize, from: &[u8], k: usize)
-    requires { (n + k ≤ length out.old) × (k ≤ length from.now) }
-    ensures { Wrote out.old out.new n (take k from.now) }
-{
-    let mut i = 0;
-    while i < k {
-        out[n + i] = from[i];
-        i = i + 1;
-    }
 }
 
 // A slot's first bytes.
@@ -50,10 +38,8 @@ pub(crate) fn store(table: &mut [u8], base: usize, body: &[u8], head: Head)
 {
     let used = head.before + head.pattern + head.replacement + head.commands;
     put_head(table, base, head);
-    copy_in(table, base + HEADER_BYTES, body, used);
-    clear(
-        table,
-        base + HEADER_BYTES + used,
-        SLOT_BYTES - HEADER_BYTES - used,
-    );
+    let items = base + HEADER_BYTES;
+    let end = base + SLOT_BYTES;
+    table[items..items + used].copy_from_slice(&body[..used]);
+    table[items + used..end].fill(0);
 }

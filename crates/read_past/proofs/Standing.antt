@@ -1,18 +1,16 @@
 -- One macro or one fault more: what reading past faults stands at then, and what the lent bytes hold.
 -- Assumes nothing.
-use mathlib.Core.Path.{◌≡◌, refl, ap, subst, sym, ◌∙◌}
+use mathlib.Core.Path.{◌≡◌, refl, ap, sym, ◌∙◌}
 use mathlib.Core.Bool.{true}
 use mathlib.Core.List.{List, [], ◌∷◌, ◌++◌, reverse, append_assoc, append-nil}
 use mathlib.Core.Option.{Option, none, some}
 use Prim.Native.Nat.{ℕ, suc, ◌+◌, ◌-◌, ◌*◌, ◌≤◌, ◌<◌}
 use native.Mathlib.Omega.{arith}
-use borrow.Author.Tests.{le-ltb}
 use lib.ListN.{length, take, drop, replicate, length-append, length-drop, length-replicate, length-reverse}
 use lib.Seq.{take_at, drop-append-add}
 use Rattle.form_bytes.specs.Fours.{four}
 use Rattle.macros.specs.Bounds.{most_macros}
-use Rattle.macros.specs.Refusals.{file_number}
-use Rattle.macros.specs.Macro.{Macro, Table, pick}
+use Rattle.macros.specs.Macro.{Macro, Table}
 use Rattle.form_table.specs.Form.{slot_bytes, table_bytes, slot, slots, form}
 use Rattle.form_items.specs.Items.{Wrote}
 use Rattle.form_items.proofs.Writing.{wrote_is}
@@ -27,18 +25,19 @@ use Rattle.form_faults.specs.Form.{fault_items, faults_bytes, faults_form}
 use Rattle.form_faults.proofs.Laws.{form_length}
 use Rattle.read_scan.specs.Scan.{fault_of}
 use Rattle.read_scan.specs.declared.FileFault.{FileFault}
+use Rattle.read_scan.specs.declared.ReadError.{ReadError}
+use Rattle.read_fault.specs.declared.PastError.{PastError}
+use Rattle.read_fault.specs.declared.Progress.{Progress}
+use Rattle.std.specs.Prelude as std
+use Rattle.std.specs.Prelude.{Some, None, Result, Ok, Err}
 use Rattle.read_start.specs.Next.{next_from}
 use Rattle.read_start.specs.Next.Coming.{refused_at, no_more}
-use Rattle.read_file.specs.File.{InSlot, NextSlot}
-use Rattle.read_file.specs.declared.Found.{Found as FoundNext}
-use Rattle.read_file.specs.declared.Found.TheVariants.{Macro as MacroUpTo, End, Refused as NotFound}
+use Rattle.read_file.specs.File.{InSlot}
 use Rattle.read_file.proofs.Adding.{slots_append}
 use Rattle.read_start.proofs.Coming.{next_place}
-use Rattle.read_past.specs.Past.{Answered, Moved, Standing, no_fault, over_with, with_faults}
-use Rattle.read_fault.specs.Noting.{Notes, or_zero, resumes_at}
+use Rattle.read_past.specs.Past.{Moved, Standing, with_faults}
+use Rattle.read_fault.specs.Noting.{Notes, as_option, resumes_at}
 use Rattle.read_fault.specs.Noting.Notes.{listed as noted, one_too_many, unlisted}
-use Rattle.read_fault.specs.declared.Moment.{Moment}
-use Rattle.read_fault.specs.declared.Moment.TheVariants.{On, Ended, Refused as Stops}
 use Rattle.read_fault.proofs.Listing.{zeros_drop}
 use Rattle.read_past.proofs.Stretching.{recover_end, recover_fault, recover_macro, recover_refused}
 
@@ -93,16 +92,6 @@ slots_one : (ms : Table) (m : Macro) → length (slots (ms ++ (m ∷ []))) ≡ l
 unfolding slots
 slots_one ms m = ap length (slots_append ms (m ∷ []) ∙ ap (λ (u : List ℕ). slots ms ++ u) (append-nil (slot m)))
 
--- reading goes on behind a `;`
-resumes_on : (z n k : ℕ) → 1 ≤ z → resumes_at z n k ≡ On z n k
-unfolding resumes_at pick
-resumes_on z n k h = rw (le-ltb z 1 h) refl
-
--- or nowhere
-resumes_not : (n k : ℕ) → resumes_at 0 n k ≡ Ended n
-unfolding resumes_at pick
-resumes_not n k = refl
-
 -- a count of faults that has room
 room_left : (k : ℕ) → k < most_faults → most_faults - k ≡ suc (most_faults - (k + 1))
 room_left k h = omega arith
@@ -112,7 +101,7 @@ module _ (s : List ℕ) (at n k : ℕ) (tb fb : List ℕ) (x : Standing s at n k
   reversed = length-reverse x.macros ∙ x.counted
 
   -- a macro in its slot
-  pub moved_macro : (z b : ℕ) (out : List ℕ) → b ≡ n * 1024 → InSlot s at n b tb out z → Moved s at out fb (On z (n + 1) k)
+  pub moved_macro : (z b : ℕ) (out : List ℕ) → b ≡ n * 1024 → InSlot s at n b tb out z → Moved s at n out fb (Ok (Some (record { at = z; macros = n + 1; faults = k })))
   moved_macro z b out e m = (
     m.further,
     record {
@@ -131,7 +120,7 @@ module _ (s : List ℕ) (at n k : ℕ) (tb fb : List ℕ) (x : Standing s at n k
   )
 
   -- the file's end
-  pub moved_end : (out : List ℕ) → out ≡ tb → ((ms : List Macro) → length ms ≡ n → next_from s at ms ≡ no_more) → Moved s at out fb (Ended n)
+  pub moved_end : (out : List ℕ) → out ≡ tb → ((ms : List Macro) → length ms ≡ n → next_from s at ms ≡ no_more) → Moved s at n out fb (Ok None)
   moved_end out e f = (
     x.macros,
     x.faults,
@@ -143,7 +132,13 @@ module _ (s : List ℕ) (at n k : ℕ) (tb fb : List ℕ) (x : Standing s at n k
     x.list,
   )
 
-  module _ (out : List ℕ) (e : out ≡ tb) (f : FileFault) (q : ℕ) (g : (ms : List Macro) → length ms ≡ n → next_from s at ms ≡ refused_at (fault_of f) q) where
+  module _ (out : List ℕ) (e : out ≡ tb) (w : ReadError) (g : (ms : List Macro) → length ms ≡ n → next_from s at ms ≡ refused_at (fault_of w.fault) w.place) where
+    abbrev f : FileFault
+    f = w.fault
+
+    abbrev q : ℕ
+    q = w.place
+
     there_refused : next_from s at (reverse x.macros) ≡ refused_at (fault_of f) q
     there_refused = g (reverse x.macros) reversed
 
@@ -169,15 +164,13 @@ module _ (s : List ℕ) (at n k : ℕ) (tb fb : List ℕ) (x : Standing s at n k
         ∙ with_one x.faults (fault_at (fault_of f) q) (resumed (recover_from (most_faults - (k + 1)) s) x.macros o))
 
     moved_listed : (fin : List ℕ) → is_fault (fault_of f) ≡ true → k < most_faults → faults_form with_this ≡ fin → (o : Option ℕ) → behind_first q (drop q s) ≡ o → Found q (drop q s) o
-        → Moved s at out fin (resumes_at (or_zero o) n (k + 1))
+        → Moved s at n out fin (Ok (resumes_at (as_option o) n (k + 1)))
     unfolding resumed
     moved_listed fin i h y o p (nowhere g) =
-        subst (Moved s at out fin) (sym (resumes_not n (k + 1)))
         (x.macros, with_this, by_listed none p i h ∙ (with_kept with_this x.macros [] ∙ ap (kept x.macros) (append-nil with_this)), sym x.counted, x.table ∙ sym e, y)
-    moved_listed fin i h y o p (there u v g w) =
+    moved_listed fin i h y o p (there u v g t) =
         let a : length (drop q s) ≡ length u + suc (length v) = ap length g ∙ length-append u (59 ∷ v) in
-        let b = length-drop q s in
-        subst (Moved s at out fin) (sym (resumes_on (suc (q + length u)) n (k + 1) (omega arith))) (
+        let b = length-drop q s in (
           omega (arith, refusal_place.0),
           record {
             macros = x.macros;
@@ -187,7 +180,7 @@ module _ (s : List ℕ) (at n k : ℕ) (tb fb : List ℕ) (x : Standing s at n k
             few = x.few;
             size = x.size;
             table = x.table ∙ sym e;
-            many = length-append x.faults (fault_at (fault_of f) q ∷ []) ∙ omega (arith, x.many);
+                  many = length-append x.faults (fault_at (fault_of f) q ∷ []) ∙ omega (arith, x.many);
             bound = omega arith;
             list = y;
             answer = by_listed (some (suc (q + length u))) p i h;
@@ -195,8 +188,7 @@ module _ (s : List ℕ) (at n k : ℕ) (tb fb : List ℕ) (x : Standing s at n k
         )
 
     -- a refusal that is noted
-    pub moved_refused : (fin : List ℕ) (r : Moment) → Notes s fb fin (file_number (fault_of f)) q n k r → Moved s at out fin r
-    unfolding is_fault
+    pub moved_refused : (fin : List ℕ) (r : Result (std.Option Progress) PastError) → Notes s fb fin w n k r → Moved s at n out fin r
     moved_refused fin r (unlisted i j) = (
       as_before (fault_of f) q,
       x.answer ∙ (ap (with_faults x.faults) (recover_refused s (most_faults - k) at x.macros (fault_of f) q i there_refused) ∙ with_refused x.faults (as_before (fault_of f) q)),
@@ -241,26 +233,3 @@ standing_start s tb fb e f = record {
   list = sym f;
   answer = refl;
 }
-
--- WHAT COMES NEXT, AND WHERE READING IS OVER
-
-abbrev pub NoRefusal : FoundNext → Type 0
-NoRefusal (MacroUpTo z) = Unit {0}
-NoRefusal End = Unit {0}
-NoRefusal (NotFound f q) = ⊥
-
-pub moved_on : (s : List ℕ) (at n k b : ℕ) (tb fb out : List ℕ) → Standing s at n k tb fb → b ≡ n * 1024 → (r : FoundNext) → NextSlot s at n b tb out r → NoRefusal r
-    → Moved s at out fb (no_fault r n k)
-moved_on s at n k b tb fb out x e (MacroUpTo z) m i = moved_macro s at n k tb fb x z b out e m
-moved_on s at n k b tb fb out x e End m i = moved_end s at n k tb fb x out m.0 m.1
-moved_on s at n k b tb fb out x e (NotFound f q) m i = absurd i
-
-abbrev pub IsOver : Moment → Type 0
-IsOver (On z n k) = ⊥
-IsOver (Ended n) = Unit {0}
-IsOver (Stops c q) = Unit {0}
-
-pub answered_by : (s : List ℕ) (at : ℕ) (tb fb : List ℕ) (m : Moment) → IsOver m → Moved s at tb fb m → Answered s tb fb (over_with m)
-answered_by s at tb fb (On z n k) i x = absurd i
-answered_by s at tb fb (Ended n) i x = x
-answered_by s at tb fb (Stops c q) i x = x

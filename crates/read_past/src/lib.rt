@@ -3,17 +3,5 @@
 
 pub mod mend;
 
-// The memory of the faults: their count, then number and place of each.
-pub(crate) const FAULTS_BYTES: usize = 2052;
-
-// A table's memory, and the bytes of a slot.
-pub(crate) const TABLE_BYTES: usize = 98304;
-
+// The bytes of a slot.
 pub(crate) const SLOT_BYTES: usize = 1024;
-
-// How many macros are kept; or a refusal's number and place.
-#[derive(Clone, Copy)]
-pub enum Past {
-    Kept(usize),
-    Refused(u32, usize),
-}

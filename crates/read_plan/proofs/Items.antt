@@ -1,14 +1,12 @@
 -- The elements of a pattern, by its items.
 -- Assumes nothing.
 use mathlib.Core.Path.{◌≡◌, refl, ap, sym, ◌∙◌}
-use mathlib.Core.Bool.{Bool, true, false, and-false}
-use mathlib.Core.List.{List, [], ◌∷◌, ◌++◌, append_assoc}
+use mathlib.Core.Bool.{Bool, true, false}
+use mathlib.Core.List.{List, [], ◌∷◌, ◌++◌}
 use Prim.Native.Nat.{ℕ, suc, ◌+◌, ◌-◌, ◌*◌, ◌%◌, ◌≤◌, ◌<◌}
 use native.Mathlib.Omega.{arith}
-use lib.ListN.{length, get_or, take, drop, length-drop, drop_of_length-le}
-use lib.Seq.{drop-cons, length-take-le}
-use borrow.Author.Tests.{le-leb, lt-leb}
-use Rattle.macros.specs.Macro.{Closure, Member, Mark, PatternUnit, Piece, Macro, pick, within, elements}
+use lib.ListN.{length, get_or, take, drop}
+use Rattle.macros.specs.Macro.{Closure, Member, PatternUnit, Piece, Macro, within, elements}
 use Rattle.macros.specs.Macro.Closure.{once, one_or_more, zero_or_more}
 use Rattle.macros.specs.Macro.Member.{single, range}
 use Rattle.macros.specs.Macro.Mark.{stack, counter}
@@ -93,64 +91,30 @@ module _ {t : List ℕ} (x : SomeMacro t) where
   slot_room = let p = macro_parts x in (omega (arith, p.fits), p.size, p.even)
 
   module _ {y z : ℕ} (p : y ≡ two_at t 2) (q : z ≡ two_at t 4) where
-    pub slot_even : length (take (10 + y + z - (10 + y)) (drop (10 + y) t)) % 2 ≡ 0
-    slot_even =
-        let r = slot_room in
-        let l : length (take (10 + y + z - (10 + y)) (drop (10 + y) t)) ≡ 10 + y + z - (10 + y) =
-        length-take-le (10 + y + z - (10 + y)) (drop (10 + y) t) (omega (arith, length-drop (10 + y) t, r.0, r.1)) in
-        omega (arith, r.2)
-
     pub slot_here : {r : ℕ} → r ≡ element_items (take (10 + y + z - (10 + y)) (drop (10 + y) t)) → r ≡ slot_elements t
     unfolding slot_elements items_at
     slot_here e = let w : 10 + y + z - (10 + y) ≡ z = omega arith in e ∙ rw (w, p, q) refl
 
 -- ITEM BY ITEM
 
-module _ (l : List ℕ) (i : ℕ) where
-  two_first : i + 1 < length l → drop i l ≡ get_or l i 0 ∷ get_or l (suc i) 0 ∷ drop (i + 2) l
-  two_first h =
-      let e : suc (suc i) ≡ i + 2 = omega arith in
-      drop-cons l i 0 (omega arith) ∙ ap (λ (x : List ℕ). get_or l i 0 ∷ x) (drop-cons l (suc i) 0 (omega arith) ∙ ap (λ (j : ℕ). get_or l (suc i) 0 ∷ drop j l) e)
+-- less than an item
+pub items_short : (l : List ℕ) → length l < 2 → element_items l ≡ 0
+unfolding element_items
+items_short [] h = refl
+items_short (c ∷ []) h = refl
+items_short (c ∷ o ∷ l) h = absurd (omega arith)
 
-  items_step : i + 1 < length l → element_items (drop i l) ≡ elim (begins_element (get_or l i 0)) [ true ↦ suc (element_items (drop (i + 2) l)) | false ↦ element_items (drop (i + 2) l) ]
-  items_step h = ap element_items (two_first h) ∙ items_cons (get_or l i 0) (get_or l (suc i) 0) (drop (i + 2) l) (begins_element (get_or l i 0)) refl
+module _ (l rest : List ℕ) where
+  -- an item that begins an element
+  pub item_counted : (x : List ℕ) → length x ≡ 2 → l ≡ x ++ rest → true ≡ begins_element (get_or x 0 0) → element_items l ≡ suc (element_items rest)
+  item_counted [] h e b = absurd (omega arith)
+  item_counted (c ∷ []) h e b = absurd (omega arith)
+  item_counted (c ∷ o ∷ []) h e b = ap element_items e ∙ items_cons c o rest true (sym b)
+  item_counted (c ∷ o ∷ d ∷ x) h e b = absurd (omega arith)
 
-  pub items_end : length l ≤ i → element_items (drop i l) ≡ 0
-  unfolding element_items
-  items_end h = rw (drop_of_length-le l {i = i} h) refl
-
--- the elements counted so far, and those behind
-module _ (l : List ℕ) (i n : ℕ) (e : element_items l ≡ n + element_items (drop i l)) where
-  pub count_on : i + 1 < length l → {k : ℕ} → k ≡ pick (begins_element (get_or l i 0)) 1 0 → element_items l ≡ n + k + element_items (drop (i + 2) l)
-  count_on h {k} f = by (begins_element (get_or l i 0)) (items_step l i h) f
-    where
-      by : (x : Bool) → element_items (drop i l) ≡ elim x [ true ↦ suc (element_items (drop (i + 2) l)) | false ↦ element_items (drop (i + 2) l) ]
-          → k ≡ pick x 1 0 → element_items l ≡ n + k + element_items (drop (i + 2) l)
-      by true s g = unfold pick in omega arith
-      by false s g = unfold pick in omega arith
-
-  pub count_end : length l ≤ i → n ≡ element_items l
-  count_end h = omega (arith, items_end l i h)
-
--- THE TEST
-
-bit_small : (x : Bool) → pick x 1 0 ≤ 1
-unfolding pick
-bit_small true = omega arith
-bit_small false = omega arith
-
-pub bit_one : (c : ℕ) {k : ℕ} → k ≡ pick (begins_element c) 1 0 → k ≤ 1
-bit_one c e = omega (arith, bit_small (begins_element c))
-
-module _ (c : ℕ) where
-  pub too_low : c < 3 → ◌≡◌ {A = ℕ} 0 (pick (begins_element c) 1 0)
-  unfolding begins_element within pick
-  too_low h = rw (lt-leb 3 c h) refl
-
-  pub too_high : 32 ≤ c → ◌≡◌ {A = ℕ} 0 (pick (begins_element c) 1 0)
-  unfolding begins_element within pick
-  too_high h = rw (lt-leb c 31 (omega arith), and-false) refl
-
-  pub begins : 3 ≤ c → c < 32 → ◌≡◌ {A = ℕ} 1 (pick (begins_element c) 1 0)
-  unfolding begins_element within pick
-  begins h l = rw (le-leb 3 c h, le-leb c 31 (omega arith)) refl
+  -- and one that does not
+  pub item_passed : (x : List ℕ) → length x ≡ 2 → l ≡ x ++ rest → false ≡ begins_element (get_or x 0 0) → element_items l ≡ element_items rest
+  item_passed [] h e b = absurd (omega arith)
+  item_passed (c ∷ []) h e b = absurd (omega arith)
+  item_passed (c ∷ o ∷ []) h e b = ap element_items e ∙ items_cons c o rest false (sym b)
+  item_passed (c ∷ o ∷ d ∷ x) h e b = absurd (omega arith)

@@ -4,29 +4,29 @@ use mathlib.Core.Path.{◌≡◌, refl, ap, sym, ◌∙◌, subst}
 use mathlib.Core.Bool.{Bool, true, false}
 use mathlib.Core.List.{List, [], ◌∷◌, ◌++◌, reverse, reverse-cons, reverse-reverse, append-nil}
 use mathlib.Core.Option.{none, some}
-use Prim.Native.Nat.{ℕ, zero, suc, ◌+◌, ◌≤◌, ◌<◌}
+use Prim.Native.Nat.{ℕ, zero, suc, ◌≤◌}
 use native.Mathlib.Omega.{arith}
 use lib.Dec.{eqb}
-use lib.ListN.{length, get_or, drop, replicate, length-append, length-replicate, length-drop}
+use lib.ListN.{length, get_or, drop, length-append, length-drop}
 use lib.Seq.{drop_at}
 use borrow.Author.Tests.{eqb-false}
 use Rattle.macros.specs.Bounds.{most_file_bytes}
 use Rattle.macros.specs.Refusals.{FileRefusal}
-use Rattle.macros.specs.Macro.{Macro, Table, pick}
+use Rattle.macros.specs.Macro.{Macro, pick}
 use Rattle.macros.specs.Formed.{Byte, Bytes, Octets}
 use Rattle.macros.specs.Read.{Part, Pending, Prior, Reader, Next, step, at_end, read_from_by, read_onto, first_zero, no_calls}
 use Rattle.macros.specs.ReadFile.Pending.{clear}
 use Rattle.macros.specs.ReadFile.Reader.{between, inside}
-use Rattle.macros.specs.ReadFile.Next.{go, refuse, refuse_before}
+use Rattle.macros.specs.ReadFile.Next.{go}
 use Rattle.macros.specs.ReadFile.Read.{table}
 use Rattle.macros.specs.FirstFault.{NoZero}
 use Rattle.macros.specs.Accepted.{Each, Spellable}
 use Rattle.macros.proofs.Pending.{after, after_go, read_after}
 use Rattle.macros.proofs.ReadOnto.{read_plain}
 use Rattle.macros.proofs.Paid.{SpelledIn, produced}
-use Rattle.read_start.specs.Next.{Coming, ends_at, onward, next_by, next_from}
+use Rattle.read_start.specs.Next.{ends_at, onward, next_by, next_from}
 use Rattle.read_start.specs.Next.Coming.{macro_to, refused_at, no_more}
-use Rattle.read_start.proofs.Coming.{Steps, between_steps, Inner, inside_steps, next_by_lem}
+use Rattle.read_start.proofs.Coming.{Steps, between_steps, Inner, inside_steps}
 use Rattle.read_start.proofs.Coming.Steps.{stays, enters, refuses, refuses_before}
 use Rattle.read_start.proofs.Coming.Inner.{keeps, leaves, stops}
 

@@ -1,29 +1,19 @@
 -- What measuring answers, in the terms of N8.
-use Rattle.std.specs.Prelude.{ℕ}
-use Rattle.plans.specs.Measure.{Measured}
+use Rattle.std.specs.Prelude.{ℕ, Result, Ok, Err}
+use Rattle.plans.specs.Measure.{Size, Measured}
 use Rattle.plans.specs.Measure.Size.{bytes, unwritten}
 use Rattle.plans.specs.Measure.Measured.{takes, unread}
 use Rattle.read_scan.specs.Scan.{fault_of}
-use Rattle.read_scan.specs.declared.FileFault.TheVariants.{Incomplete}
-use Rattle.read_start.specs.declared.FileTest.{FileTest}
-use Rattle.read_start.specs.declared.FileTest.TheVariants.{Plain, Refused as NotPlain}
+use Rattle.read_scan.specs.declared.ReadError.{ReadError}
 use Rattle.write_file.specs.Slots.{refusal_of}
-use Rattle.write_file.specs.declared.Answer.{Answer}
-use Rattle.write_file.specs.declared.Answer.TheVariants.{Written, Refused}
-use Rattle.read_plan.specs.declared.Numbers.{Numbers}
-use Rattle.read_plan.specs.declared.Numbers.TheVariants.{Takes, Unwritten, Unread}
+use Rattle.write_file.specs.declared.WriteError.{WriteError}
+use Rattle.read_plan.specs.declared.Measures.{Measures}
 
-abbrev pub meant : Numbers → Measured
-meant (Takes n e t b) = takes n e t (bytes b)
-meant (Unwritten n e t f p) = takes n e t (unwritten (refusal_of f) p)
-meant (Unread f p) = unread (fault_of f) p
+-- the bytes of the file written out, or the refusal of writing out
+abbrev pub size_meant : Result ℕ WriteError → Size
+size_meant (Ok b) = bytes b
+size_meant (Err e) = unwritten (refusal_of e.fault) e.place
 
--- a file that is read to its end
-abbrev pub ended : (n e t : ℕ) → Answer → Numbers
-ended n e t (Written b) = Takes n e t b
-ended n e t (Refused f p) = Unwritten n e t f p
-
--- a file that is refused as a whole; of another this is not asked
-abbrev pub unplain : FileTest → Numbers
-unplain Plain = Unread Incomplete 0
-unplain (NotPlain f p) = Unread f p
+abbrev pub meant : Result Measures ReadError → Measured
+meant (Ok m) = takes m.macros m.elements m.tags (size_meant m.written)
+meant (Err e) = unread (fault_of e.fault) e.place

@@ -1,19 +1,9 @@
-use mathlib.Core.Path.{sym, ◌∙◌}
-use native.Mathlib.Omega.{arith}
-use Rattle.line_control.proofs.Controls.{begins_long, bytes_behind, orders_macro, orders_flag}
+use Rattle.std.proofs.Common.{sym, ◌∙◌}
+use Rattle.line_control.proofs.Controls.{prefix_is, orders_macro, orders_flag}
 use Rattle.line_control.proofs.control.Goals as goal
 
-pub slice_bounds-add_macro-count : goal.slice_bounds-add_macro-count
-slice_bounds-add_macro-count c = omega (arith, begins_long _ _ (sym c.starts_with.ensures ∙ c.if-starts_with.true))
+pub returns-in-Some : goal.returns-in-Some
+returns-in-Some c = let e = c.in-Some.ensures.cases in orders_macro (sym (prefix_is _ c.args.line.now) ∙ e.0) (rw e.1 at c.add_macro.ensures)
 
-pub slice_bounds-add_macro-start : goal.slice_bounds-add_macro-start
-slice_bounds-add_macro-start c = omega (arith, begins_long _ _ (sym c.starts_with.ensures ∙ c.if-starts_with.true))
-
-pub add_macro-requires : goal.add_macro-requires
-add_macro-requires c = (c.requires.0, bytes_behind c.args.line.now c.requires.2)
-
-pub returns-then-starts_with : goal.returns-then-starts_with
-returns-then-starts_with c = orders_macro (sym c.starts_with.ensures ∙ c.if-starts_with.true) c.add_macro.ensures
-
-pub returns : goal.returns
-returns c = orders_flag (sym c.starts_with.ensures ∙ c.if-starts_with.false) _ c.set_flag.ensures
+pub returns-in-None : goal.returns-in-None
+returns-in-None c = orders_flag (sym (prefix_is _ c.args.line.now) ∙ c.in-None.ensures.cases) _ c.set_flag.ensures

@@ -1,25 +1,27 @@
-use native.Mathlib.Omega.{arith}
-use Rattle.read_plan.proofs.Items.{bit_one, count_on, count_end}
+use Rattle.std.proofs.Common.{arith, length, length-append, ap, ◌∙◌, ◌≡◌}
+use Rattle.std.specs.Slice.Iter.{chunks_exact_rest}
+use Rattle.read_plan.specs.Elements.{element_items}
+use Rattle.read_plan.proofs.Items.{items_short, item_counted, item_passed}
 use Rattle.read_plan.proofs.count_elements.Goals as goal
 
-pub bounds-items-i : goal.bounds-items-i
-bounds-items-i c = c.loop-i-test.true
+pub loop-item-preserved-then-begins_element : goal.loop-item-preserved-then-begins_element
+loop-item-preserved-then-begins_element c =
+    let inv = c.loop-item.invariant in
+    let st = c.in-Some.ensures.steps in
+    let l = simp length-append at (ap length st.1.0) in
+    let e = item_counted _ _ c.in-Some.item.now (st.1.1 ∙ inv.2) st.1.0 c.if-begins_element.ensures in
+    (omega (arith, st.0), tt, st.0 ∙ inv.2, omega (arith, l, st.1.1), omega (arith, e))
 
-pub overflow_add-n : goal.overflow_add-n
-overflow_add-n c = omega (arith, bit_one _ c.element_bit-n.ensures, c.loop-i.invariant.0, c.loop-i-test.true)
-
-pub overflow_add-i : goal.overflow_add-i
-overflow_add-i c = omega (arith, c.loop-i-test.true)
-
-pub loop-i-smaller : goal.loop-i-smaller
-loop-i-smaller c = omega (arith, c.loop-i-test.true)
-
-pub loop-i-preserved : goal.loop-i-preserved
-loop-i-preserved c =
-    let loop = c.loop-i in
-    let l = c.loop-i-test.true in
-    let p = c.requires in
-    (omega (arith, bit_one _ c.element_bit-n.ensures, loop.invariant.0), omega (arith, loop.invariant.1, loop.invariant.2), omega (arith, loop.invariant.2), count_on _ loop.i loop.n loop.invariant.3 (omega (arith, loop.invariant.1, loop.invariant.2)) c.element_bit-n.ensures)
+pub loop-item-preserved : goal.loop-item-preserved
+loop-item-preserved c =
+    let inv = c.loop-item.invariant in
+    let st = c.in-Some.ensures.steps in
+    let l = simp length-append at (ap length st.1.0) in
+    let e = item_passed _ _ c.in-Some.item.now (st.1.1 ∙ inv.2) st.1.0 c.if-begins_element.ensures in
+    (omega (arith, st.0), tt, st.0 ∙ inv.2, omega (arith, l), omega (arith, e))
 
 pub returns : goal.returns
-returns c = count_end _ c.loop-i.i c.loop-i.n c.loop-i.invariant.3 (omega (arith, c.loop-i-test.false))
+returns c =
+    let inv = c.loop-item.invariant in
+    let z : element_items (chunks_exact_rest c.loop-item.item-iterator) ≡ 0 = items_short _ (omega (arith, c.in-None.ensures.steps.1.0)) in
+    omega arith

@@ -1,54 +1,29 @@
-use native.Mathlib.Omega.{arith}
-use Rattle.read_file.proofs.Restoring.{lent_size, lent_count, refuses, onto_not_plain, plain_file, onto_table, not_all, by_then, onto_refused}
+use Rattle.std.proofs.Common.{arith, ◌∙◌}
+use Rattle.read_scan.proofs.Laws.{handed_on}
+use Rattle.form_items.proofs.Writing.{wrote_fill}
+use Rattle.read_file.proofs.Restoring.{lent_size, lent_count, onto_not_plain, plain_file, onto_added, onto_refused}
 use Rattle.read_file.proofs.file.read_onto.Goals as goal
 
-pub returns-in_default : goal.returns-in_default
-returns-in_default c = onto_not_plain _ _ _ c.whole_file-test.result c.whole_file-test.ensures (refuses c.in_default.is) c.not_plain.ensures
+pub returns-in_err-whole_file : goal.returns-in_err-whole_file
+returns-in_err-whole_file c = rw (handed_on c.from_residual.ensures) (onto_not_plain _ _ _ _ c.in_err-whole_file.ensures)
 
 pub add_macros-added-requires : goal.add_macros-added-requires
 add_macros-added-requires c = (lent_size c.requires, lent_count c.requires)
 
-pub overflow_mul-count : goal.overflow_mul-count
-overflow_mul-count c = omega (arith, lent_count c.requires)
+pub slice_bounds-fill-count : goal.slice_bounds-fill-count
+slice_bounds-fill-count c = omega (arith, c.add_macros-added.auto.table, lent_size c.requires, lent_count c.requires)
 
-pub overflow_sub-by : goal.overflow_sub-by
-overflow_sub-by c =
-    let args = c.args in
-    let add-macros = c.add_macros-added in
-    let p = plain_file args.file.now c.whole_file-test.result c.whole_file-test.ensures c.in-Plain.is in
-    let a = not_all args.file.now args.count args.table.now add-macros.new.table p.0 p.1 add-macros.ensures c.in_default-added.is in
-    let n = by_then args.file.now args.count args.table.now add-macros.new.table p.0 p.1 add-macros.ensures c.in_default-added.is c.macros_by-by.ensures in
-    omega (arith, a.counted)
+pub slice_bounds-fill-start : goal.slice_bounds-fill-start
+slice_bounds-fill-start c = omega (arith, c.add_macros-added.auto.table, lent_size c.requires, lent_count c.requires)
 
-pub overflow_mul-by : goal.overflow_mul-by
-overflow_mul-by c =
-    let args = c.args in
-    let add-macros = c.add_macros-added in
-    let p = plain_file args.file.now c.whole_file-test.result c.whole_file-test.ensures c.in-Plain.is in
-    let a = not_all args.file.now args.count args.table.now add-macros.new.table p.0 p.1 add-macros.ensures c.in_default-added.is in
-    let n = by_then args.file.now args.count args.table.now add-macros.new.table p.0 p.1 add-macros.ensures c.in_default-added.is c.macros_by-by.ensures in
-    omega (arith, a.few)
+pub returns-then-is_err : goal.returns-then-is_err
+returns-then-is_err c =
+    let p = plain_file _ c.in_ok-whole_file.ensures in
+    let i = c.add_macros-added.auto.table ∙ lent_size c.requires in
+    onto_refused c.args.file.now c.args.count c.args.table.now c.add_macros-added.new.table p.0 p.1 c.add_macros-added.result c.if-is_err.ensures.negation c.add_macros-added.ensures _ i
+    (wrote_fill _ _ _ _ _ 0 (omega arith) (omega (arith, lent_count c.requires)) (c.fill.ensures.after (λ y e. e)))
 
-pub clear-requires : goal.clear-requires
-clear-requires c =
-    let args = c.args in
-    let add-macros = c.add_macros-added in
-    let p = plain_file args.file.now c.whole_file-test.result c.whole_file-test.ensures c.in-Plain.is in
-    let a = not_all args.file.now args.count args.table.now add-macros.new.table p.0 p.1 add-macros.ensures c.in_default-added.is in
-    let n = by_then args.file.now args.count args.table.now add-macros.new.table p.0 p.1 add-macros.ensures c.in_default-added.is c.macros_by-by.ensures in
-    omega (arith, a.few, a.counted, add-macros.auto.table, lent_size c.requires)
-
-pub returns-in_default-added : goal.returns-in_default-added
-returns-in_default-added c =
-    let clear = c.clear in
-    let args = c.args in
-    let add-macros = c.add_macros-added in
-    let p = plain_file args.file.now c.whole_file-test.result c.whole_file-test.ensures c.in-Plain.is in
-    onto_refused args.file.now args.count args.table.now add-macros.new.table p.0 p.1 add-macros.ensures c.in_default-added.is c.macros_by-by.ensures c.table_of.ensures clear.new.out clear.ensures
-
-pub returns : goal.returns
-returns c =
-    let args = c.args in
-    let add-macros = c.add_macros-added in
-    let p = plain_file args.file.now c.whole_file-test.result c.whole_file-test.ensures c.in-Plain.is in
-    onto_table args.file.now args.count args.table.now add-macros.new.table p.0 p.1 add-macros.ensures c.in-All.is
+pub returns-else-is_err : goal.returns-else-is_err
+returns-else-is_err c =
+    let p = plain_file _ c.in_ok-whole_file.ensures in
+    onto_added c.args.file.now c.args.count c.args.table.now c.add_macros-added.new.table p.0 p.1 c.add_macros-added.result c.if-is_err.ensures.negation c.add_macros-added.ensures

@@ -1,11 +1,8 @@
+use Rattle.std.proofs.Common.{arith}
 use Rattle.read_file.proofs.Storing.{stored}
 use Rattle.read_file.proofs.slots.store.Goals as goal
 
 pub returns : goal.returns
 returns c =
-    let args = c.args in
-    let pre = c.requires in
-    let put-head = c.put_head in
-    let copy-in = c.copy_in in
-    let clear = c.clear in
-    stored args.head args.body.now pre.1 put-head.ensures copy-in.ensures clear.ensures
+    stored c.args.head c.args.body.now c.requires.1 c.requires.2 (omega (arith, c.put_head.auto.table)) c.put_head.ensures c.copy_from_slice.ensures.after (omega arith) (omega arith)
+    (c.fill.ensures.after (λ y e. e))

@@ -4,8 +4,10 @@ use lib.ListN.{length}
 use Rattle.read_past.specs.Past.{Standing}
 use Rattle.read_past.proofs.mend.from_start.Given as goal
 
-abbrev pub invariant-loop-z : goal.invariant-loop-z
-invariant-loop-z l = (length l.table ≡ length l.initial.table) × (length l.faults ≡ length l.initial.faults) × Standing l.file l.at l.n l.k l.table l.faults
+abbrev pub invariant-loop-next : goal.invariant-loop-next
+invariant-loop-next l =
+    (length l.table ≡ length l.initial.table) × (length l.faults ≡ length l.initial.faults)
+    × Standing l.file l.so_far.at l.so_far.macros l.so_far.faults l.table l.faults
 
-abbrev pub decreases-loop-z : goal.decreases-loop-z
-decreases-loop-z l = length l.file - l.at
+abbrev pub decreases-loop-next : goal.decreases-loop-next
+decreases-loop-next l = length l.file - l.so_far.at

@@ -1,9 +1,0 @@
-use native.Mathlib.Omega.{arith}
-use Rattle.form_state.proofs.Held.{is_long_lem, trace_set}
-use Rattle.line_control.proofs.flags.set_trace.Goals as goal
-
-pub bounds-state-0 : goal.bounds-state-0
-bounds-state-0 c = omega (arith, is_long_lem c.args.state.now c.requires.0)
-
-pub returns : goal.returns
-returns c = λ st h. trace_set c.args.state.now st c.args.n h c.requires.1
