@@ -288,11 +288,6 @@ module _ {s : List ℕ} {a p b : ℕ} (x : Here s a p b) where
       tag_named_lem (Err d) z = (z.0, λ w pl pr. behind w pl pr ∙ z.1 pl (comma w) (tag_signed w) (tag_named w) (names_comma (site_of pl) c w) pr)
 
 module _ (s : List ℕ) (a p : ℕ) (old out : List ℕ) (n v k : ℕ) {r : Named} (z : TagNaming s a p r) where
-  pub tag_noname : {f : FileFault} {u : ℕ} → r ≡ no_name f u → TagFrom s a p old out n v k (refused f u)
-  tag_noname {f} {u} j =
-      let l : TagNaming s a p (no_name f u) = rw j at z in
-      (λ w m si. (l.0, λ pl g t pr. l.1 w pl pr))
-
   module _ {i m d u : ℕ} (j : r ≡ name_read i m d u) where
     pub tag_letter : TagLetter s a p i m d u
     tag_letter = rw j at z
@@ -317,9 +312,6 @@ module _ (s : List ℕ) (a p : ℕ) (old out : List ℕ) (n v k : ℕ) {r : Name
     tag_refused {w} x e f j =
         let y : Unclosed d 41 (Some v) k true = rw e at x in
         ⊎_elim (λ h. tag_open f h j) (λ h. tag_unfit h.0 (λ o c. unfit k v o c h.1) f j) y
-
-    pub tag_few : {w : Bool} → Unclosed d 41 (Some v) k w → w ≡ false → v ≤ k
-    tag_few {w} x e = let y : Unclosed d 41 (Some v) k false = rw e at x in y.1.1
 
     pub tag_done : {w : Bool} {mid : List ℕ} → Unclosed d 41 (Some v) k w → w ≡ false → k ≤ 99 → Wrote old mid n ((64 + m) ∷ i ∷ []) → Wrote mid out (n + 2) (42 ∷ v ∷ [])
         → TagFrom s a p old out n v k (Ok (u + 1, n + 4))

@@ -241,9 +241,6 @@ module _ (s : List ℕ) (a p : ℕ) (old out : List ℕ) (n : ℕ) (si : Site) (
         let h : Asks mk si sg c m None = rw e at x in
         ends_wrong s a p old out n 0 si k (λ pl. calling pl (begun mk)) (named mk i t.move) (mark_named t k) t.here f t.solid (h i t.move t.code t.last) j
 
-    pub mark_top : {code top : ℕ} → r ≡ Some (Set code top) → top ≤ 999999999
-    mark_top {code} {top} e = let h : Asks mk si sg c m (Some (Set code top)) = rw e at x in h.0
-
     pub mark_set : {code top : ℕ} → r ≡ Some (Set code top) → (w : Ended) → SetFrom s a (u + 1) old out n code i top w → NamedFrom s a p old out n mk si w
     mark_set {code} {top} e w y k =
         let h : Asks mk si sg c m (Some (Set code top)) = rw e at x in
@@ -282,7 +279,3 @@ module _ (s : List ℕ) (a p : ℕ) (old out : List ℕ) (n : ℕ) (mk : Mark) (
         let f = letter_byte.found in
         ends_from s a p q old out n 0 0 si k (λ pl. calling pl (begun mk)) (λ pl. calling pl (begun mk)) w f.0 (omega arith)
         (λ pl u g pr. call_next pl (begun mk) pr letter_byte) (t k)
-
--- where no tag may be stored, any byte may be tried as a letter
-pub starts_any : (c : Bool) (si : Site) (b : ℕ) → (c ≡ false → may_store_tag si ≡ false) → Starts c si b
-starts_any c si b h e = rw (h e) (and-false (digit b))

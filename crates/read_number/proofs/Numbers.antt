@@ -6,7 +6,7 @@ use mathlib.Core.List.{List, [], ◌∷◌}
 use mathlib.Core.Option.{Option, none, some}
 use Prim.Native.Nat.{ℕ, ◌+◌, ◌-◌, ◌*◌, ◌≤◌, ◌<◌, min}
 use native.Mathlib.Omega.{arith}
-use lib.Dec.{ltb, leb}
+use lib.Dec.{ltb}
 use borrow.Author.Tests.{ne_eqb, lt-ltb, le-ltb, ltb-true, ltb-false, leb-true}
 use Rattle.macros.specs.Macro.{Mark, Action, pick, within, ascii_lower, digit}
 use Rattle.macros.specs.Macro.Mark.{stack}
@@ -60,17 +60,9 @@ and_left : (x y : Bool) → (x && y) ≡ true → x ≡ true
 and_left true y e = refl
 and_left false y e = e
 
-and_right : (x y : Bool) → (x && y) ≡ true → y ≡ true
-and_right true y e = e
-and_right false y e = absurd (true≢false (sym e))
-
 pub digit_low : {b : ℕ} → digit b ≡ true → 48 ≤ b
 unfolding digit within
 digit_low e = leb-true _ _ (and_left _ _ e)
-
-pub digit_high : {b : ℕ} → digit b ≡ true → b ≤ 57
-unfolding digit within
-digit_high {b} e = leb-true _ _ (and_right (leb 48 b) _ e)
 
 -- `{n}` and the calls take digits
 pub eats_tag : (f : Front) (xs : List Action) → Eats false (λ o. tag_number o f xs)

@@ -1,10 +1,7 @@
 use native.Mathlib.Omega.{arith}
 use mathlib.Core.Path.{refl}
-use Rattle.read_scan.proofs.Laws.{handed_on, no_spaces, calls_fault, in_call, calls_byte_lem, calls_space, reached_behind}
+use Rattle.read_scan.proofs.Laws.{handed_on, calls_fault, in_call, calls_byte_lem, calls_space, reached_behind}
 use Rattle.read_scan.proofs.scan.call_byte.Goals as goal
-
-pub loop-b-init : goal.loop-b-init
-loop-b-init c = (omega arith, (omega arith, omega arith, omega arith), no_spaces _ _ _)
 
 pub returns-in_err-b : goal.returns-in_err-b
 returns-in_err-b c =
