@@ -15,6 +15,7 @@ use Rattle.macros.specs.Macro.PatternUnit.{literal, kind, class, call_of}
 use Rattle.macros.specs.Macro.Move.{still, before, after}
 use Rattle.macros.specs.Macro.Call.{insert, store_tag, set_to, store_text, set_increment, divide}
 use Rattle.macros.specs.Read.{signs}
+use Rattle.std.specs.Prelude.{Option as Found, Some}
 use Rattle.form_table.specs.Walk.{given, bit, walk}
 use Rattle.form_table.specs.PatternWalk.{Joint, Inside, PatternState, closure_length, literal_length, joins_at, element_at, element_step, sign_step, piece_step, owed, at_start, member_length, member_step, range_step, pattern_step, pattern_start, unit_of, closure_of}
 use Rattle.form_table.specs.PatternWalk.Inside.{at_bracket, at_tilde, at_single, at_dash, at_range}
@@ -25,11 +26,7 @@ use Rattle.form_table.specs.ActionWalk.{ActionState, move_length, text_length, m
 use Rattle.form_table.specs.ActionWalk.ActionSpot.{behind_action, tag_due, length_due, text_due, low_due, high_due}
 use Rattle.form_table.specs.ActionWalk.ActionState.{action_at}
 use Rattle.check_table.specs.declared.pattern.PatternState.{PatternState as PatternCode}
-use Rattle.check_table.specs.declared.pattern.PatternNext.TheVariants.{At as PatternAt}
 use Rattle.check_table.specs.declared.actions.ActionState.{ActionState as ActionCode}
-use Rattle.check_table.specs.declared.actions.ActionNext.TheVariants.{At as ActionAt}
-use Rattle.check_table.specs.declared.pattern.PatternNext.{PatternNext}
-use Rattle.check_table.specs.declared.actions.ActionNext.{ActionNext}
 use Rattle.check_table.specs.PatternCode.{state_of as state_of_pattern, next_of as next_of_pattern}
 use Rattle.check_table.specs.ActionCode.{state_of as state_of_action, next_of as next_of_action}
 use Rattle.check_table.proofs.ActionLaws.{figures_small}
@@ -241,7 +238,7 @@ action_grows cmd k (action_at n (high_due l v)) c o = within_given size _ _ (ome
 
 -- THE CODE'S STATES
 
-module _ (s : PatternCode) (r : PatternNext) (is : r ≡ PatternAt s) where
+module _ (s : PatternCode) (r : Found PatternCode) (is : r ≡ Some s) where
   pub pattern_next : (x : Option PatternState) → next_of_pattern r ≡ x → x ≡ some (state_of_pattern s)
   unfolding next_of_pattern
   pattern_next x e = sym e ∙ ap next_of_pattern is
@@ -258,7 +255,7 @@ module _ (s : PatternCode) (r : PatternNext) (is : r ≡ PatternAt s) where
       let h : bulk (state_of_pattern s) ≤ bulk pattern_start + 11 * length l = rw (pattern_next (walk pattern_step pattern_start l) e) at (walk_grows bulk pattern_step pattern_grows l pattern_start) in
       omega arith
 
-module _ (s : ActionCode) (r : ActionNext) (is : r ≡ ActionAt s) where
+module _ (s : ActionCode) (r : Found ActionCode) (is : r ≡ Some s) where
   pub action_next : (x : Option ActionState) → next_of_action r ≡ x → x ≡ some (state_of_action s)
   unfolding next_of_action
   action_next x e = sym e ∙ ap next_of_action is

@@ -6,8 +6,7 @@ use Rattle.form_table.specs.ActionWalk.ActionState.{action_at}
 use Rattle.check_table.specs.declared.actions.ActionSpot.{ActionSpot}
 use Rattle.check_table.specs.declared.actions.ActionSpot.TheVariants.{BehindAction, TagDue, LengthDue, TextDue, LowDue, HighDue}
 use Rattle.check_table.specs.declared.actions.ActionState.{ActionState}
-use Rattle.check_table.specs.declared.actions.ActionNext.{ActionNext}
-use Rattle.check_table.specs.declared.actions.ActionNext.TheVariants.{At, Refused}
+use Rattle.std.specs.Prelude.{Option as Found, Some, None}
 
 unfoldable pub spot_of : ActionSpot → walks.ActionSpot
 spot_of (BehindAction a) = behind_action a
@@ -20,6 +19,6 @@ spot_of (HighDue l v) = high_due l v
 unfoldable pub state_of : ActionState → walks.ActionState
 state_of s = action_at s.spelled (spot_of s.spot)
 
-unfoldable pub next_of : ActionNext → Option walks.ActionState
-next_of (At s) = some (state_of s)
-next_of Refused = none
+unfoldable pub next_of : Found ActionState → Option walks.ActionState
+next_of (Some s) = some (state_of s)
+next_of None = none

@@ -13,8 +13,7 @@ use Rattle.check_table.specs.declared.pattern.Joint.TheVariants.{Loose, AfterSta
 use Rattle.check_table.specs.declared.pattern.PatternSpot.{PatternSpot}
 use Rattle.check_table.specs.declared.pattern.PatternSpot.TheVariants.{BehindPiece, InClass, InRange}
 use Rattle.check_table.specs.declared.pattern.PatternState.{PatternState}
-use Rattle.check_table.specs.declared.pattern.PatternNext.{PatternNext}
-use Rattle.check_table.specs.declared.pattern.PatternNext.TheVariants.{At, Refused}
+use Rattle.std.specs.Prelude.{Option as Found, Some, None}
 
 unfoldable pub joint_of : Joint → walks.Joint
 joint_of Loose = loose
@@ -33,9 +32,9 @@ spot_of (InRange j a) = in_range (joint_of j) a
 unfoldable pub state_of : PatternState → walks.PatternState
 state_of s = pattern_at s.spelled s.tags s.braces s.elements (spot_of s.spot)
 
-unfoldable pub next_of : PatternNext → Option walks.PatternState
-next_of (At s) = some (state_of s)
-next_of Refused = none
+unfoldable pub next_of : Found PatternState → Option walks.PatternState
+next_of (Some s) = some (state_of s)
+next_of None = none
 
 -- closure_joint by the closure's code
 unfoldable pub closed_joint : walks.Joint → ℕ → walks.Joint

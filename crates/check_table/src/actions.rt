@@ -25,47 +25,27 @@ pub struct ActionState {
     pub spot: ActionSpot,
 }
 
-#[derive(Clone, Copy)]
-pub enum ActionNext {
-    At(ActionState),
-    Refused,
-}
-
-fn at(spelled: u32, spot: ActionSpot) -> ActionNext
+fn at(spelled: u32, spot: ActionSpot) -> Option<ActionState>
     ensures { next_of result ≡ some (action_at spelled (spot_of spot)) }
 {
-    ActionNext::At(ActionState { spelled, spot })
+    Some(ActionState { spelled, spot })
 }
 
 // The digits of a number below 1,000,000,000.
 fn figures(n: u32) -> u32
     ensures { result ≡ figures_of n }
 {
-    if n < 10 {
-        return 1;
+    match n {
+        ..10 => 1,
+        10..100 => 2,
+        100..1000 => 3,
+        1000..10000 => 4,
+        10000..100000 => 5,
+        100000..1000000 => 6,
+        1000000..10000000 => 7,
+        10000000..100000000 => 8,
+        _ => 9,
     }
-    if n < 100 {
-        return 2;
-    }
-    if n < 1000 {
-        return 3;
-    }
-    if n < 10000 {
-        return 4;
-    }
-    if n < 100000 {
-        return 5;
-    }
-    if n < 1000000 {
-        return 6;
-    }
-    if n < 10000000 {
-        return 7;
-    }
-    if n < 100000000 {
-        return 8;
-    }
-    9
 }
 
 // A literal, behind a bare `&` or `#` or not.
@@ -81,12 +61,12 @@ fn text_length(b: u8) -> u32
     1 + form_marks::bit(form_marks::is_text_sign(b))
 }
 
-fn literal_step(n: u32, mark: bool, o: u8) -> ActionNext
+fn literal_step(n: u32, mark: bool, o: u8) -> Option<ActionState>
     requires { n ≤ 100000 }
     ensures { next_of result ≡ begin_step false 0 n mark 40 o }
 {
     if o < 1 {
-        return ActionNext::Refused;
+        return None;
     }
     at(
         n + literal_length(mark, o),
@@ -95,60 +75,60 @@ fn literal_step(n: u32, mark: bool, o: u8) -> ActionNext
 }
 
 // `{o}`, one of k tags.
-fn tag_step(k: u8, n: u32, o: u8) -> ActionNext
+fn tag_step(k: u8, n: u32, o: u8) -> Option<ActionState>
     requires { n ≤ 100010 }
     ensures { next_of result ≡ given (within 1 k o) (action_at (n + figures_of o) (behind_action false)) }
 {
     if form_marks::is_within(1, k, o) {
         return at(n + figures(o as u32), ActionSpot::BehindAction(false));
     }
-    ActionNext::Refused
+    None
 }
 
 // A call with a number of at most l, which nothing moves.
-fn number_step(n: u32, m: u8, l: u32) -> ActionNext
+fn number_step(n: u32, m: u8, l: u32) -> Option<ActionState>
     requires { n ≤ 100000 }
     ensures { next_of result ≡ given (eqb m 0) (action_at (n + 5) (low_due l)) }
 {
     if m < 1 {
         return at(n + 5, ActionSpot::LowDue(l));
     }
-    ActionNext::Refused
+    None
 }
 
 // The call that divides, in a replacement only.
-fn divide_step(cmd: bool, n: u32, m: u8) -> ActionNext
+fn divide_step(cmd: bool, n: u32, m: u8) -> Option<ActionState>
     requires { n ≤ 100000 }
     ensures { next_of result ≡ given (eqb m 0 && not cmd) (action_at (n + 5) (low_due 999999999)) }
 {
     if cmd {
-        return ActionNext::Refused;
+        return None;
     }
     number_step(n, m, 999999999)
 }
 
-fn insert_step(cmd: bool, n: u32) -> ActionNext
+fn insert_step(cmd: bool, n: u32) -> Option<ActionState>
     ensures { next_of result ≡ given (not cmd) (action_at n (behind_action false)) }
 {
     if cmd {
-        return ActionNext::Refused;
+        return None;
     }
     at(n, ActionSpot::BehindAction(false))
 }
 
 // The call of code c with the letter o and the move of code m.
-fn call_step(cmd: bool, n: u32, c: u8, m: u8, o: u8) -> ActionNext
+fn call_step(cmd: bool, n: u32, c: u8, m: u8, o: u8) -> Option<ActionState>
     requires { n ≤ 100000 }
     ensures { next_of result ≡ call_step cmd n c o (move_of m) }
 {
     if 4 < m {
-        return ActionNext::Refused;
+        return None;
     }
     if o < 97 {
-        return ActionNext::Refused;
+        return None;
     }
     if 122 < o {
-        return ActionNext::Refused;
+        return None;
     }
     let moves = form_marks::bit(0 < m);
     match c {
@@ -160,24 +140,24 @@ fn call_step(cmd: bool, n: u32, c: u8, m: u8, o: u8) -> ActionNext
         11 => number_step(n, m, 999999999),
         12 => number_step(n, m, 999999999),
         13 => divide_step(cmd, n, m),
-        _ => ActionNext::Refused,
+        _ => None,
     }
 }
 
-fn begin_step(cmd: bool, k: u8, n: u32, mark: bool, c: u8, o: u8) -> ActionNext
+fn begin_step(cmd: bool, k: u8, n: u32, mark: bool, c: u8, o: u8) -> Option<ActionState>
     requires { n ≤ 100000 }
     ensures { next_of result ≡ begin_step cmd k n mark c o }
 {
     match c {
         40 => {
             if cmd {
-                return ActionNext::Refused;
+                return None;
             }
             literal_step(n, mark, o)
         }
         41 => {
             if cmd {
-                return ActionNext::Refused;
+                return None;
             }
             tag_step(k, n + 2, o)
         }
@@ -194,53 +174,44 @@ fn text_spot(q: u8) -> ActionSpot
     ActionSpot::TextDue(q)
 }
 
-fn less_two(q: u8) -> u8
-    ensures { result ≡ q - 2 }
-{
-    if q < 2 {
-        return 0;
-    }
-    q - 2
-}
-
 // Two bytes of a text of which q are to come, or its last and a zero.
-fn text_step(n: u32, q: u8, c: u8, o: u8) -> ActionNext
+fn text_step(n: u32, q: u8, c: u8, o: u8) -> Option<ActionState>
     requires { n ≤ 100000 }
     ensures { next_of result ≡ text_step n q c o }
 {
     if c < 1 {
-        return ActionNext::Refused;
+        return None;
     }
     let first = n + text_length(c);
     if q == 1 {
         if 0 < o {
-            return ActionNext::Refused;
+            return None;
         }
         return at(first, ActionSpot::BehindAction(false));
     }
     if o < 1 {
-        return ActionNext::Refused;
+        return None;
     }
-    at(first + text_length(o), text_spot(less_two(q)))
+    at(first + text_length(o), text_spot(q.saturating_sub(2)))
 }
 
-fn length_step(n: u32, c: u8, o: u8) -> ActionNext
+fn length_step(n: u32, c: u8, o: u8) -> Option<ActionState>
     ensures { next_of result ≡ given (eqb c 43 && leb o 100) (action_at n (text_spot o)) }
 {
     if (c == 43) & (o <= 100) {
         return at(n, text_spot(o));
     }
-    ActionNext::Refused
+    None
 }
 
-fn low_step(n: u32, l: u32, c: u8, o: u8) -> ActionNext
+fn low_step(n: u32, l: u32, c: u8, o: u8) -> Option<ActionState>
     ensures { next_of result ≡ some (action_at n (high_due l (c + 256 * o))) }
 {
     at(n, ActionSpot::HighDue(l, c as u16 + 256 * o as u16))
 }
 
 // The high half of a number of at most l, v being the low.
-fn high_step(n: u32, l: u32, v: u16, c: u8, o: u8) -> ActionNext
+fn high_step(n: u32, l: u32, v: u16, c: u8, o: u8) -> Option<ActionState>
     requires { n ≤ 100000 }
     ensures { next_of result ≡ high_step n l (v + 65536 * c + 16777216 * o) }
 {
@@ -248,10 +219,10 @@ fn high_step(n: u32, l: u32, v: u16, c: u8, o: u8) -> ActionNext
     if (1 <= w) & (w <= l) {
         return at(n + figures(w), ActionSpot::BehindAction(false));
     }
-    ActionNext::Refused
+    None
 }
 
-fn item_step(cmd: bool, k: u8, s: ActionState, c: u8, o: u8) -> ActionNext
+fn item_step(cmd: bool, k: u8, s: ActionState, c: u8, o: u8) -> Option<ActionState>
     requires { s.spelled ≤ 100000 }
     ensures { next_of result ≡ action_step cmd k (state_of s) c o }
 {
@@ -263,7 +234,7 @@ fn item_step(cmd: bool, k: u8, s: ActionState, c: u8, o: u8) -> ActionNext
             if c == 42 {
                 return tag_step(k, n, o);
             }
-            ActionNext::Refused
+            None
         }
         ActionSpot::LengthDue => length_step(n, c, o),
         ActionSpot::TextDue(q) => text_step(n, q, c, o),
@@ -272,7 +243,7 @@ fn item_step(cmd: bool, k: u8, s: ActionState, c: u8, o: u8) -> ActionNext
     }
 }
 
-pub(crate) fn walk_actions(cmd: bool, k: u8, n: u32, items: &[u8]) -> ActionNext
+pub(crate) fn walk_actions(cmd: bool, k: u8, n: u32, items: &[u8]) -> Option<ActionState>
     requires { (n ≤ 50000) × (length items.now ≤ 1024) }
     ensures { next_of result ≡ walk (action_step cmd k) (action_start n) items.now }
 {
@@ -280,19 +251,13 @@ pub(crate) fn walk_actions(cmd: bool, k: u8, n: u32, items: &[u8]) -> ActionNext
         spelled: n,
         spot: ActionSpot::BehindAction(false),
     };
-    let mut i = 0;
-    while i + 1 < items.len() {
-        let next = item_step(cmd, k, s, items[i], items[i + 1]);
-        let ActionNext::At(t) = next else {
-            return ActionNext::Refused;
-        };
-        s = t;
-        i += 2;
+    for i in 0..items.len() / 2 {
+        s = item_step(cmd, k, s, items[2 * i], items[2 * i + 1])?;
     }
-    if i < items.len() {
-        return ActionNext::Refused;
+    if items.len() % 2 == 1 {
+        return None;
     }
-    ActionNext::At(s)
+    Some(s)
 }
 
 pub(crate) fn actions_end(s: ActionState) -> bool

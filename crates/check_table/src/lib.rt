@@ -16,29 +16,25 @@ fn items_fit(k: u8, bs: &[u8], ps: &[u8], rs: &[u8], cs: &[u8]) -> bool
     requires { (length bs.now ≤ 1024) × (length ps.now ≤ 1024) × (length rs.now ≤ 1024) × (length cs.now ≤ 1024) }
     ensures { result ≡ items_fit k bs.now ps.now rs.now cs.now }
 {
-    let walked = pattern::walk_pattern(ps);
-    let pattern::PatternNext::At(p) = walked else {
+    let Some(p) = pattern::walk_pattern(ps) else {
         return false;
     };
     if !pattern::pattern_ends(p, k) {
         return false;
     }
-    let replaced = actions::walk_actions(false, k, p.spelled, rs);
-    let actions::ActionNext::At(r) = replaced else {
+    let Some(r) = actions::walk_actions(false, k, p.spelled, rs) else {
         return false;
     };
     if !actions::actions_end(r) {
         return false;
     }
-    let commanded = actions::walk_actions(true, k, r.spelled, cs);
-    let actions::ActionNext::At(c) = commanded else {
+    let Some(c) = actions::walk_actions(true, k, r.spelled, cs) else {
         return false;
     };
     if !actions::actions_end(c) {
         return false;
     }
-    let called = actions::walk_actions(true, 0, c.spelled, bs);
-    let actions::ActionNext::At(b) = called else {
+    let Some(b) = actions::walk_actions(true, 0, c.spelled, bs) else {
         return false;
     };
     actions::actions_end(b) & (b.spelled <= 512)
@@ -77,8 +73,7 @@ pub fn is_table(table: &[u8]) -> bool
     if table.len() != 98304 {
         return false;
     }
-    let mut k = 0;
-    while k < 96 {
+    for k in 0..96 {
         let at = 1024 * k;
         if table[at] == 0 {
             return all_zero_by_four(&table[at..]);
@@ -86,7 +81,6 @@ pub fn is_table(table: &[u8]) -> bool
         if !slot_fits(&table[at..at + 1024]) {
             return false;
         }
-        k += 1;
     }
     true
 }

@@ -43,12 +43,6 @@ pub struct PatternState {
     pub spot: PatternSpot,
 }
 
-#[derive(Clone, Copy)]
-pub enum PatternNext {
-    At(PatternState),
-    Refused,
-}
-
 fn joins_at(j: Joint, b: u8) -> bool
     ensures { result ≡ joins_at (joint_of j) b }
 {
@@ -88,10 +82,10 @@ fn closed(j: Joint, k: u8) -> Joint
     }
 }
 
-fn moved(s: PatternState, n: u32, spot: PatternSpot) -> PatternNext
+fn moved(s: PatternState, n: u32, spot: PatternSpot) -> Option<PatternState>
     ensures { next_of result ≡ some (pattern_at n s.tags s.braces s.elements (spot_of spot)) }
 {
-    PatternNext::At(PatternState {
+    Some(PatternState {
         spelled: n,
         tags: s.tags,
         braces: s.braces,
@@ -101,14 +95,14 @@ fn moved(s: PatternState, n: u32, spot: PatternSpot) -> PatternNext
 }
 
 // A unit of n bytes so far, with a closure of code k.
-fn behind(s: PatternState, n: u32, j: Joint, k: u8) -> PatternNext
+fn behind(s: PatternState, n: u32, j: Joint, k: u8) -> Option<PatternState>
     requires { (n ≤ 100010) × (s.elements ≤ 100000) }
     ensures { next_of result ≡ ended behind_piece n s.tags s.braces s.elements (joint_of j) (closure_of k) }
 {
     if 2 < k {
-        return PatternNext::Refused;
+        return None;
     }
-    PatternNext::At(PatternState {
+    Some(PatternState {
         spelled: n + k as u32,
         tags: s.tags,
         braces: s.braces,
@@ -117,39 +111,39 @@ fn behind(s: PatternState, n: u32, j: Joint, k: u8) -> PatternNext
     })
 }
 
-fn literal_step(s: PatternState, j: Joint, k: u8, o: u8) -> PatternNext
+fn literal_step(s: PatternState, j: Joint, k: u8, o: u8) -> Option<PatternState>
     requires { Room s }
     ensures { next_of result ≡ element_step s.spelled s.tags s.braces s.elements (joint_of j) (unit_of 2 o) (closure_of k) }
 {
     if o < 1 {
-        return PatternNext::Refused;
+        return None;
     }
     behind(s, s.spelled + literal_length(j, o), literal_joint(o), k)
 }
 
 // `?` with 1 to 6, of two bytes, or a call, of four.
-fn unit_step(s: PatternState, ok: bool, length: u32, k: u8) -> PatternNext
+fn unit_step(s: PatternState, ok: bool, length: u32, k: u8) -> Option<PatternState>
     requires { Room s × (length ≤ 4) }
     ensures { next_of result ≡ pick ok (ended behind_piece (s.spelled + length) s.tags s.braces s.elements loose (closure_of k)) none }
 {
     if ok {
         return behind(s, s.spelled + length, Joint::Loose, k);
     }
-    PatternNext::Refused
+    None
 }
 
 // `[`, where w is 0, or `[~`, where it is 1.
-fn class_step(s: PatternState, w: u8, k: u8, o: u8) -> PatternNext
+fn class_step(s: PatternState, w: u8, k: u8, o: u8) -> Option<PatternState>
     requires { Room s × (w ≤ 1) }
     ensures { next_of result ≡ element_step s.spelled s.tags s.braces s.elements loose (given (eqb o 0) (class (eqb w 1) [])) (closure_of k) }
 {
     if 0 < o {
-        return PatternNext::Refused;
+        return None;
     }
     if 2 < k {
-        return PatternNext::Refused;
+        return None;
     }
-    PatternNext::At(PatternState {
+    Some(PatternState {
         spelled: s.spelled + 2 + w as u32 + k as u32,
         tags: s.tags,
         braces: s.braces,
@@ -159,7 +153,7 @@ fn class_step(s: PatternState, w: u8, k: u8, o: u8) -> PatternNext
 }
 
 // The unit of code u with the operand o.
-fn element_step(s: PatternState, j: Joint, u: u8, k: u8, o: u8) -> PatternNext
+fn element_step(s: PatternState, j: Joint, u: u8, k: u8, o: u8) -> Option<PatternState>
     requires { Room s }
     ensures { next_of result ≡ element_step s.spelled s.tags s.braces s.elements (joint_of j) (unit_of u o) (closure_of k) }
 {
@@ -170,16 +164,16 @@ fn element_step(s: PatternState, j: Joint, u: u8, k: u8, o: u8) -> PatternNext
         5 => unit_step(s, form_marks::is_within(97, 122, o), 4, k),
         6 => class_step(s, 0, k, o),
         7 => class_step(s, 1, k, o),
-        _ => PatternNext::Refused,
+        _ => None,
     }
 }
 
 // Behind a piece of one byte.
-fn behind_sign(n: u32, t: u8, d: u32, e: u32) -> PatternNext
+fn behind_sign(n: u32, t: u8, d: u32, e: u32) -> Option<PatternState>
     requires { n ≤ 100000 }
     ensures { next_of result ≡ some (pattern_at (suc n) t d e (behind_piece loose)) }
 {
-    PatternNext::At(PatternState {
+    Some(PatternState {
         spelled: n + 1,
         tags: t,
         braces: d,
@@ -189,7 +183,7 @@ fn behind_sign(n: u32, t: u8, d: u32, e: u32) -> PatternNext
 }
 
 // A brace, `^` or `$`.
-fn sign_step(s: PatternState, c: u8) -> PatternNext
+fn sign_step(s: PatternState, c: u8) -> Option<PatternState>
     requires { Room s }
     ensures { next_of result ≡ sign_step s.spelled s.tags s.braces s.elements c }
 {
@@ -202,17 +196,17 @@ fn sign_step(s: PatternState, c: u8) -> PatternNext
             if t < 99 {
                 return behind_sign(n, t + 1, d + 1, e);
             }
-            PatternNext::Refused
+            None
         }
         2 => {
             if 0 < d {
                 return behind_sign(n, t, d - 1, e);
             }
-            PatternNext::Refused
+            None
         }
         3 => behind_sign(n, t, d, e + 1),
         4 => behind_sign(n, t, d, e + 1),
-        _ => PatternNext::Refused,
+        _ => None,
     }
 }
 
@@ -220,7 +214,7 @@ fn sign_step(s: PatternState, c: u8) -> PatternNext
 const LITERAL: u8 = 8;
 
 // A lower case letter needs no `\` and joins nothing: most items take this short way.
-fn piece_step(s: PatternState, j: Joint, c: u8, o: u8) -> PatternNext
+fn piece_step(s: PatternState, j: Joint, c: u8, o: u8) -> Option<PatternState>
     requires { Room s }
     ensures { next_of result ≡ piece_step s.spelled s.tags s.braces s.elements (joint_of j) c o }
 {
@@ -231,7 +225,7 @@ fn piece_step(s: PatternState, j: Joint, c: u8, o: u8) -> PatternNext
         return element_step(s, j, c / 4, c % 4, o);
     }
     if 0 < o {
-        return PatternNext::Refused;
+        return None;
     }
     sign_step(s, c)
 }
@@ -252,7 +246,7 @@ fn member_spot(w: u8, b: u8) -> u8
 }
 
 // A single member, a range's first end, or the `]`.
-fn member_step(s: PatternState, j: Joint, w: u8, c: u8, o: u8) -> PatternNext
+fn member_step(s: PatternState, j: Joint, w: u8, c: u8, o: u8) -> Option<PatternState>
     requires { Room s }
     ensures { next_of result ≡ member_step s.spelled s.tags s.braces s.elements (joint_of j) (inside_of w) c o }
 {
@@ -260,7 +254,7 @@ fn member_step(s: PatternState, j: Joint, w: u8, c: u8, o: u8) -> PatternNext
     match c {
         32 => {
             if o < 1 {
-                return PatternNext::Refused;
+                return None;
             }
             moved(
                 s,
@@ -273,23 +267,23 @@ fn member_step(s: PatternState, j: Joint, w: u8, c: u8, o: u8) -> PatternNext
             if (o == 0) & (SINGLE <= w) {
                 return moved(s, s.spelled, PatternSpot::BehindPiece(j));
             }
-            PatternNext::Refused
+            None
         }
-        _ => PatternNext::Refused,
+        _ => None,
     }
 }
 
 // A range's second end.
-fn range_step(s: PatternState, j: Joint, a: u8, c: u8, o: u8) -> PatternNext
+fn range_step(s: PatternState, j: Joint, a: u8, c: u8, o: u8) -> Option<PatternState>
     ensures { next_of result ≡ range_step s.spelled s.tags s.braces s.elements (joint_of j) a c o }
 {
     if (c == 34) & form_marks::is_range(a, o) {
         return moved(s, s.spelled, PatternSpot::InClass(j, RANGE));
     }
-    PatternNext::Refused
+    None
 }
 
-fn item_step(s: PatternState, c: u8, o: u8) -> PatternNext
+fn item_step(s: PatternState, c: u8, o: u8) -> Option<PatternState>
     requires { Room s }
     ensures { next_of result ≡ pattern_step (state_of s) c o }
 {
@@ -301,7 +295,7 @@ fn item_step(s: PatternState, c: u8, o: u8) -> PatternNext
     }
 }
 
-pub(crate) fn walk_pattern(items: &[u8]) -> PatternNext
+pub(crate) fn walk_pattern(items: &[u8]) -> Option<PatternState>
     requires { length items.now ≤ 1024 }
     ensures { next_of result ≡ walk pattern_step pattern_start items.now }
 {
@@ -312,19 +306,13 @@ pub(crate) fn walk_pattern(items: &[u8]) -> PatternNext
         elements: 0,
         spot: PatternSpot::BehindPiece(Joint::Loose),
     };
-    let mut i = 0;
-    while i + 1 < items.len() {
-        let next = item_step(s, items[i], items[i + 1]);
-        let PatternNext::At(t) = next else {
-            return PatternNext::Refused;
-        };
-        s = t;
-        i += 2;
+    for i in 0..items.len() / 2 {
+        s = item_step(s, items[2 * i], items[2 * i + 1])?;
     }
-    if i < items.len() {
-        return PatternNext::Refused;
+    if items.len() % 2 == 1 {
+        return None;
     }
-    PatternNext::At(s)
+    Some(s)
 }
 
 // Whether the pattern is whole and has k tags.

@@ -6,6 +6,3 @@ use Rattle.check_table.proofs.is_table.Given as goal
 
 abbrev pub invariant-loop-k : goal.invariant-loop-k
 invariant-loop-k l = (l.k ≤ 96) × (slots_fit 96 l.table ≡ slots_fit (96 - l.k) (drop (1024 * l.k) l.table))
-
-abbrev pub decreases-loop-k : goal.decreases-loop-k
-decreases-loop-k l = 96 - l.k

@@ -1,4 +1,4 @@
-use mathlib.Core.Path.{sym, ap, ◌∙◌}
+use mathlib.Core.Path.{refl, sym, ◌∙◌}
 use Rattle.form_table.specs.Check.{items_fit, after_pattern, after_replacement, after_commands, after_calls}
 use Rattle.form_table.specs.PatternWalk.{pattern_spelled}
 use Rattle.form_table.specs.ActionWalk.{action_spelled}
@@ -10,41 +10,41 @@ use Rattle.check_table.proofs.items_fit.Goals as goal
 
 pub returns-in_default : goal.returns-in_default
 unfolding items_fit after_pattern after_replacement after_commands after_calls pattern_spelled action_spelled state_of_pattern next_of_pattern state_of_action next_of_action
-returns-in_default c = rw (sym c.walk_pattern-walked.ensures ∙ ap next_of_pattern c.in_default.is)
+returns-in_default c = rw (sym c.in_default.ensures)
 
 pub returns-then-not-pattern_ends : goal.returns-then-not-pattern_ends
 unfolding items_fit after_pattern after_replacement after_commands after_calls pattern_spelled action_spelled state_of_pattern next_of_pattern state_of_action next_of_action
-returns-then-not-pattern_ends c = rw (sym c.walk_pattern-walked.ensures ∙ ap next_of_pattern c.in-At.is, sym c.pattern_ends.ensures ∙ c.if-not-pattern_ends.true)
+returns-then-not-pattern_ends c = rw (sym c.in-Some.ensures, sym c.pattern_ends.ensures ∙ c.if-not-pattern_ends.true)
 
-pub walk_actions-replaced-requires : goal.walk_actions-replaced-requires
-walk_actions-replaced-requires c = (omega (arith, pattern_fits c.in-At.p _ c.in-At.is _ c.walk_pattern-walked.ensures), omega arith)
+pub walk_actions-requires : goal.walk_actions-requires
+walk_actions-requires c = (omega (arith, pattern_fits c.in-Some.p _ refl _ c.in-Some.ensures), omega (arith, c.requires))
 
-pub returns-in_default-replaced : goal.returns-in_default-replaced
+pub returns-in_default-walk_actions : goal.returns-in_default-walk_actions
 unfolding items_fit after_pattern after_replacement after_commands after_calls pattern_spelled action_spelled state_of_pattern next_of_pattern state_of_action next_of_action
-returns-in_default-replaced c = rw (sym c.walk_pattern-walked.ensures ∙ ap next_of_pattern c.in-At.is, sym c.pattern_ends.ensures ∙ c.if-not-pattern_ends.false, sym c.walk_actions-replaced.ensures ∙ ap next_of_action c.in_default-replaced.is)
+returns-in_default-walk_actions c = rw (sym c.in-Some.ensures, sym c.pattern_ends.ensures ∙ c.if-not-pattern_ends.false, sym c.in_default-walk_actions.ensures)
 
 pub returns-then-not-actions_end : goal.returns-then-not-actions_end
 unfolding items_fit after_pattern after_replacement after_commands after_calls pattern_spelled action_spelled state_of_pattern next_of_pattern state_of_action next_of_action
-returns-then-not-actions_end c = rw (sym c.walk_pattern-walked.ensures ∙ ap next_of_pattern c.in-At.is, sym c.pattern_ends.ensures ∙ c.if-not-pattern_ends.false, sym c.walk_actions-replaced.ensures ∙ ap next_of_action c.in-At-replaced.is, sym c.actions_end.ensures ∙ c.if-not-actions_end.true)
+returns-then-not-actions_end c = rw (sym c.in-Some.ensures, sym c.pattern_ends.ensures ∙ c.if-not-pattern_ends.false, sym c.in-Some-walk_actions.ensures, sym c.actions_end.ensures ∙ c.if-not-actions_end.true)
 
-pub walk_actions-commanded-requires : goal.walk_actions-commanded-requires
-walk_actions-commanded-requires c = (omega (arith, pattern_fits c.in-At.p _ c.in-At.is _ c.walk_pattern-walked.ensures, actions_fit c.in-At-replaced.r _ c.in-At-replaced.is _ _ _ _ c.walk_actions-replaced.ensures), omega arith)
+pub walk_actions-requires-2 : goal.walk_actions-requires-2
+walk_actions-requires-2 c = (omega (arith, pattern_fits c.in-Some.p _ refl _ c.in-Some.ensures, actions_fit c.in-Some-walk_actions.r _ refl _ _ _ _ c.in-Some-walk_actions.ensures), omega (arith, c.requires))
 
-pub returns-in_default-commanded : goal.returns-in_default-commanded
+pub returns-in_default-walk_actions-2 : goal.returns-in_default-walk_actions-2
 unfolding items_fit after_pattern after_replacement after_commands after_calls pattern_spelled action_spelled state_of_pattern next_of_pattern state_of_action next_of_action
-returns-in_default-commanded c = rw (sym c.walk_pattern-walked.ensures ∙ ap next_of_pattern c.in-At.is, sym c.pattern_ends.ensures ∙ c.if-not-pattern_ends.false, sym c.walk_actions-replaced.ensures ∙ ap next_of_action c.in-At-replaced.is, sym c.actions_end.ensures ∙ c.if-not-actions_end.false, sym c.walk_actions-commanded.ensures ∙ ap next_of_action c.in_default-commanded.is)
+returns-in_default-walk_actions-2 c = rw (sym c.in-Some.ensures, sym c.pattern_ends.ensures ∙ c.if-not-pattern_ends.false, sym c.in-Some-walk_actions.ensures, sym c.actions_end.ensures ∙ c.if-not-actions_end.false, sym c.in_default-walk_actions-2.ensures)
 
 pub returns-then-not-actions_end-2 : goal.returns-then-not-actions_end-2
 unfolding items_fit after_pattern after_replacement after_commands after_calls pattern_spelled action_spelled state_of_pattern next_of_pattern state_of_action next_of_action
-returns-then-not-actions_end-2 c = rw (sym c.walk_pattern-walked.ensures ∙ ap next_of_pattern c.in-At.is, sym c.pattern_ends.ensures ∙ c.if-not-pattern_ends.false, sym c.walk_actions-replaced.ensures ∙ ap next_of_action c.in-At-replaced.is, sym c.actions_end.ensures ∙ c.if-not-actions_end.false, sym c.walk_actions-commanded.ensures ∙ ap next_of_action c.in-At-commanded.is, sym c.actions_end-2.ensures ∙ c.if-not-actions_end-2.true)
+returns-then-not-actions_end-2 c = rw (sym c.in-Some.ensures, sym c.pattern_ends.ensures ∙ c.if-not-pattern_ends.false, sym c.in-Some-walk_actions.ensures, sym c.actions_end.ensures ∙ c.if-not-actions_end.false, sym c.in-Some-walk_actions-2.ensures, sym c.actions_end-2.ensures ∙ c.if-not-actions_end-2.true)
 
-pub walk_actions-called-requires : goal.walk_actions-called-requires
-walk_actions-called-requires c = (omega (arith, c.requires, pattern_fits c.in-At.p _ c.in-At.is _ c.walk_pattern-walked.ensures, actions_fit c.in-At-replaced.r _ c.in-At-replaced.is _ _ _ _ c.walk_actions-replaced.ensures, actions_fit c.in-At-commanded.c _ c.in-At-commanded.is _ _ _ _ c.walk_actions-commanded.ensures), omega (arith, c.requires))
+pub walk_actions-requires-3 : goal.walk_actions-requires-3
+walk_actions-requires-3 c = (omega (arith, c.requires, pattern_fits c.in-Some.p _ refl _ c.in-Some.ensures, actions_fit c.in-Some-walk_actions.r _ refl _ _ _ _ c.in-Some-walk_actions.ensures, actions_fit c.in-Some-walk_actions-2.c _ refl _ _ _ _ c.in-Some-walk_actions-2.ensures), omega (arith, c.requires))
 
-pub returns-in_default-called : goal.returns-in_default-called
+pub returns-in_default-walk_actions-3 : goal.returns-in_default-walk_actions-3
 unfolding items_fit after_pattern after_replacement after_commands after_calls pattern_spelled action_spelled state_of_pattern next_of_pattern state_of_action next_of_action
-returns-in_default-called c = rw (sym c.walk_pattern-walked.ensures ∙ ap next_of_pattern c.in-At.is, sym c.pattern_ends.ensures ∙ c.if-not-pattern_ends.false, sym c.walk_actions-replaced.ensures ∙ ap next_of_action c.in-At-replaced.is, sym c.actions_end.ensures ∙ c.if-not-actions_end.false, sym c.walk_actions-commanded.ensures ∙ ap next_of_action c.in-At-commanded.is, sym c.actions_end-2.ensures ∙ c.if-not-actions_end-2.false, sym c.walk_actions-called.ensures ∙ ap next_of_action c.in_default-called.is)
+returns-in_default-walk_actions-3 c = rw (sym c.in-Some.ensures, sym c.pattern_ends.ensures ∙ c.if-not-pattern_ends.false, sym c.in-Some-walk_actions.ensures, sym c.actions_end.ensures ∙ c.if-not-actions_end.false, sym c.in-Some-walk_actions-2.ensures, sym c.actions_end-2.ensures ∙ c.if-not-actions_end-2.false, sym c.in_default-walk_actions-3.ensures)
 
 pub returns : goal.returns
 unfolding items_fit after_pattern after_replacement after_commands after_calls pattern_spelled action_spelled state_of_pattern next_of_pattern state_of_action next_of_action
-returns c = rw (sym c.walk_pattern-walked.ensures ∙ ap next_of_pattern c.in-At.is, sym c.pattern_ends.ensures ∙ c.if-not-pattern_ends.false, sym c.walk_actions-replaced.ensures ∙ ap next_of_action c.in-At-replaced.is, sym c.actions_end.ensures ∙ c.if-not-actions_end.false, sym c.walk_actions-commanded.ensures ∙ ap next_of_action c.in-At-commanded.is, sym c.actions_end-2.ensures ∙ c.if-not-actions_end-2.false, sym c.walk_actions-called.ensures ∙ ap next_of_action c.in-At-called.is, c.actions_end-3.ensures)
+returns c = rw (sym c.in-Some.ensures, sym c.pattern_ends.ensures ∙ c.if-not-pattern_ends.false, sym c.in-Some-walk_actions.ensures, sym c.actions_end.ensures ∙ c.if-not-actions_end.false, sym c.in-Some-walk_actions-2.ensures, sym c.actions_end-2.ensures ∙ c.if-not-actions_end-2.false, sym c.in-Some-walk_actions-3.ensures, c.actions_end-3.ensures)

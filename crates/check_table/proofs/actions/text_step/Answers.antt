@@ -28,4 +28,4 @@ pub overflow_add-first-2 : goal.overflow_add-first-2
 overflow_add-first-2 c = omega (arith, text_small _ _ c.text_length.ensures, text_small _ _ c.text_length-2.ensures)
 
 pub returns : goal.returns
-returns c = c.at-2.ensures ∙ rw (c.text_length.ensures, c.text_length-2.ensures, c.text_spot.ensures, c.less_two.ensures) (sym (text_two _ _ _ _ c.if-q-eq1.false c.if-o-lt1.false (omega arith) c.if-c-lt1.false (omega arith)))
+returns c = c.at-2.ensures ∙ rw (c.text_length.ensures, c.text_length-2.ensures, c.text_spot.ensures, c.saturating_sub.ensures) (sym (text_two _ _ _ _ c.if-q-eq1.false c.if-o-lt1.false (omega arith) c.if-c-lt1.false (omega arith)))

@@ -1,25 +1,28 @@
-use mathlib.Core.Path.{refl, sym, ap, ◌∙◌}
+use Prim.Native.Nat.{◌+◌, ◌*◌}
+use mathlib.Core.Path.{◌≡◌, refl, sym, ap, ◌∙◌}
+use native.Mathlib.Omega.{arith}
 use Rattle.form_table.specs.ActionWalk.{action_step, action_start}
 use Rattle.check_table.specs.ActionCode.{spot_of, state_of, next_of}
 use Rattle.check_table.proofs.WalkLaws.{walk_on, walk_refused, walk_odd, walk_done, action_next, action_bound}
-use native.Mathlib.Omega.{arith}
 use Rattle.check_table.proofs.actions.walk_actions.Goals as goal
 
 pub loop-i-init : goal.loop-i-init
 unfolding action_start spot_of state_of
-loop-i-init c = (omega arith, omega arith, refl)
+loop-i-init c = (omega arith, refl)
 
-pub returns-in_default : goal.returns-in_default
+pub returns-in_err-s : goal.returns-in_err-s
 unfolding next_of
-returns-in_default c = sym (c.loop-i.invariant.2 ∙ walk_refused (action_step c.args.cmd c.args.k) _ _ _ c.loop-i-test.true (sym c.item_step-next.ensures ∙ ap next_of c.in_default.is))
+returns-in_err-s c = ap next_of c.from_residual.ensures ∙ sym (c.loop-i.invariant.1 ∙ walk_refused (action_step c.args.cmd c.args.k) c.args.items.now (state_of c.loop-i.s) (2 * c.loop-i.i) (omega arith) (sym c.in_err-s.ensures))
 
 pub loop-i-preserved : goal.loop-i-preserved
-loop-i-preserved c = (omega arith, omega (arith, action_bound c.in-At.t _ c.in-At.is c.loop-i.s _ _ _ _ c.item_step-next.ensures), c.loop-i.invariant.2 ∙ walk_on (action_step c.args.cmd c.args.k) _ _ _ _ c.loop-i-test.true (action_next c.in-At.t _ c.in-At.is _ c.item_step-next.ensures))
+loop-i-preserved c =
+    let next : 2 * (c.loop-i.i + 1) ≡ 2 * c.loop-i.i + 2 = omega arith in
+    (omega (arith, action_bound c.in_ok-s.s _ refl c.loop-i.s _ _ _ _ c.in_ok-s.ensures), rw next (c.loop-i.invariant.1 ∙ walk_on (action_step c.args.cmd c.args.k) c.args.items.now (state_of c.loop-i.s) (2 * c.loop-i.i) _ (omega arith) (action_next c.in_ok-s.s _ refl _ c.in_ok-s.ensures)))
 
-pub returns-then-i-items : goal.returns-then-i-items
+pub returns-then-items-eq1 : goal.returns-then-items-eq1
 unfolding next_of
-returns-then-i-items c = sym (c.loop-i.invariant.2 ∙ walk_odd (action_step c.args.cmd c.args.k) _ _ _ c.if-i-items.true c.loop-i-test.false)
+returns-then-items-eq1 c = sym (c.loop-i.invariant.1 ∙ walk_odd (action_step c.args.cmd c.args.k) c.args.items.now (state_of c.loop-i.s) (2 * c.loop-i.i) (omega (arith, c.if-items-eq1.true)) (omega (arith, c.if-items-eq1.true)))
 
 pub returns : goal.returns
 unfolding next_of
-returns c = sym (c.loop-i.invariant.2 ∙ walk_done (action_step c.args.cmd c.args.k) _ _ _ c.if-i-items.false)
+returns c = sym (c.loop-i.invariant.1 ∙ walk_done (action_step c.args.cmd c.args.k) c.args.items.now (state_of c.loop-i.s) (2 * c.loop-i.i) (omega (arith, c.if-items-eq1.false)))
