@@ -9,6 +9,11 @@ use Rattle.lines.specs.Feeding.{Kind}
 use Rattle.lines.specs.Feeding.Kind.{refused_with, out, withheld, controlled}
 use Rattle.read_scan.specs.Scan.{fault_of}
 use Rattle.refusals.specs.Faults.{refusal_of as work_of}
+use Rattle.line_test.specs.declared.Why.{Why as FirstWhy}
+use Rattle.line_test.specs.declared.Why.TheVariants.{BudgetTooLarge as Large, LineTooLong as Long, BadByte as Bad}
+use Rattle.line_stand.specs.declared.Why.{Why as WorkWhy}
+use Rattle.line_stand.specs.declared.Why.TheVariants.{BudgetUsedUp as UsedUp, AtWork as Stopped, TraceTooLong as TraceFull}
+use Rattle.line_stand.specs.declared.PassesError.{PassesError}
 use Rattle.line_answer.specs.declared.Why.{Why}
 use Rattle.line_answer.specs.declared.Why.TheVariants.{BudgetTooLarge, LineTooLong, BadByte, BadControl, InMacro, BudgetUsedUp, AtWork, TraceTooLong}
 use Rattle.line_answer.specs.declared.Fed.{Fed}
@@ -25,6 +30,22 @@ refusal_of (InMacro e) = of_file (fault_of e.fault) e.place
 refusal_of BudgetUsedUp = of_work budget_used_up
 refusal_of (AtWork f) = of_work (work_of f)
 refusal_of TraceTooLong = of_work trace_too_long
+
+-- the reason of a line that is refused before its passes
+abbrev pub first_why : FirstWhy → Why
+first_why Large = BudgetTooLarge
+first_why Long = LineTooLong
+first_why Bad = BadByte
+
+-- and of a table at work
+abbrev pub work_why : WorkWhy → Why
+work_why UsedUp = BudgetUsedUp
+work_why (Stopped f) = AtWork f
+work_why TraceFull = TraceTooLong
+
+-- a line that its passes refuse
+abbrev pub passes_refused : PassesError → LineError
+passes_refused e = record { why = work_why e.why; passes = e.begun }
 
 -- an answer's kind, with the line that stands in the output
 abbrev pub kind_of : Result Fed LineError → List ℕ → Kind

@@ -4,9 +4,11 @@
 ghost use Rattle.std.specs.Prelude.{◌≡◌, ◌≤◌};
 ghost use Rattle.macros.specs.Bounds.{most_file_bytes, most_line_bytes, most_budget};
 ghost use Rattle.macros.specs.Refusals.{number, place};
-ghost use Rattle.line_answer.specs.Fed.{refusal_of};
+ghost use Rattle.line_answer.specs.Fed.{refusal_of, first_why, work_why, passes_refused};
 ghost use Rattle.line_answer.specs.Replies.{line_reply, told, Small};
 
+use line_stand::{PassesError, Why as WorkWhy};
+use line_test::Why as FirstWhy;
 use read_scan::ReadError;
 use refusals::WorkFault;
 
@@ -47,6 +49,45 @@ pub struct Answer {
     pub passes: u32,
     pub kind: u32,
     pub length: u32,
+}
+
+// 4, 21 or 22: no pass was begun.
+impl From<FirstWhy> for LineError {
+    ghost from_gives = { λ w e. e ≡ record { why = first_why w; passes = 0 } };
+
+    fn from(w: FirstWhy) -> LineError {
+        let why = match w {
+            FirstWhy::BudgetTooLarge => Why::BudgetTooLarge,
+            FirstWhy::LineTooLong => Why::LineTooLong,
+            FirstWhy::BadByte => Why::BadByte,
+        };
+        LineError { why, passes: 0 }
+    }
+}
+
+// 31 to 36.
+impl From<WorkWhy> for Why {
+    ghost from_gives = { λ w v. v ≡ work_why w };
+
+    fn from(w: WorkWhy) -> Why {
+        match w {
+            WorkWhy::BudgetUsedUp => Why::BudgetUsedUp,
+            WorkWhy::AtWork(f) => Why::AtWork(f),
+            WorkWhy::TraceTooLong => Why::TraceTooLong,
+        }
+    }
+}
+
+// The same, with the passes begun.
+impl From<PassesError> for LineError {
+    ghost from_gives = { λ e r. r ≡ passes_refused e };
+
+    fn from(e: PassesError) -> LineError {
+        LineError {
+            why: Why::from(e.why),
+            passes: e.begun,
+        }
+    }
 }
 
 // The number of a line's refusal: 4, 10 to 23, 31 to 36.
