@@ -11,6 +11,8 @@ use Rattle.read_scan.specs.Scan.{fault_of}
 use Rattle.refusals.specs.Faults.{refusal_of as work_of}
 use Rattle.line_test.specs.declared.Why.{Why as FirstWhy}
 use Rattle.line_test.specs.declared.Why.TheVariants.{BudgetTooLarge as Large, LineTooLong as Long, BadByte as Bad}
+use Rattle.line_control.specs.declared.ControlError.{ControlError}
+use Rattle.line_control.specs.declared.ControlError.TheVariants.{BadControl as NoControl, InMacro as NoMacro}
 use Rattle.line_stand.specs.declared.Why.{Why as WorkWhy}
 use Rattle.line_stand.specs.declared.Why.TheVariants.{BudgetUsedUp as UsedUp, AtWork as Stopped, TraceTooLong as TraceFull}
 use Rattle.line_stand.specs.declared.PassesError.{PassesError}
@@ -36,6 +38,11 @@ abbrev pub first_why : FirstWhy → Why
 first_why Large = BudgetTooLarge
 first_why Long = LineTooLong
 first_why Bad = BadByte
+
+-- of a control line
+abbrev pub control_why : ControlError → Why
+control_why NoControl = BadControl
+control_why (NoMacro e) = InMacro e
 
 -- and of a table at work
 abbrev pub work_why : WorkWhy → Why

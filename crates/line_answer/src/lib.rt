@@ -4,9 +4,10 @@
 ghost use Rattle.std.specs.Prelude.{◌≡◌, ◌≤◌};
 ghost use Rattle.macros.specs.Bounds.{most_file_bytes, most_line_bytes, most_budget};
 ghost use Rattle.macros.specs.Refusals.{number, place};
-ghost use Rattle.line_answer.specs.Fed.{refusal_of, first_why, work_why, passes_refused};
+ghost use Rattle.line_answer.specs.Fed.{refusal_of, first_why, control_why, work_why, passes_refused};
 ghost use Rattle.line_answer.specs.Replies.{line_reply, told, Small};
 
+use line_control::ControlError;
 use line_stand::{PassesError, Why as WorkWhy};
 use line_test::Why as FirstWhy;
 use read_scan::ReadError;
@@ -62,6 +63,18 @@ impl From<FirstWhy> for LineError {
             FirstWhy::BadByte => Why::BadByte,
         };
         LineError { why, passes: 0 }
+    }
+}
+
+// 23, or a fault in a control line's macro.
+impl From<ControlError> for Why {
+    ghost from_gives = { λ w v. v ≡ control_why w };
+
+    fn from(w: ControlError) -> Why {
+        match w {
+            ControlError::BadControl => Why::BadControl,
+            ControlError::InMacro(e) => Why::InMacro(e),
+        }
     }
 }
 
