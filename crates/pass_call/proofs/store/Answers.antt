@@ -4,8 +4,5 @@ use Rattle.pass_call.proofs.store.Goals as goal
 pub returns-then-text-gt100 : goal.returns-then-text-gt100
 returns-then-text-gt100 c = store_refused c.args.state.now c.args.i c.args.size c.requires.0 c.args.text.now c.if-text-gt100.true
 
-pub set_entry-requires : goal.set_entry-requires
-set_entry-requires c = (c.requires.0, c.requires.1, c.requires.2, c.if-text-gt100.false)
-
 pub returns : goal.returns
 returns c = store_made c.args.state.now c.args.i c.args.size c.requires.0 c.args.text.now c.if-text-gt100.false c.set_entry.ensures

@@ -19,8 +19,5 @@ put_digits-n-requires t c = (omega arith, (omega (arith, digits_longer c.args.v 
 pub bounds-out-n : goal.bounds-out-n
 bounds-out-n t c = omega (arith, digits_longer c.args.v c.if-v-lt10.false, c.put_digits-n.ensures.count, c.requires.0)
 
-pub overflow_add-result : goal.overflow_add-result
-overflow_add-result t c = omega (arith, digits_longer c.args.v c.if-v-lt10.false, c.put_digits-n.ensures.count, c.requires.0, c.requires.1)
-
 pub returns : goal.returns
 returns t c = digits_more c.if-v-lt10.false c.put_digits-n.ensures (omega (arith, digits_longer c.args.v c.if-v-lt10.false, c.put_digits-n.ensures.count, c.requires.0)) c.figure-2.ensures
