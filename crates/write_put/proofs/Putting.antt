@@ -7,13 +7,13 @@ use native.Mathlib.Nat.{add_assoc, add-zero}
 use native.Mathlib.Decide.{dec_le}
 use native.Mathlib.Numerals.{add-one}
 use native.Mathlib.Omega.{arith}
-use mathlib.Core.Bool.{Bool, true, false, not}
-use borrow.Author.Tests.{eq-eqb, ne_eqb, not-true, not-false}
+use mathlib.Core.Bool.{Bool, true, false}
+use borrow.Author.Tests.{ne_eqb}
 use Rattle.macros.specs.Bounds.{most_macro_bytes}
 use Rattle.macros.specs.Macro.{among, pick}
 use Rattle.macros.specs.Write.{byte, escape_byte}
-use lib.ListN.{length, take, drop, get_or, set, length-append, drop_of_length-le}
-use lib.Seq.{take-suc, take-suc-set, drop-cons}
+use lib.ListN.{length, take, get_or, set, length-append}
+use lib.Seq.{take-suc, take-suc-set}
 use Rattle.write_put.specs.Puts.{short_text, Ends, Puts, Rest, Counts, CountsOn}
 use Rattle.write_put.specs.declared.Short.{Short}
 use Rattle.write_put.specs.declared.Short.TheVariants.{Nothing, One, Two, Three, Four}

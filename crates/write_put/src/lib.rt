@@ -7,7 +7,7 @@ ghost use Rattle.macros.specs.Write.{byte, digits};
 ghost use Rattle.write_put.specs.Puts.{short_text, Ends, Puts, Counts};
 
 // Up to four bytes.
-#[derive(Clone, Copy)]
+#[derive(Clone, Copy, Debug, PartialEq, Eq)]
 pub enum Short {
     Nothing,
     One(u8),
@@ -63,11 +63,7 @@ pub fn put(file: &mut [u8], n: usize, s: Short) -> usize
         return end;
     }
     let bytes = bytes_of(s);
-    let mut i = 0;
-    while n + i < end {
-        file[n + i] = bytes[i];
-        i += 1;
-    }
+    file[n..end].copy_from_slice(&bytes[..end - n]);
     end
 }
 
@@ -78,13 +74,11 @@ pub fn marked(mark: bool, b: u8) -> Short
     if !mark {
         return Short::One(b);
     }
-    if b == b'\n' {
-        return Short::Two(b'\\', b'n');
+    match b {
+        b'\n' => Short::Two(b'\\', b'n'),
+        b'\t' => Short::Two(b'\\', b't'),
+        _ => Short::Two(b'\\', b),
     }
-    if b == b'\t' {
-        return Short::Two(b'\\', b't');
-    }
-    Short::Two(b'\\', b)
 }
 
 // A byte's number without leading zeros, and a byte behind it.
@@ -105,7 +99,7 @@ fn figure(v: u32) -> u8
     requires { v < 10 }
     ensures { result ≡ 48 + v }
 {
-    48 + v as u8
+    b'0' + v as u8
 }
 
 // Puts a number without leading zeros: the digits before the last first, a call for each.

@@ -1,3 +1,4 @@
+use native.Mathlib.Omega.{arith}
 use Rattle.write_put.specs.Puts.{short_text}
 use Rattle.write_put.proofs.Putting.{plain, escaped, feed, tab, itself}
 use Rattle.write_put.proofs.marked.Goals as goal
@@ -6,14 +7,14 @@ pub returns-then-not-mark : goal.returns-then-not-mark
 unfolding short_text
 returns-then-not-mark c = plain _ _ c.if-not-mark.true
 
-pub returns-then-b-eq10 : goal.returns-then-b-eq10
+pub returns-in-10 : goal.returns-in-10
 unfolding short_text
-returns-then-b-eq10 c = escaped _ _ c.if-not-mark.false (feed c.if-b-eq10.true)
+returns-in-10 c = escaped _ _ c.if-not-mark.false (feed c.in-10.is)
 
-pub returns-then-b-eq9 : goal.returns-then-b-eq9
+pub returns-in-9 : goal.returns-in-9
 unfolding short_text
-returns-then-b-eq9 c = escaped _ _ c.if-not-mark.false (tab c.if-b-eq9.true)
+returns-in-9 c = escaped _ _ c.if-not-mark.false (tab c.in-9.is)
 
-pub returns : goal.returns
+pub returns-in_default : goal.returns-in_default
 unfolding short_text
-returns c = escaped _ _ c.if-not-mark.false (itself c.if-b-eq10.false c.if-b-eq9.false)
+returns-in_default c = escaped _ _ c.if-not-mark.false (itself (omega arith) (omega arith))
