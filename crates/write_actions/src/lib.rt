@@ -46,10 +46,8 @@ fn put_text(file: &mut [u8], first: usize, text: &[u8]) -> usize
     ensures { Puts first (write_text text.now) file.old file.new result }
 {
     let mut n = first;
-    let mut i = 0;
-    while i < text.len() {
-        n = put(file, n, literal(text[i]));
-        i += 1;
+    for b in text {
+        n = put(file, n, literal(*b));
     }
     n
 }
@@ -198,10 +196,8 @@ fn count_text(first: usize, text: &[u8]) -> usize
     ensures { Counts first (write_text text.now) result }
 {
     let mut n = first;
-    let mut i = 0;
-    while i < text.len() {
-        n = count(n, literal(text[i]));
-        i += 1;
+    for b in text {
+        n = count(n, literal(*b));
     }
     n
 }

@@ -112,13 +112,11 @@ pub fn put_pattern(file: &mut [u8], start: usize, items: &[u8]) -> usize
 {
     let mut n = put(file, start, Short::One(b'\''));
     let mut held: u8 = 0;
-    let mut at = 0;
-    while at < items.len() {
-        let code = items[at];
-        let m = put(file, n, head(code, items[at + 1]));
+    for i in 0..items.len() / 2 {
+        let code = items[2 * i];
+        let m = put(file, n, head(code, items[2 * i + 1]));
         n = put(file, m, tail(held, code));
         held = element_code(held, code);
-        at += 2;
     }
     n
 }
@@ -197,13 +195,11 @@ pub fn count_pattern(start: usize, items: &[u8]) -> usize
 {
     let mut n = start;
     let mut held: u8 = 0;
-    let mut at = 0;
-    while at < items.len() {
-        let code = items[at];
-        let m = end_of(512, n, head_size(code, items[at + 1]));
+    for i in 0..items.len() / 2 {
+        let code = items[2 * i];
+        let m = end_of(512, n, head_size(code, items[2 * i + 1]));
         n = count(m, tail(held, code));
         held = element_code(held, code);
-        at += 2;
     }
     n
 }

@@ -4,13 +4,13 @@ use native.Mathlib.Omega.{arith}
 use mathlib.Core.Path.{refl}
 use Rattle.write_actions.proofs.put_text.Goals as goal
 
-pub loop-i-init : goal.loop-i-init
-loop-i-init c = (omega arith, refl, rest_all)
+pub loop-b-init : goal.loop-b-init
+loop-b-init c = (refl, rest_all)
 
-pub loop-i-preserved : goal.loop-i-preserved
-loop-i-preserved c =
-    let loop = c.loop-i in
-    (omega arith, omega arith, rest_next loop.invariant.2 (text_step_lem c.args.text.now loop.i (omega arith)) (by_bytes c.literal.ensures c.put-n.ensures))
+pub loop-b-preserved : goal.loop-b-preserved
+loop-b-preserved c =
+    let loop = c.loop-b in
+    (omega arith, rest_next loop.invariant.1 (text_step_lem c.args.text.now loop.b-index (omega arith)) (by_bytes c.literal.ensures c.put-n.ensures))
 
 pub returns : goal.returns
-returns c = rest_done c.loop-i.invariant.2 (text_end c.args.text.now c.loop-i.i (omega arith))
+returns c = rest_done c.loop-b.invariant.1 (text_end c.args.text.now c.loop-b.b-index (omega arith))
