@@ -1,25 +1,25 @@
 -- One item more. Assumes nothing.
-use Prim.Native.Nat.{ℕ, suc, ◌+◌, ◌≤◌, ◌<◌}
-use mathlib.Core.Path.{◌≡◌}
+use Prim.Native.Nat.{ℕ, ◌<◌}
+use mathlib.Core.Path.{◌≡◌, refl}
 use mathlib.Core.List.{List, [], ◌∷◌, ◌++◌}
-use native.Mathlib.Numerals.{add-one}
 use native.Mathlib.Omega.{arith}
 use lib.Dec.{ltb}
-use lib.ListN.{length, get_or, drop, drop_of_length-le}
-use lib.Seq.{drop-cons}
+use lib.ListN.{length, get_or}
 use Rattle.macros.specs.Macro.{pick}
 use Rattle.write_pattern.specs.Items.{item_text, pattern_text}
 
-pub pattern_step_lem : (l : List ℕ) (i held : ℕ) {h : ℕ} → i + 1 < length l → h ≡ pick (ltb (get_or l i 0) 32) (get_or l i 0) held
-    → pattern_text held (drop i l) ≡ item_text held (get_or l i 0) (get_or l (i + 1) 0) ++ pattern_text h (drop (i + 2) l)
+-- the next item is x
+pub pattern_more : (l x rest : List ℕ) (held : ℕ) {h : ℕ} → length x ≡ 2 → l ≡ x ++ rest → h ≡ pick (ltb (get_or x 0 0) 32) (get_or x 0 0) held
+    → pattern_text held l ≡ item_text held (get_or x 0 0) (get_or x 1 0) ++ pattern_text h rest
 unfolding pattern_text
-pattern_step_lem l i held {h} g e =
-    let a : drop i l ≡ get_or l i 0 ∷ drop (suc i) l = drop-cons l i 0 (omega arith) in
-    let b : drop (suc i) l ≡ get_or l (suc i) 0 ∷ drop (suc (suc i)) l = drop-cons l (suc i) 0 (omega arith) in
-    let s : i + 1 ≡ suc i = add-one i in
-    let t : i + 2 ≡ suc (suc i) = omega arith in
-    rw (a, b, s, t, e)
+pattern_more l [] rest held g e q = absurd (omega arith)
+pattern_more l (a ∷ []) rest held g e q = absurd (omega arith)
+pattern_more l (a ∷ b ∷ []) rest held g e q = rw (e, q)
+pattern_more l (a ∷ b ∷ c ∷ x) rest held g e q = absurd (omega arith)
 
-pub pattern_end_lem : (l : List ℕ) (i held : ℕ) → length l ≤ i → pattern_text held (drop i l) ≡ []
+-- no item is left
+pub pattern_end_lem : (l : List ℕ) (held : ℕ) → length l < 2 → pattern_text held l ≡ []
 unfolding pattern_text
-pattern_end_lem l i held g = rw (drop_of_length-le l {i = i} g)
+pattern_end_lem [] held g = refl
+pattern_end_lem (a ∷ []) held g = refl
+pattern_end_lem (a ∷ b ∷ l) held g = absurd (omega arith)

@@ -1,20 +1,21 @@
-use borrow.Author.Tests.{eq-eqb, ne_eqb}
+use native.Mathlib.Omega.{arith}
+use borrow.Author.Tests.{ne_eqb}
 use Rattle.macros.specs.Macro.{pick}
 use Rattle.write_pattern.specs.Items.{brace_byte}
 use Rattle.write_pattern.proofs.brace.Goals as goal
 
-pub returns-then-code-eq1 : goal.returns-then-code-eq1
+pub returns-in-1 : goal.returns-in-1
 unfolding brace_byte pick
-returns-then-code-eq1 c = simp (eq-eqb _ _ c.if-code-eq1.true)
+returns-in-1 c = rw c.in-1.is
 
-pub returns-then-code-eq2 : goal.returns-then-code-eq2
+pub returns-in-2 : goal.returns-in-2
 unfolding brace_byte pick
-returns-then-code-eq2 c = simp (ne_eqb _ _ c.if-code-eq1.false, eq-eqb _ _ c.if-code-eq2.true)
+returns-in-2 c = rw c.in-2.is
 
-pub returns-then-code-eq3 : goal.returns-then-code-eq3
+pub returns-in-3 : goal.returns-in-3
 unfolding brace_byte pick
-returns-then-code-eq3 c = simp (ne_eqb _ _ c.if-code-eq1.false, ne_eqb _ _ c.if-code-eq2.false, eq-eqb _ _ c.if-code-eq3.true)
+returns-in-3 c = rw c.in-3.is
 
-pub returns : goal.returns
+pub returns-in_default : goal.returns-in_default
 unfolding brace_byte pick
-returns c = simp (ne_eqb _ _ c.if-code-eq1.false, ne_eqb _ _ c.if-code-eq2.false, ne_eqb _ _ c.if-code-eq3.false)
+returns-in_default c = simp (ne_eqb (c.args.code) 1 (omega arith), ne_eqb (c.args.code) 2 (omega arith), ne_eqb (c.args.code) 3 (omega arith))

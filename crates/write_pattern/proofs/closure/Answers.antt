@@ -1,17 +1,19 @@
-use Rattle.write_pattern.specs.Items.{closure_text}
-use Rattle.write_put.specs.Puts.{short_text}
+use Prim.Native.Nat.{◌%◌}
+use native.Mathlib.Omega.{arith}
+use borrow.Author.Tests.{ne_eqb}
 use Rattle.macros.specs.Macro.{pick}
-use borrow.Author.Tests.{eq-eqb, ne_eqb}
+use Rattle.write_put.specs.Puts.{short_text}
+use Rattle.write_pattern.specs.Items.{closure_text}
 use Rattle.write_pattern.proofs.closure.Goals as goal
 
-pub returns-then-code-eq1 : goal.returns-then-code-eq1
+pub returns-in-1 : goal.returns-in-1
 unfolding short_text closure_text pick
-returns-then-code-eq1 c = simp (eq-eqb _ _ c.if-code-eq1.true)
+returns-in-1 c = rw c.in-1.is
 
-pub returns-then-code-eq2 : goal.returns-then-code-eq2
+pub returns-in-2 : goal.returns-in-2
 unfolding short_text closure_text pick
-returns-then-code-eq2 c = simp (ne_eqb _ _ c.if-code-eq1.false, eq-eqb _ _ c.if-code-eq2.true)
+returns-in-2 c = rw c.in-2.is
 
-pub returns : goal.returns
+pub returns-in_default : goal.returns-in_default
 unfolding short_text closure_text pick
-returns c = simp (ne_eqb _ _ c.if-code-eq1.false, ne_eqb _ _ c.if-code-eq2.false)
+returns-in_default c = simp (ne_eqb (c.args.code % 4) 1 (omega arith), ne_eqb (c.args.code % 4) 2 (omega arith))

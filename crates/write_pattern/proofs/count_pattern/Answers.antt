@@ -1,27 +1,21 @@
-use Prim.Native.Nat.{◌+◌, ◌*◌}
-use mathlib.Core.Path.{◌≡◌}
-use native.Mathlib.Omega.{arith}
-use lib.ListN.{get_or}
+use Rattle.std.proofs.Common.{arith, get_or, ◌∙◌}
+use Rattle.write_put.proofs.Putting.{counted, count_as, count_also, counts_next, counts_done}
 use Rattle.write_pattern.specs.Items.{head_text, item_text}
-use Rattle.write_put.proofs.Putting.{counted, count_as, count_also, counts_all, counts_next, counts_done}
-use Rattle.write_pattern.proofs.Steps.{pattern_step_lem, pattern_end_lem}
+use Rattle.write_pattern.proofs.Steps.{pattern_more, pattern_end_lem}
 use Rattle.write_pattern.proofs.count_pattern.Goals as goal
-
-pub loop-i-init : goal.loop-i-init
-loop-i-init c = counts_all
 
 pub end_of-m-requires : goal.end_of-m-requires
 end_of-m-requires c = (omega arith, omega (arith, c.head_size.ensures.1))
 
-pub loop-i-preserved : goal.loop-i-preserved
+pub loop-item-preserved : goal.loop-item-preserved
 unfolding item_text
-loop-i-preserved c =
-    let loop = c.loop-i in
-    let items = c.args.items.now in
-    let step = pattern_step_lem items (2 * loop.i) loop.held (omega arith) c.element_code-held.ensures in
-    let one = count_also (counted (head_text (get_or items (2 * loop.i) 0) (get_or items (2 * loop.i + 1) 0)) c.head_size.ensures.0 c.end_of-m.ensures) (count_as c.tail.ensures c.count-n.ensures) in
-    let next : 2 * (loop.i + 1) ≡ 2 * loop.i + 2 = omega arith in
-    rw next (counts_next loop.invariant step one)
+loop-item-preserved c =
+    let inv = c.loop-item.invariant in
+    let st = c.in-Some.ensures.steps in
+    let item = c.in-Some.item.now in
+    let step = pattern_more _ item _ c.loop-item.held (st.1.1 ∙ inv.2) st.1.0 c.element_code-held.ensures in
+    let one = count_also (counted (head_text (get_or item 0 0) (get_or item 1 0)) c.head_size.ensures.0 c.end_of-m.ensures) (count_as c.tail.ensures c.count-n.ensures) in
+    (omega (arith, st.0), tt, st.0 ∙ inv.2, counts_next inv.3 step one)
 
 pub returns : goal.returns
-returns c = counts_done c.loop-i.invariant (pattern_end_lem c.args.items.now (2 * c.loop-i.i) c.loop-i.held (omega arith))
+returns c = counts_done c.loop-item.invariant.3 (pattern_end_lem _ c.loop-item.held (omega (arith, c.in-None.ensures.steps.1.0, c.loop-item.invariant.2)))

@@ -1,8 +1,11 @@
-use Prim.Native.Nat.{◌*◌}
-use lib.ListN.{drop}
-use Rattle.write_pattern.specs.Items.{pattern_text}
+use Rattle.std.proofs.Common.{◌≡◌}
+use Rattle.std.specs.Slice.Iter.{chunks_exact_rest, chunks_exact_size}
 use Rattle.write_put.specs.Puts.{CountsOn}
+use Rattle.write_pattern.specs.Items.{pattern_text}
 use Rattle.write_pattern.proofs.count_pattern.Given as goal
 
-abbrev pub invariant-loop-i : goal.invariant-loop-i
-invariant-loop-i l = CountsOn l.start (pattern_text 0 l.items) l.n (pattern_text l.held (drop (2 * l.i) l.items))
+abbrev pub invariant-loop-item : goal.invariant-loop-item
+invariant-loop-item l =
+    (goal.iterator-loop-item).can_next l.item-iterator × (goal.iterator-loop-item).is_finite l.item-iterator
+    × (chunks_exact_size l.item-iterator ≡ 2)
+    × CountsOn l.start (pattern_text 0 l.items) l.n (pattern_text l.held (chunks_exact_rest l.item-iterator))

@@ -6,6 +6,6 @@ pub returns-then-code-lt32 : goal.returns-then-code-lt32
 unfolding pick
 returns-then-code-lt32 c = simp (lt-ltb _ _ c.if-code-lt32.true)
 
-pub returns : goal.returns
+pub returns-else-code-lt32 : goal.returns-else-code-lt32
 unfolding pick
-returns c = simp (le-ltb _ _ c.if-code-lt32.false)
+returns-else-code-lt32 c = simp (le-ltb _ _ c.if-code-lt32.false)

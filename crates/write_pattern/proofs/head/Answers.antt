@@ -1,28 +1,29 @@
 use Prim.Native.Nat.{ℕ}
 use mathlib.Core.List.{[], ◌∷◌}
 use mathlib.Core.Path.{ap}
-use Rattle.write_pattern.specs.Items.{head_text}
-use Rattle.write_put.specs.Puts.{short_text}
-use Rattle.macros.specs.Macro.{pick}
+use native.Mathlib.Omega.{arith}
 use borrow.Author.Tests.{lt-ltb, le-ltb}
+use Rattle.macros.specs.Macro.{pick}
+use Rattle.write_put.specs.Puts.{short_text}
+use Rattle.write_pattern.specs.Items.{head_text}
 use Rattle.write_pattern.proofs.head.Goals as goal
 
-pub returns-then-code-lt8 : goal.returns-then-code-lt8
+pub returns-in-0-to-7 : goal.returns-in-0-to-7
 unfolding short_text head_text pick
-returns-then-code-lt8 c = simp (lt-ltb _ _ c.if-code-lt8.true) (ap (λ (x : ℕ). x ∷ []) c.brace.ensures)
+returns-in-0-to-7 c = simp (lt-ltb c.args.code 8 (omega arith)) (ap (λ (x : ℕ). x ∷ []) c.brace.ensures)
 
-pub returns-then-code-lt24 : goal.returns-then-code-lt24
+pub returns-in-8-to-23 : goal.returns-in-8-to-23
 unfolding head_text pick
-returns-then-code-lt24 c = simp (le-ltb _ _ c.if-code-lt8.false, lt-ltb _ _ c.if-code-lt24.true) c.unit.ensures
+returns-in-8-to-23 c = simp (le-ltb c.args.code 8 (omega arith), lt-ltb c.args.code 24 (omega arith)) c.unit.ensures
 
-pub returns-then-code-lt28 : goal.returns-then-code-lt28
+pub returns-in-24-to-27 : goal.returns-in-24-to-27
 unfolding short_text head_text pick
-returns-then-code-lt28 c = simp (le-ltb _ _ c.if-code-lt8.false, le-ltb _ _ c.if-code-lt24.false, lt-ltb _ _ c.if-code-lt28.true)
+returns-in-24-to-27 c = simp (le-ltb c.args.code 8 (omega arith), le-ltb c.args.code 24 (omega arith), lt-ltb c.args.code 28 (omega arith))
 
-pub returns-then-code-lt32 : goal.returns-then-code-lt32
+pub returns-in-28-to-31 : goal.returns-in-28-to-31
 unfolding short_text head_text pick
-returns-then-code-lt32 c = simp (le-ltb _ _ c.if-code-lt8.false, le-ltb _ _ c.if-code-lt24.false, le-ltb _ _ c.if-code-lt28.false, lt-ltb _ _ c.if-code-lt32.true)
+returns-in-28-to-31 c = simp (le-ltb c.args.code 8 (omega arith), le-ltb c.args.code 24 (omega arith), le-ltb c.args.code 28 (omega arith), lt-ltb c.args.code 32 (omega arith))
 
-pub returns : goal.returns
+pub returns-in_default : goal.returns-in_default
 unfolding head_text pick
-returns c = simp (le-ltb _ _ c.if-code-lt8.false, le-ltb _ _ c.if-code-lt24.false, le-ltb _ _ c.if-code-lt28.false, le-ltb _ _ c.if-code-lt32.false) c.member.ensures
+returns-in_default c = simp (le-ltb c.args.code 8 (omega arith), le-ltb c.args.code 24 (omega arith), le-ltb c.args.code 28 (omega arith), le-ltb c.args.code 32 (omega arith)) c.member.ensures

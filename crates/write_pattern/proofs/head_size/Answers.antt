@@ -5,22 +5,22 @@ use Rattle.macros.specs.Macro.{pick}
 use Rattle.write_pattern.specs.Items.{head_text}
 use Rattle.write_pattern.proofs.head_size.Goals as goal
 
-pub returns-then-code-lt8 : goal.returns-then-code-lt8
+pub returns-in-0-to-7 : goal.returns-in-0-to-7
 unfolding head_text pick
-returns-then-code-lt8 c = (simp (lt-ltb _ _ c.if-code-lt8.true) refl, omega arith)
+returns-in-0-to-7 c = (simp (lt-ltb c.args.code 8 (omega arith)) refl, omega arith)
 
-pub returns-then-code-lt24 : goal.returns-then-code-lt24
+pub returns-in-8-to-23 : goal.returns-in-8-to-23
 unfolding head_text pick
-returns-then-code-lt24 c = (simp (le-ltb _ _ c.if-code-lt8.false, lt-ltb _ _ c.if-code-lt24.true) c.unit_size.ensures.0, c.unit_size.ensures.1)
+returns-in-8-to-23 c = (simp (le-ltb c.args.code 8 (omega arith), lt-ltb c.args.code 24 (omega arith)) c.unit_size.ensures.0, c.unit_size.ensures.1)
 
-pub returns-then-code-lt28 : goal.returns-then-code-lt28
+pub returns-in-24-to-27 : goal.returns-in-24-to-27
 unfolding head_text pick
-returns-then-code-lt28 c = (simp (le-ltb _ _ c.if-code-lt8.false, le-ltb _ _ c.if-code-lt24.false, lt-ltb _ _ c.if-code-lt28.true) refl, omega arith)
+returns-in-24-to-27 c = (simp (le-ltb c.args.code 8 (omega arith), le-ltb c.args.code 24 (omega arith), lt-ltb c.args.code 28 (omega arith)) refl, omega arith)
 
-pub returns-then-code-lt32 : goal.returns-then-code-lt32
+pub returns-in-28-to-31 : goal.returns-in-28-to-31
 unfolding head_text pick
-returns-then-code-lt32 c = (simp (le-ltb _ _ c.if-code-lt8.false, le-ltb _ _ c.if-code-lt24.false, le-ltb _ _ c.if-code-lt28.false, lt-ltb _ _ c.if-code-lt32.true) refl, omega arith)
+returns-in-28-to-31 c = (simp (le-ltb c.args.code 8 (omega arith), le-ltb c.args.code 24 (omega arith), le-ltb c.args.code 28 (omega arith), lt-ltb c.args.code 32 (omega arith)) refl, omega arith)
 
-pub returns : goal.returns
+pub returns-in_default : goal.returns-in_default
 unfolding head_text pick
-returns c = (simp (le-ltb _ _ c.if-code-lt8.false, le-ltb _ _ c.if-code-lt24.false, le-ltb _ _ c.if-code-lt28.false, le-ltb _ _ c.if-code-lt32.false) c.member_size.ensures.0, c.member_size.ensures.1)
+returns-in_default c = (simp (le-ltb c.args.code 8 (omega arith), le-ltb c.args.code 24 (omega arith), le-ltb c.args.code 28 (omega arith), le-ltb c.args.code 32 (omega arith)) c.member_size.ensures.0, c.member_size.ensures.1)

@@ -1,5 +1,5 @@
-use native.Mathlib.Omega.{arith}
 use mathlib.Core.Path.{refl}
+use native.Mathlib.Omega.{arith}
 use Rattle.macros.specs.Write.{byte}
 use Rattle.write_pattern.proofs.marked_size.Goals as goal
 
@@ -7,6 +7,6 @@ pub returns-then-mark : goal.returns-then-mark
 unfolding byte
 returns-then-mark c = (rw c.if-mark.true refl, omega arith)
 
-pub returns : goal.returns
+pub returns-else-mark : goal.returns-else-mark
 unfolding byte
-returns c = (rw c.if-mark.false refl, omega arith)
+returns-else-mark c = (rw c.if-mark.false refl, omega arith)

@@ -1,23 +1,24 @@
-use Rattle.write_put.proofs.Putting.{by_mark}
-use Rattle.macros.specs.Write.{class_marks}
-use Rattle.write_pattern.specs.Items.{member_text}
-use Rattle.write_put.specs.Puts.{short_text}
+use native.Mathlib.Omega.{arith}
+use borrow.Author.Tests.{ne_eqb}
 use Rattle.macros.specs.Macro.{pick}
-use borrow.Author.Tests.{eq-eqb, ne_eqb}
+use Rattle.macros.specs.Write.{class_marks}
+use Rattle.write_put.specs.Puts.{short_text}
+use Rattle.write_put.proofs.Putting.{by_mark}
+use Rattle.write_pattern.specs.Items.{member_text}
 use Rattle.write_pattern.proofs.member.Goals as goal
 
-pub returns-then-code-eq32 : goal.returns-then-code-eq32
+pub returns-in-32 : goal.returns-in-32
 unfolding member_text class_marks pick
-returns-then-code-eq32 c = simp (eq-eqb _ _ c.if-code-eq32.true) (by_mark _ _ c.marked.ensures c.is_class_mark.ensures)
+returns-in-32 c = rw c.in-32.is (by_mark _ _ c.marked.ensures c.is_class_mark.ensures)
 
-pub returns-then-code-eq33 : goal.returns-then-code-eq33
+pub returns-in-33 : goal.returns-in-33
 unfolding short_text member_text pick
-returns-then-code-eq33 c = simp (ne_eqb _ _ c.if-code-eq32.false, eq-eqb _ _ c.if-code-eq33.true)
+returns-in-33 c = rw c.in-33.is
 
-pub returns-then-code-eq34 : goal.returns-then-code-eq34
+pub returns-in-34 : goal.returns-in-34
 unfolding short_text member_text pick
-returns-then-code-eq34 c = simp (ne_eqb _ _ c.if-code-eq32.false, ne_eqb _ _ c.if-code-eq33.false, eq-eqb _ _ c.if-code-eq34.true)
+returns-in-34 c = rw c.in-34.is
 
-pub returns : goal.returns
+pub returns-in_default : goal.returns-in_default
 unfolding short_text member_text pick
-returns c = simp (ne_eqb _ _ c.if-code-eq32.false, ne_eqb _ _ c.if-code-eq33.false, ne_eqb _ _ c.if-code-eq34.false)
+returns-in_default c = simp (ne_eqb (c.args.code) 32 (omega arith), ne_eqb (c.args.code) 33 (omega arith), ne_eqb (c.args.code) 34 (omega arith))

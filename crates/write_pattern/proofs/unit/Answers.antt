@@ -1,23 +1,24 @@
+use native.Mathlib.Omega.{arith}
+use borrow.Author.Tests.{lt-ltb, le-ltb}
+use Rattle.macros.specs.Macro.{pick}
 use Rattle.macros.specs.Write.{pattern_marks}
+use Rattle.write_put.specs.Puts.{short_text}
 use Rattle.write_put.proofs.Putting.{by_mark}
 use Rattle.write_pattern.specs.Items.{unit_text}
-use Rattle.write_put.specs.Puts.{short_text}
-use Rattle.macros.specs.Macro.{pick}
-use borrow.Author.Tests.{lt-ltb, le-ltb}
 use Rattle.write_pattern.proofs.unit.Goals as goal
 
-pub returns-then-code-lt12 : goal.returns-then-code-lt12
+pub returns-in-0-to-11 : goal.returns-in-0-to-11
 unfolding unit_text pattern_marks pick
-returns-then-code-lt12 c = simp (lt-ltb _ _ c.if-code-lt12.true) (by_mark _ _ c.marked.ensures c.is_pattern_mark.ensures)
+returns-in-0-to-11 c = simp (lt-ltb c.args.code 12 (omega arith)) (by_mark _ _ c.marked.ensures c.is_pattern_mark.ensures)
 
-pub returns-then-code-lt16 : goal.returns-then-code-lt16
+pub returns-in-12-to-15 : goal.returns-in-12-to-15
 unfolding short_text unit_text pick
-returns-then-code-lt16 c = simp (le-ltb _ _ c.if-code-lt12.false, lt-ltb _ _ c.if-code-lt16.true)
+returns-in-12-to-15 c = simp (le-ltb c.args.code 12 (omega arith), lt-ltb c.args.code 16 (omega arith))
 
-pub returns-then-code-lt20 : goal.returns-then-code-lt20
+pub returns-in-16-to-19 : goal.returns-in-16-to-19
 unfolding short_text unit_text pick
-returns-then-code-lt20 c = simp (le-ltb _ _ c.if-code-lt12.false, le-ltb _ _ c.if-code-lt16.false, lt-ltb _ _ c.if-code-lt20.true)
+returns-in-16-to-19 c = simp (le-ltb c.args.code 12 (omega arith), le-ltb c.args.code 16 (omega arith), lt-ltb c.args.code 20 (omega arith))
 
-pub returns : goal.returns
+pub returns-in_default : goal.returns-in_default
 unfolding short_text unit_text pick
-returns c = simp (le-ltb _ _ c.if-code-lt12.false, le-ltb _ _ c.if-code-lt16.false, le-ltb _ _ c.if-code-lt20.false)
+returns-in_default c = simp (le-ltb c.args.code 12 (omega arith), le-ltb c.args.code 16 (omega arith), le-ltb c.args.code 20 (omega arith))

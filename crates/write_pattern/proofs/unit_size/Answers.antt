@@ -1,7 +1,7 @@
 use Prim.Native.Nat.{ℕ}
-use mathlib.Core.Path.{◌≡◌, refl, ap, ◌∙◌}
 use mathlib.Core.Bool.{Bool, true, false}
 use mathlib.Core.List.{[], ◌∷◌}
+use mathlib.Core.Path.{◌≡◌, refl, ap, ◌∙◌}
 use native.Mathlib.Omega.{arith}
 use lib.Dec.{ltb}
 use lib.ListN.{length}
@@ -17,17 +17,14 @@ unfolding pick
 calls true b = refl
 calls false b = refl
 
-pub returns-then-code-lt12 : goal.returns-then-code-lt12
+pub returns-in-0-to-11 : goal.returns-in-0-to-11
 unfolding unit_text pick
-returns-then-code-lt12 c =
-    let b = c.args.b in
-    (simp (lt-ltb _ _ c.if-code-lt12.true) (c.marked_size.ensures.0 ∙ ap (λ (w : Bool). length (byte w b)) c.is_pattern_mark.ensures), c.marked_size.ensures.1)
+returns-in-0-to-11 c = (simp (lt-ltb c.args.code 12 (omega arith)) (c.marked_size.ensures.0 ∙ ap (λ (w : Bool). length (byte w c.args.b)) c.is_pattern_mark.ensures), c.marked_size.ensures.1)
 
-pub returns-then-code-lt16 : goal.returns-then-code-lt16
+pub returns-in-12-to-15 : goal.returns-in-12-to-15
 unfolding unit_text pick
-returns-then-code-lt16 c = (simp (le-ltb _ _ c.if-code-lt12.false, lt-ltb _ _ c.if-code-lt16.true) refl, omega arith)
+returns-in-12-to-15 c = (simp (le-ltb c.args.code 12 (omega arith), lt-ltb c.args.code 16 (omega arith)) refl, omega arith)
 
-pub returns : goal.returns
+pub returns-in_default : goal.returns-in_default
 unfolding unit_text pick
-returns c =
-    (simp (le-ltb _ _ c.if-code-lt12.false, le-ltb _ _ c.if-code-lt16.false) (calls (ltb c.args.code 20) c.args.b), omega arith)
+returns-in_default c = (simp (le-ltb c.args.code 12 (omega arith), le-ltb c.args.code 16 (omega arith)) (calls (ltb c.args.code 20) c.args.b), omega arith)
