@@ -1,11 +1,14 @@
 -- One byte or one action more. Assumes nothing.
 use Prim.Native.Nat.{ℕ, zero, suc, ◌+◌, ◌-◌, ◌≤◌, ◌<◌}
-use mathlib.Core.Path.{◌≡◌, refl, ap, sym, ◌∙◌, subst}
+use mathlib.Core.Path.{◌≡◌, refl, ap, sym, ◌∙◌}
 use mathlib.Core.List.{List, [], ◌∷◌, ◌++◌}
 use native.Mathlib.Numerals.{add-one}
+use mathlib.Core.Bool.{true, false}
+use lib.Dec.{eqb}
 use native.Mathlib.Omega.{arith}
-use lib.ListN.{length, get_or, drop, length-drop, drop_of_length-le}
-use lib.Seq.{drop-cons, drop-drop}
+use lib.ListN.{length, get_or, drop, drop_of_length-le}
+use borrow.Author.Tests.{eqb-true, eqb-false}
+use lib.Seq.{drop-cons}
 use Rattle.macros.specs.Macro.{among}
 use Rattle.macros.specs.Write.{text_marks, byte, write_text}
 use Rattle.form_table.specs.Actions.{action_size, Held}
@@ -40,30 +43,26 @@ actions_cons (x ∷ l) h =
     let s : action_size (x ∷ l) ≡ suc (action_size (x ∷ l) - 1) = let z = some_size (x ∷ l) in omega arith in
     ap (λ (r : List ℕ). action_text (x ∷ l) ++ r) (passed (action_size (x ∷ l) - 1) l ∙ ap (λ (k : ℕ). actions_text 0 (drop k (x ∷ l))) (sym s))
 
-pub actions_step : (l : List ℕ) (i : ℕ) {k : ℕ} → i < length l → k ≡ action_size (drop i l) → actions_text 0 (drop i l) ≡ action_text (drop i l) ++ actions_text 0 (drop (i + k) l)
-actions_step l i {k} h e =
-    actions_cons (drop i l) (let z = length-drop i l in omega arith)
-    ∙ ap (λ (r : List ℕ). action_text (drop i l) ++ actions_text 0 r) (drop-drop (action_size (drop i l)) i l ∙ ap (λ (s : ℕ). drop (i + s) l) (sym e))
+pub actions_next : (t : List ℕ) {k : ℕ} → 0 < length t → k ≡ action_size t → actions_text 0 t ≡ action_text t ++ actions_text 0 (drop k t)
+actions_next t {k} h e = rw e (actions_cons t h)
 
-pub actions_end : (l : List ℕ) (i : ℕ) → length l ≤ i → actions_text 0 (drop i l) ≡ []
+pub actions_end : (t : List ℕ) → length t ≡ 0 → actions_text 0 t ≡ []
 unfolding actions_text
-actions_end l i g = rw (drop_of_length-le l {i = i} g)
+actions_end [] h = refl
+actions_end (x ∷ l) h = absurd (omega arith)
 
 -- an action stands whole where nothing but whole actions do
-whole_here : {t : List ℕ} → Whole t → 0 < length t → Held t
+pub whole_here : {t : List ℕ} → Whole t → 0 < length t → Held t
 whole_here none h = absurd (omega arith)
 whole_here (next p q w) h = q
 
-whole_on : {t : List ℕ} → Whole t → 0 < length t → Whole (drop (action_size t) t)
+pub whole_on : {t : List ℕ} → Whole t → 0 < length t → Whole (drop (action_size t) t)
 whole_on none h = absurd (omega arith)
 whole_on (next p q w) h = w
 
-pub whole_held : (l : List ℕ) (i : ℕ) → Whole (drop i l) → i < length l → Held (drop i l)
-whole_held l i w h = whole_here w (let z = length-drop i l in omega arith)
+-- the test of what is left
+pub some_left : {n : ℕ} → false ≡ eqb n 0 → 0 < n
+some_left e = let f = eqb-false _ _ (sym e) in omega arith
 
-pub whole_next : (l : List ℕ) (i : ℕ) {k : ℕ} → Whole (drop i l) → i < length l → k ≡ action_size (drop i l) → Whole (drop (i + k) l)
-whole_next l i w h e = subst Whole (drop-drop (action_size (drop i l)) i l ∙ ap (λ (s : ℕ). drop (i + s) l) (sym e)) (whole_on w (let z = length-drop i l in omega arith))
-
--- the action ends within the list
-pub whole_end : (l : List ℕ) (i : ℕ) {k : ℕ} → Whole (drop i l) → i < length l → k ≡ action_size (drop i l) → (i < i + k) × (i + k ≤ length l)
-whole_end l i w h e = let z = length-drop i l in let y = whole_held l i w h in let x = some_size (drop i l) in omega arith
+pub none_left : {n : ℕ} → true ≡ eqb n 0 → n ≡ 0
+none_left e = eqb-true _ _ (sym e)

@@ -17,20 +17,13 @@ use write_put::{Short, count, count_number, decimal, marked, put, put_number};
 fn name(code: u8, letter: u8, close: u8) -> Short
     ensures { short_text result ≡ name_text code letter ++ (close ∷ []) }
 {
-    let move_code = code % 8;
-    if move_code == 0 {
-        return Short::Two(letter, close);
+    match code % 8 {
+        0 => Short::Two(letter, close),
+        1 => Short::Three(b'+', letter, close),
+        2 => Short::Three(b'-', letter, close),
+        3 => Short::Three(letter, b'+', close),
+        _ => Short::Three(letter, b'-', close),
     }
-    if move_code == 1 {
-        return Short::Three(b'+', letter, close);
-    }
-    if move_code == 2 {
-        return Short::Three(b'-', letter, close);
-    }
-    if move_code == 3 {
-        return Short::Three(letter, b'+', close);
-    }
-    Short::Three(letter, b'-', close)
 }
 
 // A literal.
@@ -56,26 +49,22 @@ fn put_text(file: &mut [u8], first: usize, text: &[u8]) -> usize
 fn number_sign(code: u8) -> u8
     ensures { result ≡ number_sign code }
 {
-    if code < 96 {
-        return b'=';
+    match code {
+        ..96 => b'=',
+        96..104 => b',',
+        _ => b':',
     }
-    if code < 104 {
-        return b',';
-    }
-    b':'
 }
 
 // The tag's number and `,`; or the name and `:`; or the letter and `=`, `,` or `:`.
 fn first(code: u8, letter: u8, tag: u8) -> Short
     ensures { short_text result ≡ first_text code letter tag }
 {
-    if code < 72 {
-        return decimal(tag, b',');
+    match code {
+        ..72 => decimal(tag, b','),
+        72..80 => name(code, letter, b':'),
+        _ => Short::Two(letter, number_sign(code)),
     }
-    if code < 80 {
-        return name(code, letter, b':');
-    }
-    Short::Two(letter, number_sign(code))
 }
 
 // What stands between the first and the last: nothing, the text or the number.
@@ -83,28 +72,25 @@ fn put_middle(file: &mut [u8], n: usize, t: &[u8]) -> usize
     requires { (length file.old ≤ 32768) × (64 ≤ get_or t.now 0 0) × Held t.now }
     ensures { Puts n (middle_text t.now) file.old file.new result }
 {
-    let code = t[0];
-    if code < 72 {
-        return n;
+    match t[0] {
+        ..72 => n,
+        72..80 => {
+            let end = 4 + usize::from(t[3]);
+            put_text(file, n, &t[4..end])
+        }
+        _ => put_number(file, n, number_at(t, 2)),
     }
-    if code < 80 {
-        let end = 4 + t[3] as usize;
-        return put_text(file, n, &t[4..end]);
-    }
-    put_number(file, n, number_at(t, 2))
 }
 
 // The name and `)`, `:)` or `)`.
 fn last(code: u8, letter: u8) -> Short
     ensures { short_text result ≡ last_text code letter }
 {
-    if code < 72 {
-        return name(code, letter, b')');
+    match code {
+        ..72 => name(code, letter, b')'),
+        72..80 => Short::Two(b':', b')'),
+        _ => Short::One(b')'),
     }
-    if code < 80 {
-        return Short::Two(b':', b')');
-    }
-    Short::One(b')')
 }
 
 // What stands behind the `(` of a call that stores, sets or divides.
@@ -122,42 +108,34 @@ fn put_call(file: &mut [u8], n: usize, t: &[u8]) -> usize
 fn call_byte(code: u8) -> u8
     ensures { result ≡ call_byte code }
 {
-    if code < 56 {
-        return b'&';
+    match code {
+        ..56 => b'&',
+        56..64 => b'#',
+        64..88 => b'&',
+        _ => b'#',
     }
-    if code < 64 {
-        return b'#';
-    }
-    if code < 88 {
-        return b'&';
-    }
-    b'#'
 }
 
 // A literal, `{`, `&(` or `#(`.
 fn opening(code: u8, b: u8) -> Short
     ensures { short_text result ≡ open_text code b }
 {
-    if code == 40 {
-        return literal(b);
+    match code {
+        40 => literal(b),
+        41 => Short::One(b'{'),
+        _ => Short::Two(call_byte(code), b'('),
     }
-    if code == 41 {
-        return Short::One(b'{');
-    }
-    Short::Two(call_byte(code), b'(')
 }
 
 // What follows in an action of two bytes: nothing, `n}`, or the name and `)`.
 fn ending(code: u8, b: u8) -> Short
     ensures { short_text result ≡ end_text code b }
 {
-    if code == 40 {
-        return Short::Nothing;
+    match code {
+        40 => Short::Nothing,
+        41 => decimal(b, b'}'),
+        _ => name(code, b, b')'),
     }
-    if code == 41 {
-        return decimal(b, b'}');
-    }
-    name(code, b, b')')
 }
 
 // A literal, `{n}` or a call.
@@ -180,11 +158,10 @@ pub fn put_actions(file: &mut [u8], start: usize, items: &[u8]) -> usize
     ensures { Puts start (actions_text 0 items.now) file.old file.new result }
 {
     let mut n = start;
-    let mut at = 0;
-    while at < items.len() {
-        let t = &items[at..];
-        n = put_action(file, n, t);
-        at += action_size(t);
+    let mut rest = items;
+    while !rest.is_empty() {
+        n = put_action(file, n, rest);
+        rest = &rest[action_size(rest)..];
     }
     n
 }
@@ -207,15 +184,14 @@ fn count_middle(n: usize, t: &[u8]) -> usize
     requires { (64 ≤ get_or t.now 0 0) × Held t.now }
     ensures { Counts n (middle_text t.now) result }
 {
-    let code = t[0];
-    if code < 72 {
-        return n;
+    match t[0] {
+        ..72 => n,
+        72..80 => {
+            let end = 4 + usize::from(t[3]);
+            count_text(n, &t[4..end])
+        }
+        _ => count_number(n, number_at(t, 2)),
     }
-    if code < 80 {
-        let end = 4 + t[3] as usize;
-        return count_text(n, &t[4..end]);
-    }
-    count_number(n, number_at(t, 2))
 }
 
 // Counts what stands behind the `(` of a call that stores, sets or divides.
@@ -250,11 +226,10 @@ pub fn count_actions(start: usize, items: &[u8]) -> usize
     ensures { Counts start (actions_text 0 items.now) result }
 {
     let mut n = start;
-    let mut at = 0;
-    while at < items.len() {
-        let t = &items[at..];
-        n = count_action(n, t);
-        at += action_size(t);
+    let mut rest = items;
+    while !rest.is_empty() {
+        n = count_action(n, rest);
+        rest = &rest[action_size(rest)..];
     }
     n
 }

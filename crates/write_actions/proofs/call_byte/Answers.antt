@@ -1,20 +1,21 @@
+use native.Mathlib.Omega.{arith}
 use borrow.Author.Tests.{lt-ltb, le-ltb}
 use Rattle.macros.specs.Macro.{pick}
 use Rattle.write_actions.specs.Items.{call_byte}
 use Rattle.write_actions.proofs.call_byte.Goals as goal
 
-pub returns-then-code-lt56 : goal.returns-then-code-lt56
+pub returns-in-0-to-55 : goal.returns-in-0-to-55
 unfolding call_byte pick
-returns-then-code-lt56 c = simp (lt-ltb _ _ c.if-code-lt56.true)
+returns-in-0-to-55 c = simp (lt-ltb c.args.code 56 (omega arith))
 
-pub returns-then-code-lt64 : goal.returns-then-code-lt64
+pub returns-in-56-to-63 : goal.returns-in-56-to-63
 unfolding call_byte pick
-returns-then-code-lt64 c = simp (le-ltb _ _ c.if-code-lt56.false, lt-ltb _ _ c.if-code-lt64.true)
+returns-in-56-to-63 c = simp (le-ltb c.args.code 56 (omega arith), lt-ltb c.args.code 64 (omega arith))
 
-pub returns-then-code-lt88 : goal.returns-then-code-lt88
+pub returns-in-64-to-87 : goal.returns-in-64-to-87
 unfolding call_byte pick
-returns-then-code-lt88 c = simp (le-ltb _ _ c.if-code-lt56.false, le-ltb _ _ c.if-code-lt64.false, lt-ltb _ _ c.if-code-lt88.true)
+returns-in-64-to-87 c = simp (le-ltb c.args.code 56 (omega arith), le-ltb c.args.code 64 (omega arith), lt-ltb c.args.code 88 (omega arith))
 
-pub returns : goal.returns
+pub returns-in_default : goal.returns-in_default
 unfolding call_byte pick
-returns c = simp (le-ltb _ _ c.if-code-lt56.false, le-ltb _ _ c.if-code-lt64.false, le-ltb _ _ c.if-code-lt88.false)
+returns-in_default c = simp (le-ltb c.args.code 56 (omega arith), le-ltb c.args.code 64 (omega arith), le-ltb c.args.code 88 (omega arith))

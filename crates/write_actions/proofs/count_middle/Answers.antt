@@ -1,3 +1,4 @@
+use lib.ListN.{get_or}
 use mathlib.Core.Path.{ap}
 use native.Mathlib.Omega.{arith}
 use borrow.Author.Tests.{lt-ltb, le-ltb}
@@ -12,29 +13,26 @@ use Rattle.write_actions.proofs.count_middle.Goals as goal
 pub bounds-t-0 : goal.bounds-t-0
 bounds-t-0 c = omega (arith, some_size c.args.t.now)
 
-pub returns-then-code-lt72 : goal.returns-then-code-lt72
+pub returns-in-0-to-71 : goal.returns-in-0-to-71
 unfolding middle_text pick
-returns-then-code-lt72 c = simp (lt-ltb _ _ c.if-code-lt72.true) count_none
+returns-in-0-to-71 c = simp (lt-ltb (get_or c.args.t.now 0 0) 72 (omega arith)) count_none
 
 pub bounds-t-3 : goal.bounds-t-3
-bounds-t-3 c = omega (arith, size_text c.args.t.now c.if-code-lt72.false c.if-code-lt80.true)
-
-pub overflow_cast-end : goal.overflow_cast-end
-overflow_cast-end c = omega (arith, c.shared_slice_known-2-1.given 3)
+bounds-t-3 c = omega (arith, size_text c.args.t.now (omega arith) (omega arith))
 
 pub overflow_add-end : goal.overflow_add-end
-overflow_add-end c = omega (arith, c.shared_slice_known-2-1.given 3)
+overflow_add-end c = omega (arith, c.from-end.ensures)
 
 pub slice_bounds-count_text-end : goal.slice_bounds-count_text-end
-slice_bounds-count_text-end c = omega (arith, size_text c.args.t.now c.if-code-lt72.false c.if-code-lt80.true)
+slice_bounds-count_text-end c = omega (arith, size_text c.args.t.now (omega arith) (omega arith))
 
-pub returns-then-code-lt80 : goal.returns-then-code-lt80
+pub returns-in-72-to-79 : goal.returns-in-72-to-79
 unfolding middle_text pick
-returns-then-code-lt80 c = simp (le-ltb _ _ c.if-code-lt72.false, lt-ltb _ _ c.if-code-lt80.true) (count_as (ap write_text (text_part c.args.t.now)) c.count_text.ensures)
+returns-in-72-to-79 c = simp (le-ltb (get_or c.args.t.now 0 0) 72 (omega arith), lt-ltb (get_or c.args.t.now 0 0) 80 (omega arith)) (count_as (rw c.from-end.ensures (ap write_text (text_part c.args.t.now))) c.count_text.ensures)
 
 pub number_at-requires : goal.number_at-requires
-number_at-requires c = omega (arith, size_set c.args.t.now c.if-code-lt80.false)
+number_at-requires c = omega (arith, size_set c.args.t.now (omega arith))
 
-pub returns : goal.returns
+pub returns-in_default : goal.returns-in_default
 unfolding middle_text pick number_in
-returns c = simp (le-ltb _ _ c.if-code-lt72.false, le-ltb _ _ c.if-code-lt80.false) (count_as (ap digits c.number_at.ensures) c.count_number.ensures)
+returns-in_default c = simp (le-ltb (get_or c.args.t.now 0 0) 72 (omega arith), le-ltb (get_or c.args.t.now 0 0) 80 (omega arith)) (count_as (ap digits c.number_at.ensures) c.count_number.ensures)

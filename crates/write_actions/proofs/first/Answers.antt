@@ -1,20 +1,21 @@
 use Prim.Native.Nat.{ℕ}
 use mathlib.Core.List.{[], ◌∷◌}
 use mathlib.Core.Path.{ap}
-use Rattle.write_actions.specs.Items.{first_text}
-use Rattle.write_put.specs.Puts.{short_text}
-use Rattle.macros.specs.Macro.{pick}
+use native.Mathlib.Omega.{arith}
 use borrow.Author.Tests.{lt-ltb, le-ltb}
+use Rattle.macros.specs.Macro.{pick}
+use Rattle.write_put.specs.Puts.{short_text}
+use Rattle.write_actions.specs.Items.{first_text}
 use Rattle.write_actions.proofs.first.Goals as goal
 
-pub returns-then-code-lt72 : goal.returns-then-code-lt72
+pub returns-in-0-to-71 : goal.returns-in-0-to-71
 unfolding first_text pick
-returns-then-code-lt72 c = simp (lt-ltb _ _ c.if-code-lt72.true) c.decimal.ensures
+returns-in-0-to-71 c = simp (lt-ltb c.args.code 72 (omega arith)) c.decimal.ensures
 
-pub returns-then-code-lt80 : goal.returns-then-code-lt80
+pub returns-in-72-to-79 : goal.returns-in-72-to-79
 unfolding first_text pick
-returns-then-code-lt80 c = simp (le-ltb _ _ c.if-code-lt72.false, lt-ltb _ _ c.if-code-lt80.true) c.name.ensures
+returns-in-72-to-79 c = simp (le-ltb c.args.code 72 (omega arith), lt-ltb c.args.code 80 (omega arith)) c.name.ensures
 
-pub returns : goal.returns
+pub returns-in_default : goal.returns-in_default
 unfolding short_text first_text pick
-returns c = simp (le-ltb _ _ c.if-code-lt72.false, le-ltb _ _ c.if-code-lt80.false) (ap (λ (x : ℕ). c.args.letter ∷ x ∷ []) c.number_sign.ensures)
+returns-in_default c = simp (le-ltb c.args.code 72 (omega arith), le-ltb c.args.code 80 (omega arith)) (ap (λ (x : ℕ). c.args.letter ∷ x ∷ []) c.number_sign.ensures)

@@ -1,20 +1,21 @@
 use Prim.Native.Nat.{ℕ}
 use mathlib.Core.List.{[], ◌∷◌}
 use mathlib.Core.Path.{ap}
+use native.Mathlib.Omega.{arith}
+use borrow.Author.Tests.{ne_eqb}
 use Rattle.macros.specs.Macro.{pick}
-use Rattle.write_actions.specs.Items.{open_text}
 use Rattle.write_put.specs.Puts.{short_text}
-use borrow.Author.Tests.{eq-eqb, ne_eqb}
+use Rattle.write_actions.specs.Items.{open_text}
 use Rattle.write_actions.proofs.opening.Goals as goal
 
-pub returns-then-code-eq40 : goal.returns-then-code-eq40
+pub returns-in-40 : goal.returns-in-40
 unfolding open_text pick
-returns-then-code-eq40 c = simp (eq-eqb _ _ c.if-code-eq40.true) c.literal.ensures
+returns-in-40 c = rw c.in-40.is c.literal.ensures
 
-pub returns-then-code-eq41 : goal.returns-then-code-eq41
+pub returns-in-41 : goal.returns-in-41
 unfolding short_text open_text pick
-returns-then-code-eq41 c = simp (ne_eqb _ _ c.if-code-eq40.false, eq-eqb _ _ c.if-code-eq41.true)
+returns-in-41 c = rw c.in-41.is
 
-pub returns : goal.returns
+pub returns-in_default : goal.returns-in_default
 unfolding short_text open_text pick
-returns c = simp (ne_eqb _ _ c.if-code-eq40.false, ne_eqb _ _ c.if-code-eq41.false) (ap (λ (x : ℕ). x ∷ 40 ∷ []) c.call_byte.ensures)
+returns-in_default c = simp (ne_eqb (c.args.code) 40 (omega arith), ne_eqb (c.args.code) 41 (omega arith)) (ap (λ (x : ℕ). x ∷ 40 ∷ []) c.call_byte.ensures)
