@@ -9,11 +9,11 @@ ghost use Rattle.form_state.specs.Access.{OfState};
 ghost use Rattle.lines.specs.Trace.{is_on};
 ghost use Rattle.line_end.specs.Contract.{Obeying, Obeyed, Replying, Replied};
 
-use answers::{fed_of, is_taken, is_wrong, leaves_trace, size_of};
-use line_answer::Fed;
-use line_control::{Order, control};
+use answers::{fed_of, size_of};
+use line_answer::{Fed, LineError};
+use line_control::{ControlError, control};
 use line_memory::lay_out_if;
-use line_stand::Ended;
+use line_stand::{Ended, PassesError};
 
 // Whether a state asks for a trace: the flag that `$TRACE` sets.
 pub fn is_traced(state: &[u8]) -> bool
@@ -38,16 +38,16 @@ pub fn obey(
     state: &mut [u8],
     before: &[u8],
     text: &[u8],
-    ended: Ended,
-) -> Order
+    ended: Result<Ended, PassesError>,
+) -> Result<(), ControlError>
     requires { Obeying table.old count state.old before.now text.now ended }
     ensures { Obeyed table.old table.new count state.old state.new before.now text.now ended result }
 {
-    let Ended::Control(n, _) = ended else {
-        return Order::Taken;
+    let Ok(Ended::Control(n, _)) = ended else {
+        return Ok(());
     };
     let order = control(table, count, state, &text[..n]);
-    lay_out_if(state, before, is_wrong(order));
+    lay_out_if(state, before, order.is_err());
     order
 }
 
@@ -60,14 +60,15 @@ pub fn reply(
     lines: &[u8],
     output: &mut [u8],
     trace: &mut [u8],
-    ended: Ended,
-    order: Order,
-) -> Fed
+    ended: Result<Ended, PassesError>,
+    order: Result<(), ControlError>,
+) -> Result<Fed, LineError>
     requires { Replying before.now after.now text.now lines.now output.old trace.old ended }
     ensures { Replied before.now after.now text.now lines.now output.old output.new trace.old trace.new ended order result }
 {
     let fed = fed_of(ended, order, nflag(after));
-    lay_out_if(output, &text[..size_of(fed)], is_taken(fed));
-    lay_out_if(trace, lines, leaves_trace(is_traced(before), fed));
+    let taken = fed.is_ok();
+    lay_out_if(output, &text[..size_of(fed)], taken);
+    lay_out_if(trace, lines, taken && is_traced(before));
     fed
 }
