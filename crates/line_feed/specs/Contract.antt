@@ -1,5 +1,5 @@
 -- What feeding a line promises (01, part 6; 02, N1).
-use Rattle.std.specs.Prelude.{ℕ, ◌-◌, ◌≡◌, List, ◌++◌, length, replicate}
+use Rattle.std.specs.Prelude.{ℕ, ◌-◌, ◌≡◌, List, ◌++◌, length, replicate, Result}
 use Rattle.std.proofs.Math.Option.{Option, none, some}
 use Rattle.macros.specs.Bounds.{most_line_bytes, most_trace_bytes}
 use Rattle.macros.specs.Macro.{Table}
@@ -11,6 +11,7 @@ use Rattle.form_state.specs.Access.{Holds, IsState}
 use Rattle.line_memory.specs.Memory.{Memories, Feeding, IsTable, padded}
 use Rattle.line_answer.specs.Fed.{kind_of, passes_of, size_of}
 use Rattle.line_answer.specs.declared.Fed.{Fed}
+use Rattle.line_answer.specs.declared.LineError.{LineError}
 
 -- the memories of a line but for its trace
 pub record Untraced : Type 0 where
@@ -40,7 +41,7 @@ laid_out withheld old = replicate most_line_bytes 0
 laid_out controlled old = replicate most_line_bytes 0
 
 -- the answer of the definition, and what the memories, lent as m, hold then
-pub record Answers (a : Answer) (m m' : Untraced) (r : Fed) : Type 0 where
+pub record Answers (a : Answer) (m m' : Untraced) (r : Result Fed LineError) : Type 0 where
   pub kind : a.kind ≡ kind_of r m'.output
   pub passes : a.passes ≡ passes_of r
   pub size : length (output_of a.kind) ≡ size_of r
@@ -54,7 +55,7 @@ traced_out none old = old
 traced_out (some s) old = padded s most_trace_bytes
 
 -- of a line that is fed
-pub record Feeds (f : Feeding) (r : Fed) : Type 0 where
+pub record Feeds (f : Feeding) (r : Result Fed LineError) : Type 0 where
   pub answers : (ms : Table) → IsTable f.lent.table ms → (st : State) → Holds f.lent.state st
       → Answers (fed ms st f.sent) (untraced f.lent) (untraced f.left) r
   pub traces : (ms : Table) → IsTable f.lent.table ms → (st : State) → Holds f.lent.state st

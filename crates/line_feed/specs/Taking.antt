@@ -1,5 +1,5 @@
 -- What the functions that take a line promise (01, part 6).
-use Rattle.std.specs.Prelude.{ℕ, ◌≤◌, ◌≡◌, Bool, true, List, length, replicate}
+use Rattle.std.specs.Prelude.{ℕ, ◌≤◌, ◌≡◌, Bool, true, List, length, replicate, Result}
 use Rattle.macros.specs.Bounds.{most_line_bytes, most_trace_bytes}
 use Rattle.macros.specs.Macro.{Table}
 use Rattle.macros.specs.Formed.{Bytes}
@@ -8,18 +8,9 @@ use Rattle.lines.specs.Trace.{is_on, history_of}
 use Rattle.lines.specs.Feeding.{answer}
 use Rattle.form_state.specs.Access.{Holds, OfState}
 use Rattle.line_memory.specs.Memory.{Feeding, IsTable}
-use Rattle.line_test.specs.declared.Why.{Why as FirstWhy}
-use Rattle.line_test.specs.declared.Why.TheVariants.{BudgetTooLarge, LineTooLong, BadByte}
-use Rattle.line_answer.specs.declared.Why.{Why}
-use Rattle.line_answer.specs.declared.Why.TheVariants.{BudgetTooLarge as Large, LineTooLong as Long, BadByte as Bad}
 use Rattle.line_answer.specs.declared.Fed.{Fed}
+use Rattle.line_answer.specs.declared.LineError.{LineError}
 use Rattle.line_feed.specs.Contract.{untraced, traced_out, Answers}
-
--- the reason of a line that is refused before its passes
-abbrev pub first_why : FirstWhy → Why
-first_why BudgetTooLarge = Large
-first_why LineTooLong = Long
-first_why BadByte = Bad
 
 -- a line that 21 and 22 do not refuse
 pub record Fits (t : List ℕ) : Type 0 where
@@ -41,7 +32,7 @@ pub record TraceRoom (b : List ℕ) (traced : Bool) (lines : List ℕ) : Type 0 
   pub short : length lines ≤ most_trace_bytes
 
 -- the line is taken, or refused by its passes
-pub record Takes (f : Feeding) (r : Fed) : Type 0 where
+pub record Takes (f : Feeding) (r : Result Fed LineError) : Type 0 where
   pub answers : (ms : Table) → IsTable f.lent.table ms → (st : State) → Holds f.lent.state st
       → Answers (answer ms st (history_of ms st f.sent)) (untraced f.lent) (untraced f.left) r
   pub traces : (ms : Table) → IsTable f.lent.table ms → (st : State) → Holds f.lent.state st

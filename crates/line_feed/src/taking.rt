@@ -6,7 +6,7 @@ ghost use Rattle.line_feed.specs.Contract.{Lent};
 ghost use Rattle.line_feed.specs.Taking.{Fits, TraceRoom, Takes};
 
 use crate::slots::count_macros;
-use line_answer::Fed;
+use line_answer::{Fed, LineError};
 use line_end::{is_traced, obey, reply};
 use line_memory::lay_out;
 use line_passes::run_line;
@@ -22,7 +22,7 @@ fn take_with(
     trace: &mut [u8],
     lines: &mut [u8],
     traced: bool,
-) -> Fed
+) -> Result<Fed, LineError>
     requires { Lent (record { table = table.now; state = state.old; output = output.old; trace = trace.old }) × Fits line.now × TraceRoom state.old traced lines.old }
     ensures { Takes (record { sent = record { line = line.entry.now; budget = budget }; lent = record { table = table.entry.now; state = state.old; output = output.old; trace = trace.old }; left = record { table = table.exit.now; state = state.new; output = output.new; trace = trace.new } }) result }
 {
@@ -45,7 +45,7 @@ fn take_traced(
     budget: usize,
     output: &mut [u8],
     trace: &mut [u8],
-) -> Fed
+) -> Result<Fed, LineError>
     requires { Lent (record { table = table.now; state = state.old; output = output.old; trace = trace.old }) × Fits line.now × OfState state.old (λ st. true ≡ is_on st.trace) }
     ensures { Takes (record { sent = record { line = line.entry.now; budget = budget }; lent = record { table = table.entry.now; state = state.old; output = output.old; trace = trace.old }; left = record { table = table.exit.now; state = state.new; output = output.new; trace = trace.new } }) result }
 {
@@ -61,7 +61,7 @@ pub(crate) fn take_line(
     budget: usize,
     output: &mut [u8],
     trace: &mut [u8],
-) -> Fed
+) -> Result<Fed, LineError>
     requires { Lent (record { table = table.now; state = state.old; output = output.old; trace = trace.old }) × Fits line.now }
     ensures { Takes (record { sent = record { line = line.entry.now; budget = budget }; lent = record { table = table.entry.now; state = state.old; output = output.old; trace = trace.old }; left = record { table = table.exit.now; state = state.new; output = output.new; trace = trace.new } }) result }
 {

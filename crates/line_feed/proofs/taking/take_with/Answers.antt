@@ -15,9 +15,6 @@ slice_bounds-lay_out-end-3 c = sym (length-take-le {A = ℕ} 52236 c.args.state.
 pub lay_out-requires : goal.lay_out-requires
 lay_out-requires c = omega (arith, length-take-le {A = ℕ} 52236 c.args.state.now (state_long _ c.requires.0.own), length-replicate {A = ℕ} 52236 0)
 
-pub count_macros-count-requires : goal.count_macros-count-requires
-count_macros-count-requires c = c.requires.0.own.table
-
 pub run_line-ended-requires : goal.run_line-ended-requires
 run_line-ended-requires c = started c.requires.0.own c.lay_out.ensures _ c.requires.1 c.requires.2 c.count_macros-count.ensures
 
@@ -26,21 +23,6 @@ obey-order-requires c = obeying c.requires.0.own c.lay_out.ensures _ c.requires.
 
 pub reply-requires : goal.reply-requires
 reply-requires c = replying c.requires.0.own c.lay_out.ensures _ c.requires.1 c.requires.2 c.count_macros-count.ensures c.run_line-ended.result c.run_line-ended.ensures c.run_line-ended.auto.state (c.run_line-ended.auto.text ∙ length-replicate {A = ℕ} 1054 0) c.obey-order.auto.state c.run_line-ended.auto.trace c.requires.0.room
-
-pub shape_of-table : goal.shape_of-table
-shape_of-table c = c.obey-order.auto.table
-
-pub shape_of-state : goal.shape_of-state
-shape_of-state c = c.obey-order.auto.state ∙ c.run_line-ended.auto.state
-
-pub shape_of-output : goal.shape_of-output
-shape_of-output c = c.reply.auto.output
-
-pub shape_of-trace : goal.shape_of-trace
-shape_of-trace c = c.reply.auto.trace
-
-pub shape_of-lines : goal.shape_of-lines
-shape_of-lines c = c.run_line-ended.auto.trace
 
 pub returns : goal.returns
 returns c = takes c.requires.0.own c.lay_out.ensures _ c.requires.1 c.requires.2 c.count_macros-count.ensures c.run_line-ended.result c.run_line-ended.ensures c.run_line-ended.auto.state (c.run_line-ended.auto.text ∙ length-replicate {A = ℕ} 1054 0) c.obey-order.ensures c.reply.ensures c.requires.0.room c.run_line-ended.auto.trace
