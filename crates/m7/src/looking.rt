@@ -4,26 +4,15 @@ ghost use Rattle.line_answer.specs.Replies.{reply};
 ghost use Rattle.m7.specs.Words.{looks_up};
 
 use line_answer::Answer;
-use word_find::{Looked, look_up};
+use word_find::look_up;
 
 // Looks up the words of a line that a word-pattern covers. The length is their number, the place that of the first; both are 0 if none is.
 pub fn m7_words(line: &[u8], pattern: &[u8]) -> Answer
     ensures { result ≡ looks_up line.now pattern.now }
 {
-    let looked = look_up(line, pattern);
-    match looked {
-        Looked::LineTooLong => {
-            return words_reply(21, 0, 0);
-        }
-        Looked::BadByte => {
-            return words_reply(22, 0, 0);
-        }
-        Looked::BadPattern => {
-            return words_reply(41, 0, 0);
-        }
-        Looked::Found(words, first) => {
-            return words_reply(0, first, words);
-        }
+    match look_up(line, pattern) {
+        Ok(found) => words_reply(0, found.first, found.words),
+        Err(fault) => words_reply(u32::from(fault), 0, 0),
     }
 }
 
@@ -31,8 +20,8 @@ fn words_reply(number: u32, place: u32, words: u32) -> Answer
     ensures { result ≡ reply number place words }
 {
     Answer {
-        number: number,
-        place: place,
+        number,
+        place,
         passes: 0,
         kind: 0,
         length: words,
