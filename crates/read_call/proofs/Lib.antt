@@ -1,4 +1,3 @@
 pub mod Naming
 pub mod Ending
 pub mod Marks
-pub mod Leaving

@@ -19,7 +19,7 @@ use Rattle.form_table.specs.Form.{call_items, move_code}
 use Rattle.read_scan.specs.Scan.{Calls, fault_of, wrong_call}
 use Rattle.read_number.specs.Number.{Counts, Kept}
 use Rattle.form_items.specs.Items.{Wrote}
-use Rattle.read_call.specs.Call.{Names, Letter, Naming, CalledFrom, NamedFrom, Sets, SetFrom, TagFrom, Asks, Starts, signs_in, site_is, mark_of, Named, no_name}
+use Rattle.read_call.specs.Call.{Names, Letter, Naming, CalledFrom, NamedFrom, Sets, SetFrom, TagFrom, Asks, Starts, signs_in, mark_of, Named, no_name}
 use Rattle.read_text.specs.Text.{Comes, StoreFrom}
 use Rattle.std.specs.Prelude.{Result, Ok, Option as Maybe, Some, None}
 use Rattle.read_scan.specs.Bytes.{Next, refused}
@@ -27,8 +27,6 @@ use Rattle.read_scan.specs.declared.ReadError.{ReadError}
 use Rattle.read_ends.specs.Ends.{Ended}
 use Rattle.read_scan.specs.declared.FileFault.{FileFault}
 use Rattle.read_number.specs.declared.Number.{Number}
-use Rattle.read_call.specs.declared.Site.{Site as CodeSite}
-use Rattle.read_call.specs.declared.Site.TheVariants.{BeforePattern, Replacement, Command}
 use Rattle.read_call.specs.declared.Tail.{Tail}
 use Rattle.read_call.specs.declared.Tail.TheVariants.{Text, Set, Insert}
 use Rattle.read_scan.proofs.Laws.{here_on}
@@ -37,13 +35,6 @@ use Rattle.read_text.proofs.Turns.{turn_text, call_next, here_into}
 use Rattle.read_text.proofs.Closing.{ends_from, ends_none, ends_wrong, ends_closed}
 use Rattle.read_call.proofs.Naming.{code_none, code_some}
 use Rattle.read_call.proofs.Ending.{number_read, no_number, some_same, some_none, joined, names_stack, names_counter}
-
--- in a replacement alone a call may insert
-pub inserts_not : (x : CodeSite) → (x ≡ Replacement → ⊥) → false ≡ may_insert (site_is x)
-unfolding may_insert
-inserts_not BeforePattern h = refl
-inserts_not Replacement h = absurd (h refl)
-inserts_not Command h = refl
 
 -- BYTES BEHIND A LETTER
 

@@ -23,6 +23,7 @@ use read_text::text_call;
 // LETTERS AND THEIR SIGNS
 
 // Whether a byte is a sign, where one may stand.
+#[tactic(auto, unfolding(macros::specs::ReadCalls::is_sign))]
 fn takes_sign(b: u8, signs: bool) -> bool
     ensures { result ≡ (is_sign b && signs) }
 {
@@ -30,6 +31,7 @@ fn takes_sign(b: u8, signs: bool) -> bool
 }
 
 // The code of a move by `+` or `-`.
+#[tactic(auto, unfolding(crate::specs::Call::sign_code, macros::specs::Macro::pick))]
 fn sign_code(b: u8) -> u8
     ensures { result ≡ sign_code b }
 {
@@ -146,6 +148,7 @@ fn tag_call(
 // WHAT A CALL MAY DO
 
 // Whether it may insert: in a replacement only.
+#[tactic(auto, unfolding(macros::specs::ReadCalls::may_insert))]
 fn may_insert(site: Site) -> bool
     ensures { result ≡ may_insert (site_is site) }
 {
@@ -153,6 +156,7 @@ fn may_insert(site: Site) -> bool
 }
 
 // Whether it may store a tag: not before a pattern (02, N2).
+#[tactic(auto, unfolding(macros::specs::ReadCalls::may_store_tag))]
 fn may_store_tag(site: Site) -> bool
     ensures { result ≡ may_store_tag (site_is site) }
 {

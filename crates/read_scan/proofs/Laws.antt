@@ -323,9 +323,6 @@ pub record Spaces (s : List ℕ) (a p v : ℕ) : Type 0 where
   pub same : spaceless (seen s a p) ≡ spaceless (seen s a v)
   pub comes : (st : Part) (pr : Prior) → skips st ≡ true → part_byte st 32 ≡ on st → run s a pr false p st ≡ run s a pr false v st
 
-pub no_spaces : (s : List ℕ) (a p : ℕ) → Spaces s a p p
-no_spaces s a p = record { same = refl; comes = λ st pr i j. refl }
-
 module _ {s : List ℕ} {a p v : ℕ} (g : Spaces s a p v) (l : p ≤ v) {r : CodeNext} (z : Passes s a v r) where
   pub calls_fault : {f : FileFault} {q : ℕ} → r ≡ refused f q → Calls s a p r
   calls_fault {f} {q} e =

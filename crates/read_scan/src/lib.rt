@@ -46,6 +46,7 @@ impl FileFault {
 impl From<FileFault> for u32 {
     ghost from_gives = { λ f n. n ≡ file_number (fault_of f) };
 
+    #[tactic(auto, unfolding(macros::specs::Refusals::file_number))]
     fn from(f: FileFault) -> u32 {
         match f {
             FileFault::FileTooLong => 10,

@@ -59,6 +59,7 @@ pub fn call_byte(s: &[u8], a: usize, first: usize) -> Result<(u8, usize), ReadEr
 }
 
 // What a byte that a call cannot have shows.
+#[tactic(auto, unfolding(crate::specs::Scan::wrong_call, macros::specs::Macro::pick))]
 pub fn wrong_byte(b: u8) -> FileFault
     ensures { fault_of result ≡ wrong_call b }
 {

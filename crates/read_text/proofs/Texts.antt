@@ -176,20 +176,6 @@ module _ {s : List ℕ} {a p : ℕ} {old out : List ℕ} {n at k : ℕ} (g : Rea
 
 -- THE END OF A TEXT
 
-padding_even : (k : ℕ) → k % 2 ≡ 0 → padding k ≡ []
-unfolding padding pick
-padding_even k h = simp h
-
-padding_odd : (k : ℕ) → (k % 2 ≡ 0 → ⊥) → padding k ≡ 0 ∷ []
-unfolding padding pick
-padding_odd k h = simp (ne_eqb _ _ h)
-
-pub pad_none : (out : List ℕ) (n e : ℕ) → (e - n) % 2 ≡ 0 → Wrote out out e (padding (e - n)) × (e ≡ e + length (padding (e - n)))
-pad_none out n e h = rw (padding_even (e - n) h) (wrote_none out e, omega arith)
-
-pub pad_one : (out : List ℕ) (n e : ℕ) → ((e - n) % 2 ≡ 0 → ⊥) → e < length out → Wrote out (set out e 0) e (padding (e - n)) × (e + 1 ≡ e + length (padding (e - n)))
-pad_one out n e h l = rw (padding_odd (e - n) h) (wrote_one out e 0 l, omega arith)
-
 pub padding_most : (k : ℕ) → length (padding k) ≤ 1
 unfolding padding pick
 padding_most k = by (eqb (k % 2) 0)

@@ -60,6 +60,7 @@ fn put_text(
 }
 
 // A zero behind a text that has an odd length; the text stands from n to e.
+#[tactic(auto, unfolding(crate::specs::Text::padding, macros::specs::Macro::pick))]
 fn pad(out: &mut [u8], n: usize, e: usize) -> usize
     requires { (n ≤ e) × (e < length out.old) }
     ensures { Wrote out.old out.new e (padding (e - n)) × (result ≡ e + length (padding (e - n))) }
