@@ -21,10 +21,9 @@ use Rattle.faults.proofs.Exactly.{recovers_exactly}
 use Rattle.faults.proofs.Keeps.{kept_few, past_place}
 use Rattle.form_faults.specs.Form.{faults_bytes, faults_form}
 use Rattle.read_past.specs.Past.{ReadsPast}
-use Rattle.read_past.specs.declared.Past.{Past}
-use Rattle.read_past.specs.declared.Past.TheVariants.{Kept, Refused}
-use Rattle.line_memory.specs.Memory.{padded}
-use Rattle.line_memory.proofs.Copying.{padded_whole}
+use Rattle.read_fault.specs.Noting.{past_number}
+use Rattle.read_fault.specs.declared.PastError.{PastError}
+use Rattle.std.specs.Prelude.{Ok, Err}
 use Rattle.line_answer.specs.declared.Answer.{Answer}
 use Rattle.line_answer.specs.Replies.{reply}
 use Rattle.m7.specs.Recovering.{Mended, Recovering, Returned, of_recovering, recovers, sized_to_recover}
@@ -62,33 +61,28 @@ refusal_place s v bytes e = by v ((recovers_exactly s (refused v) bytes).0 e)
 pub zeros_lent : {z : List ℕ} {n : ℕ} → z ≡ replicate n 0 → length z ≡ n
 zeros_lent {n = n} e = ap length e ∙ length-replicate {A = ℕ} n 0
 
--- the answer r of reading a file s past its faults
-module _ (s made list : List ℕ) (r : Past) (given : ReadsPast s made list r) (bytes : Octets s) where
-  module _ {n : ℕ} (e : r ≡ Kept n) where
-    there : ReadsPast s made list (Kept n)
-    there = rw e at given
-
+-- a file s read past its faults
+module _ (s made list : List ℕ) (bytes : Octets s) where
+  module _ {n : ℕ} (there : ReadsPast s made list (Ok n)) where
     pub recover_few : n ≤ most_file_bytes
     recover_few = omega (arith, kept_few s there.0 there.1 bytes there.2, there.3)
 
-    pub recover_taken : (old : Mended) {a : Answer} {m : Mended} → length old.table ≡ table_bytes → length old.faults ≡ faults_bytes
-        → m.table ≡ padded made (length old.table) → m.faults ≡ padded list (length old.faults) → length made ≡ table_bytes → length list ≡ faults_bytes
+    pub recover_taken : (old : Mended) {a : Answer} {m : Mended} → length old.table ≡ table_bytes → length old.faults ≡ faults_bytes → m.table ≡ made → m.faults ≡ list
         → a ≡ reply 0 0 n → Returned (recovers s old) a m
     unfolding of_recovering
-    recover_taken old {a} {m} g h i j k l f =
-        let x : m.table ≡ form there.0 = padded_whole made (length old.table) (k ∙ sym g) i ∙ sym there.4 in
-        let y : m.faults ≡ faults_form there.1 = padded_whole list (length old.faults) (l ∙ sym h) j ∙ sym there.5 in
+    recover_taken old {a} {m} g h i j f =
+        let x : m.table ≡ form there.0 = i ∙ sym there.4 in
+        let y : m.faults ≡ faults_form there.1 = j ∙ sym there.5 in
         let z : m ≡ record { table = form there.0; faults = faults_form there.1 } = rw (← x, ← y) refl in
         returned (sized_recovers s old g h ∙ ap (of_recovering old) there.2) (f ∙ ap (reply 0 0) there.3) z
 
-  module _ {c q : ℕ} (e : r ≡ Refused c q) where
-    not_there : ReadsPast s made list (Refused c q)
-    not_there = rw e at given
+  module _ (e : PastError) (there : ReadsPast s made list (Err e)) where
+    pub recover_place_lem : e.place ≤ most_file_bytes
+    recover_place_lem = omega (arith, refusal_place s there.0 bytes there.1, there.3)
 
-    pub recover_place_lem : q ≤ most_file_bytes
-    recover_place_lem = omega (arith, refusal_place s not_there.0 bytes not_there.1, not_there.3)
-
-    pub recover_refused : (old : Mended) {a : Answer} → length old.table ≡ table_bytes → length old.faults ≡ faults_bytes → a ≡ reply c q 0 → Returned (recovers s old) a old
+    pub recover_refused : (old : Mended) {a : Answer} {c : ℕ} → length old.table ≡ table_bytes → length old.faults ≡ faults_bytes → c ≡ past_number e.fault → a ≡ reply c e.place 0
+        → Returned (recovers s old) a old
     unfolding of_recovering
-    recover_refused old g h f =
-        returned (sized_recovers s old g h ∙ ap (of_recovering old) not_there.1) (f ∙ (ap (λ (k : ℕ). reply k q 0) not_there.2 ∙ ap (λ (k : ℕ). reply (recover_number not_there.0) k 0) not_there.3)) refl
+    recover_refused old g h i f =
+        returned (sized_recovers s old g h ∙ ap (of_recovering old) there.1)
+        (f ∙ (ap (λ (k : ℕ). reply k e.place 0) (i ∙ there.2) ∙ ap (λ (k : ℕ). reply (recover_number there.0) k 0) there.3)) refl

@@ -29,17 +29,14 @@ use Rattle.form_state.specs.Form.{state_bytes, state_form}
 use Rattle.form_state.proofs.Held.{octets_of}
 use Rattle.read_scan.specs.Scan.{fault_of}
 use Rattle.read_file.specs.File.{Lent, Onto}
-use Rattle.read_scan.specs.declared.FileFault.{FileFault}
-use Rattle.read_file.specs.declared.Reading.{Reading}
-use Rattle.read_file.specs.declared.Reading.TheVariants.{Table as TableOf, Refused as NoTable}
+use Rattle.read_scan.specs.declared.ReadError.{ReadError}
 use Rattle.write_file.specs.Contract.{Reply, meaning, laid_out, SomeTable, WritesOut}
 use Rattle.write_file.specs.Contract.{reply as reply_of}
 use Rattle.write_file.specs.Contract.Reply.{size, refusal}
 use Rattle.write_file.specs.Slots.{Outcome, refusal_of, Holds}
 use Rattle.write_file.specs.declared.WriteError.{WriteError}
 use Rattle.std.specs.Prelude.{Ok, Err}
-use Rattle.line_memory.specs.Memory.{IsTable, padded}
-use Rattle.line_memory.proofs.Copying.{padded_whole}
+use Rattle.line_memory.specs.Memory.{IsTable}
 use Rattle.line_answer.specs.declared.Answer.{Answer}
 use Rattle.line_answer.specs.Replies.{reply}
 use Rattle.m7.specs.Contract.{Result, Gives, refuses, takes, of_reading, reads, of_writing, sized, Writes, freshens}
@@ -79,16 +76,12 @@ zero_lent e = record { itself = []; accepted = none_accepted; bytes = none_form 
 pub zeros_size : {z : List ℕ} → z ≡ replicate 98304 0 → length z ≡ table_bytes
 zeros_size e = ap length e ∙ length-replicate {A = ℕ} 98304 0
 
--- the copy
-pub copied : (made old : List ℕ) {b : List ℕ} → length made ≡ table_bytes → length old ≡ table_bytes → b ≡ padded made (length old) → b ≡ made
-copied made old g h e = padded_whole made (length old) (g ∙ sym h) e
-
--- the answer r of reading a file s onto the zero table
-module _ (s z made : List ℕ) (r : Reading) (zeros : z ≡ replicate 98304 0) (given : Onto s 0 z made r) where
+-- a file s read onto the zero table
+module _ (s z made : List ℕ) (zeros : z ≡ replicate 98304 0) where
   -- a table of n macros
-  module _ {n : ℕ} (e : r ≡ TableOf n) where
+  module _ {n : ℕ} (given : Onto s 0 z made (Ok n)) where
     onto : (ks : Table) × (read_onto [] s ≡ table ks) × (n ≡ length ks) × (form ks ≡ made)
-    onto = subst (Onto s 0 z made) e given [] none_accepted (none_form ∙ sym zeros) refl
+    onto = given [] none_accepted (none_form ∙ sym zeros) refl
 
     pub read_few : Octets s → n ≤ most_file_bytes
     read_few o = let k = (read_keeps [] s onto.0 none_accepted o onto.1).accepted.count in let f = onto.2 in omega arith
@@ -98,16 +91,16 @@ module _ (s z made : List ℕ) (r : Reading) (zeros : z ≡ replicate 98304 0) (
     read_taken old l f g = gives (reads_sized s old l ∙ ap (of_reading old) onto.1) (g ∙ ap (reply 0 0) onto.2) (f ∙ sym onto.3)
 
   -- a refusal with its place
-  module _ {f : FileFault} {q : ℕ} (e : r ≡ NoTable f q) where
-    not_read : read_onto [] s ≡ refused_at (fault_of f) q
-    not_read = (subst (Onto s 0 z made) e given [] none_accepted (none_form ∙ sym zeros) refl).0
+  module _ (e : ReadError) (given : Onto s 0 z made (Err e)) where
+    not_read : read_onto [] s ≡ refused_at (fault_of e.fault) e.place
+    not_read = (given [] none_accepted (none_form ∙ sym zeros) refl).0
 
-    pub read_place : q ≤ most_file_bytes
+    pub read_place : e.place ≤ most_file_bytes
     read_place = onto_place most_entry_bytes [] s not_read
 
-    pub read_refused : (old : List ℕ) {a : Answer} {k : ℕ} → length old ≡ table_bytes → k ≡ file_number (fault_of f) → a ≡ reply k q 0 → Gives (reads s old) a old
+    pub read_refused : (old : List ℕ) {a : Answer} {k : ℕ} → length old ≡ table_bytes → k ≡ file_number (fault_of e.fault) → a ≡ reply k e.place 0 → Gives (reads s old) a old
     unfolding read_file_by of_reading refuses number place
-    read_refused old l g h = gives (reads_sized s old l ∙ ap (of_reading old) not_read) (h ∙ ap (λ (k : ℕ). reply k q 0) g) refl
+    read_refused old l g h = gives (reads_sized s old l ∙ ap (of_reading old) not_read) (h ∙ ap (λ (k : ℕ). reply k e.place 0) g) refl
 
 -- a call that is answered with 0 has made a table
 pub not_zero : (f : FileRefusal) → file_number f ≡ 0 → ⊥

@@ -11,7 +11,7 @@ pub(crate) fn refusal(number: u32, place: usize) -> Answer
     ensures { result ≡ reply number place 0 }
 {
     Answer {
-        number: number,
+        number,
         place: place as u32,
         passes: 0,
         kind: 0,

@@ -3,12 +3,11 @@ ghost use Rattle.std.specs.Prelude.{◌≡◌, ◌≤◌};
 ghost use Rattle.macros.specs.Bounds.{most_file_bytes};
 ghost use Rattle.plans.specs.MeasureLaw.{Small};
 ghost use Rattle.plans.specs.Numbers.{plan, unread_plan, told, plan_of};
-ghost use Rattle.read_plan.specs.Measuring.{meant};
+ghost use Rattle.read_plan.specs.Measuring.{meant, took};
 
-use crate::write::writing_number;
 use plans::Plan;
-use read_plan::Numbers;
-use read_scan::file_number;
+use read_plan::Measures;
+use read_scan::ReadError;
 
 // What a macro file will take. No memory is lent, and no table is made.
 pub fn m7_measure(file: &[u8]) -> Plan
@@ -18,41 +17,38 @@ pub fn m7_measure(file: &[u8]) -> Plan
 }
 
 // What was measured, in numbers.
-fn in_numbers(m: Numbers) -> Plan
-    requires { Small (meant m) }
-    ensures { result ≡ told (meant m) }
+fn in_numbers(measured: Result<Measures, ReadError>) -> Plan
+    requires { Small (meant measured) }
+    ensures { result ≡ told (meant measured) }
 {
-    match m {
-        Numbers::Takes(n, e, t, size) => {
-            return read_to_end(n, e, t, size, 0, 0);
-        }
-        Numbers::Unwritten(n, e, t, f, p) => {
-            return read_to_end(n, e, t, 0, writing_number(f), p);
-        }
-        Numbers::Unread(f, p) => {
-            return unread(file_number(f), p);
-        }
+    match measured {
+        Ok(m) => read_to_end(m),
+        Err(e) => unread(u32::from(e.fault), e.place),
     }
 }
 
-// A file that reading takes: the bytes of the file written out, or number and place of the refusal.
-fn read_to_end(
-    macros: usize,
-    elements: usize,
-    tags: usize,
-    size: usize,
-    number: u32,
-    place: usize,
-) -> Plan
-    requires { (macros ≤ most_file_bytes) × (elements ≤ most_file_bytes) × (tags ≤ most_file_bytes) × (size ≤ most_file_bytes) × (place ≤ most_file_bytes) }
-    ensures { result ≡ plan 0 0 macros elements tags size number place }
+// A file that reading takes.
+fn read_to_end(m: Measures) -> Plan
+    requires { Small (took m) }
+    ensures { result ≡ told (took m) }
+{
+    match m.written {
+        Ok(size) => with_size(m, size, 0, 0),
+        Err(e) => with_size(m, 0, u32::from(e.fault), e.place),
+    }
+}
+
+// The bytes of the file written out, or number and place of the refusal, beside the other numbers.
+fn with_size(m: Measures, size: usize, number: u32, place: usize) -> Plan
+    requires { (m.macros ≤ most_file_bytes) × (m.elements ≤ most_file_bytes) × (m.tags ≤ most_file_bytes) × (size ≤ most_file_bytes) × (place ≤ most_file_bytes) }
+    ensures { result ≡ plan 0 0 m.macros m.elements m.tags size number place }
 {
     Plan {
         number: 0,
         place: 0,
-        macros: macros as u32,
-        elements: elements as u32,
-        tags: tags as u32,
+        macros: m.macros as u32,
+        elements: m.elements as u32,
+        tags: m.tags as u32,
         bytes: size as u32,
         write_number: number,
         write_place: place as u32,
@@ -65,7 +61,7 @@ fn unread(number: u32, place: usize) -> Plan
     ensures { result ≡ unread_plan number place }
 {
     Plan {
-        number: number,
+        number,
         place: place as u32,
         macros: 0,
         elements: 0,

@@ -6,10 +6,7 @@ ghost use Rattle.m7.specs.Contract.{Gives, reads};
 use crate::TABLE_BYTES;
 use crate::answers::{refusal, taken};
 use line_answer::Answer;
-use line_memory::lay_out;
-use read_file::Reading;
 use read_file::file::read_onto;
-use read_scan::file_number;
 
 // Reads a macro file as a new table, whatever the memory held. The length is the number of macros; a refusal leaves the memory as it was.
 pub fn m7_read(file: &[u8], table: &mut [u8]) -> Answer
@@ -27,14 +24,11 @@ fn read_new(file: &[u8], made: &mut [u8], table: &mut [u8]) -> Answer
     requires { (made.old ≡ replicate table_bytes 0) × (length table.old ≡ table_bytes) }
     ensures { Gives (reads file.now table.old) result table.new }
 {
-    let reading = read_onto(file, made, 0);
-    match reading {
-        Reading::Table(n) => {
-            lay_out(table, made);
-            return taken(n);
+    match read_onto(file, made, 0) {
+        Ok(n) => {
+            table.copy_from_slice(made);
+            taken(n)
         }
-        Reading::Refused(f, p) => {
-            return refusal(file_number(f), p);
-        }
+        Err(e) => refusal(u32::from(e.fault), e.place),
     }
 }

@@ -7,8 +7,6 @@ ghost use Rattle.m7.specs.Recovering.{Returned, recovers};
 use crate::answers::{refusal, taken};
 use crate::{FAULTS_BYTES, TABLE_BYTES};
 use line_answer::Answer;
-use line_memory::lay_out;
-use read_past::Past;
 use read_past::mend::read_past;
 
 // Reads a macro file past its faults, whatever the memories held: the table of the macros kept, and the list of the faults. The length is
@@ -38,15 +36,12 @@ fn recover_new(
     requires { (made.old ≡ replicate table_bytes 0) × (listed.old ≡ replicate faults_bytes 0) × (length table.old ≡ table_bytes) × (length faults.old ≡ faults_bytes) }
     ensures { Returned (recovers file.now (record { table = table.old; faults = faults.old })) result (record { table = table.new; faults = faults.new }) }
 {
-    let past = read_past(file, made, listed);
-    match past {
-        Past::Kept(n) => {
-            lay_out(table, made);
-            lay_out(faults, listed);
-            return taken(n);
+    match read_past(file, made, listed) {
+        Ok(n) => {
+            table.copy_from_slice(made);
+            faults.copy_from_slice(listed);
+            taken(n)
         }
-        Past::Refused(c, q) => {
-            return refusal(c, q);
-        }
+        Err(e) => refusal(u32::from(e.fault), e.place),
     }
 }

@@ -14,6 +14,10 @@ abbrev pub size_meant : Result ℕ WriteError → Size
 size_meant (Ok b) = bytes b
 size_meant (Err e) = unwritten (refusal_of e.fault) e.place
 
+-- a file that reading takes
+abbrev pub took : Measures → Measured
+took m = takes m.macros m.elements m.tags (size_meant m.written)
+
 abbrev pub meant : Result Measures ReadError → Measured
-meant (Ok m) = takes m.macros m.elements m.tags (size_meant m.written)
+meant (Ok m) = took m
 meant (Err e) = unread (fault_of e.fault) e.place

@@ -1,4 +1,3 @@
-use mathlib.Core.Path.{refl}
 use Rattle.line_answer.proofs.Laws.{no_place}
 use Rattle.m7.proofs.Results.{read_other}
 use Rattle.m7.proofs.read.m7_read.Goals as goal
@@ -8,12 +7,3 @@ refusal-requires c = no_place
 
 pub returns-then-table-ne-TABLE_BYTES : goal.returns-then-table-ne-TABLE_BYTES
 returns-then-table-ne-TABLE_BYTES c = read_other c.args.file.now c.args.table.now c.if-table-ne-TABLE_BYTES.true c.refusal.ensures
-
-pub read_new-requires : goal.read_new-requires
-read_new-requires c = (refl, c.if-table-ne-TABLE_BYTES.false)
-
-pub shape_of-table : goal.shape_of-table
-shape_of-table c = c.read_new.auto.table
-
-pub returns : goal.returns
-returns c = c.read_new.ensures

@@ -1,4 +1,3 @@
-use mathlib.Core.Path.{refl}
 use Rattle.line_answer.proofs.Laws.{no_place}
 use Rattle.m7.proofs.RecoverResults.{other_faults, other_table}
 use Rattle.m7.proofs.recover.m7_recover.Goals as goal
@@ -14,15 +13,3 @@ refusal-requires-then-faults-ne-FAULTS_BYTES c = no_place
 
 pub returns-then-faults-ne-FAULTS_BYTES : goal.returns-then-faults-ne-FAULTS_BYTES
 returns-then-faults-ne-FAULTS_BYTES c = let args = c.args in other_faults args.file.now (record { table = args.table.now; faults = args.faults.now }) c.refusal-then-faults-ne-FAULTS_BYTES.ensures c.if-table-ne-TABLE_BYTES.false c.if-faults-ne-FAULTS_BYTES.true
-
-pub recover_new-requires : goal.recover_new-requires
-recover_new-requires c = (refl, refl, c.if-table-ne-TABLE_BYTES.false, c.if-faults-ne-FAULTS_BYTES.false)
-
-pub shape_of-table : goal.shape_of-table
-shape_of-table c = c.recover_new.auto.table
-
-pub shape_of-faults : goal.shape_of-faults
-shape_of-faults c = c.recover_new.auto.faults
-
-pub returns : goal.returns
-returns c = c.recover_new.ensures
