@@ -130,6 +130,13 @@ begins_inside (c ∷ cs) (b ∷ bs) e = go (eqb c b) e (begins_inside cs bs)
     go true f ih = let h = ih f in omega arith
     go false f ih = absurd (let z : ◌≡◌ {A = ℕ} 0 1 = cc in omega arith)
 
+pub begins_short : (t s : List ℕ) → length s < length t → false ≡ begins t s
+begins_short t s l = go (begins t s) refl
+  where
+    go : (x : Bool) → begins t s ≡ x → false ≡ begins t s
+    go true e = absurd (let h = begins_inside t s e in omega arith)
+    go false e = sym e
+
 module _ (n : ℕ) (l : List ℕ) (p : ℕ) where
   pub number_few : n < 10 → (r : Option ℕ) → r ≡ led_to (begins ((48 + n) ∷ []) (drop p l)) (p + 1) → r ≡ led_to (begins (digits n) (drop p l)) (p + length (digits n))
   number_few lt r e = rw (digits_few n lt) e

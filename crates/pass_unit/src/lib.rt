@@ -114,7 +114,8 @@ fn text_at(text: &[u8], line: &[u8], p: usize) -> bool
     requires { p ≤ length line.now }
     ensures { result ≡ begins text.now (drop p line.now) }
 {
-    line[p..].starts_with(text)
+    let end = p + text.len();
+    end <= line.len() && text == &line[p..end]
 }
 
 // The place behind a digit that must stand at p.
