@@ -138,7 +138,9 @@ fn number_at(n: u32, line: &[u8], p: usize) -> Option<usize>
     if n < 10 {
         return digit_at(n, line, p);
     }
-    let q = number_at(n / 10, line, p)?;
+    let Some(q) = number_at(n / 10, line, p) else {
+        return None;
+    };
     digit_at(n % 10, line, q)
 }
 
