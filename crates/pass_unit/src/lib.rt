@@ -130,7 +130,7 @@ fn digit_at(n: u32, line: &[u8], p: usize) -> Option<usize>
     None
 }
 
-// The place behind the digits of n, which must stand at p: those before the last, and then the last.
+// The place behind the digits of n, which must stand at p: those before the last, and then the last. With `?` it is a tenth slower.
 fn number_at(n: u32, line: &[u8], p: usize) -> Option<usize>
     requires { p ≤ length line.now }
     ensures { result ≡ led_to (begins (digits n) (drop p line.now)) (p + length (digits n)) }
