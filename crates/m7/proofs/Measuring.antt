@@ -1,10 +1,8 @@
 -- What was measured, in numbers.
 -- Assumes nothing.
-use Prim.Native.Nat.{ℕ, ◌≤◌}
+use Prim.Native.Nat.{ℕ}
 use mathlib.Core.Path.{◌≡◌, ap, sym, ◌∙◌, subst}
 use mathlib.Core.List.{List}
-use native.Mathlib.Omega.{arith}
-use Rattle.macros.specs.Bounds.{most_file_bytes}
 use Rattle.macros.specs.Refusals.{file_number}
 use Rattle.macros.specs.Formed.{Octets}
 use Rattle.plans.specs.Measure.{measure}
@@ -19,26 +17,16 @@ use Rattle.write_file.specs.declared.WriteError.{WriteError}
 use Rattle.read_plan.specs.Measuring.{meant, took}
 use Rattle.read_plan.specs.declared.Measures.{Measures}
 
--- as many as the bytes of a file, at most
-abbrev pub FiveSmall : (n e t b p : ℕ) → Type 0
-FiveSmall n e t b p = (n ≤ most_file_bytes) × (e ≤ most_file_bytes) × (t ≤ most_file_bytes) × (b ≤ most_file_bytes) × (p ≤ most_file_bytes)
-
 abbrev as_written : Measures → Result ℕ WriteError → Measures
 as_written m w = record { macros = m.macros; elements = m.elements; tags = m.tags; written = w }
 
 module _ {m : Measures} where
   module _ {b : ℕ} (i : m.written ≡ Ok b) where
-    pub small_written : Small (took m) → FiveSmall m.macros m.elements m.tags b 0
-    small_written s = let z : Small (took (as_written m (Ok b))) = rw i at s in (omega (arith, z.0), omega (arith, z.1), omega (arith, z.2), z.3, omega arith)
-
     pub told_written : {r : Plan} → r ≡ plan 0 0 m.macros m.elements m.tags b 0 0 → r ≡ told (took m)
     unfolding told sized_plan
     told_written g = g ∙ ap (λ (w : Result ℕ WriteError). told (took (as_written m w))) (sym i)
 
   module _ {e : WriteError} (i : m.written ≡ Err e) where
-    pub small_unwritten : Small (took m) → FiveSmall m.macros m.elements m.tags 0 e.place
-    small_unwritten s = let z : Small (took (as_written m (Err e))) = rw i at s in (omega (arith, z.0), omega (arith, z.1), omega (arith, z.2), omega arith, z.3)
-
     pub told_unwritten : {r : Plan} {k : ℕ} → k ≡ file_number (refusal_of e.fault) → r ≡ plan 0 0 m.macros m.elements m.tags 0 k e.place → r ≡ told (took m)
     unfolding told sized_plan
     told_unwritten j g =

@@ -5,7 +5,7 @@ use mathlib.Core.Bool.{false}
 use mathlib.Core.List.{List}
 use native.Mathlib.Omega.{arith}
 use borrow.Author.Tests.{eq-eqb, ne_eqb}
-use lib.ListN.{length, length-replicate, replicate}
+use lib.ListN.{length}
 use Rattle.macros.specs.Bounds.{most_file_bytes, most_entry_bytes}
 use Rattle.macros.specs.Refusals.{number, place, host_number}
 use Rattle.macros.specs.Macro.{pick}
@@ -57,9 +57,6 @@ refusal_place s v bytes e = by v ((recovers_exactly s (refused v) bytes).0 e)
     by : (u : RecoverRefusal) → Recovers s (refused u) → recover_place u ≤ most_file_bytes
     by u (refused_whole l f) = unfold recover_place read_file_by in onto_place most_entry_bytes _ s f
     by u (past g x) = omega (arith, past_place s g (omega arith) x, g.0)
-
-pub zeros_lent : {z : List ℕ} {n : ℕ} → z ≡ replicate n 0 → length z ≡ n
-zeros_lent {n = n} e = ap length e ∙ length-replicate {A = ℕ} n 0
 
 -- a file s read past its faults
 module _ (s made list : List ℕ) (bytes : Octets s) where

@@ -8,7 +8,7 @@ use borrow.Author.Tests.{eq-eqb, ne_eqb}
 use mir.Syntax.{w8}
 use mir.Val.{Fits}
 use lib.Dec.{eqb}
-use lib.ListN.{length, get_or, replicate, length-replicate}
+use lib.ListN.{length, get_or, replicate}
 use Rattle.macros.specs.Bounds.{most_file_bytes, most_macros, most_entry_bytes}
 use Rattle.macros.specs.Refusals.{FileRefusal, number, place, host_number, file_number}
 use Rattle.macros.specs.Refusals.FileRefusal.{file_too_long, zero_byte, incomplete, bad_class, no_unit, bad_brace, bad_call, no_element, macro_too_long, too_many_macros}
@@ -49,9 +49,6 @@ gives e f g = record { answers = f ∙ sym (ap (λ (x : Result). x.answer) e); h
 pub octets_given : (t : List ℕ) → ((i : ℕ) → Fits w8 (get_or t i 0)) → Octets t
 octets_given t h = octets_of t (λ i. omega (arith, h i))
 
-pub same_fits : {n m k : ℕ} → n ≡ k → m ≡ k → n ≤ m
-same_fits e f = omega arith
-
 -- READING
 
 -- a table without macros is accepted, and its form is zeros
@@ -72,9 +69,6 @@ read_other s old h e = let f : eqb (length old) table_bytes ≡ false = ne_eqb _
 
 pub zero_lent : {z : List ℕ} → z ≡ replicate 98304 0 → Lent z 0
 zero_lent e = record { itself = []; accepted = none_accepted; bytes = none_form ∙ sym e; counted = refl }
-
-pub zeros_size : {z : List ℕ} → z ≡ replicate 98304 0 → length z ≡ table_bytes
-zeros_size e = ap length e ∙ length-replicate {A = ℕ} 98304 0
 
 -- a file s read onto the zero table
 module _ (s z made : List ℕ) (zeros : z ≡ replicate 98304 0) where
