@@ -1,4 +1,4 @@
-// A replacement, the commands or the calls before a pattern written out, from their items.
+// A replacement, the commands or the calls before a pattern written out or counted, from their items.
 #![tactic(auto)]
 
 ghost use Rattle.std.specs.Prelude.{◌≡◌, [], ◌∷◌, ◌++◌, ◌≤◌, ltb, length, get_or};
@@ -11,7 +11,7 @@ ghost use Rattle.write_actions.specs.Items.{name_text, number_sign, call_byte, o
 use form_bytes::number_at;
 use form_items::action_size;
 use form_marks::is_text_mark;
-use write_put::{Short, count, count_number, decimal, marked, put, put_number};
+use write_put::{Counter, InFile, Short, Sink, add_number, decimal, marked};
 
 // A letter with the sign that the call's code asks for, and a byte behind it.
 fn name(code: u8, letter: u8, close: u8) -> Short
@@ -34,13 +34,13 @@ fn literal(b: u8) -> Short
 }
 
 // A call's text.
-fn put_text(file: &mut [u8], first: usize, text: &[u8]) -> usize
-    requires { length file.old ≤ 32768 }
-    ensures { Puts first (write_text text.now) file.old file.new result }
+fn add_text<S: Sink>(sink: &mut S, first: usize, text: &[u8]) -> usize
+    requires { S.fits sink.old }
+    ensures { S.adds first (write_text text.now) sink.old sink.new result }
 {
     let mut n = first;
     for b in text {
-        n = put(file, n, literal(*b));
+        n = sink.add(n, literal(*b));
     }
     n
 }
@@ -68,17 +68,17 @@ fn first(code: u8, letter: u8, tag: u8) -> Short
 }
 
 // What stands between the first and the last: nothing, the text or the number.
-fn put_middle(file: &mut [u8], n: usize, t: &[u8]) -> usize
-    requires { (length file.old ≤ 32768) × (64 ≤ get_or t.now 0 0) × Held t.now }
-    ensures { Puts n (middle_text t.now) file.old file.new result }
+fn add_middle<S: Sink>(sink: &mut S, n: usize, t: &[u8]) -> usize
+    requires { (S.fits sink.old) × (64 ≤ get_or t.now 0 0) × Held t.now }
+    ensures { S.adds n (middle_text t.now) sink.old sink.new result }
 {
     match t[0] {
         ..72 => n,
         72..80 => {
             let end = 4 + usize::from(t[3]);
-            put_text(file, n, &t[4..end])
+            add_text(sink, n, &t[4..end])
         }
-        _ => put_number(file, n, number_at(t, 2)),
+        _ => add_number(sink, n, number_at(t, 2)),
     }
 }
 
@@ -94,15 +94,15 @@ fn last(code: u8, letter: u8) -> Short
 }
 
 // What stands behind the `(` of a call that stores, sets or divides.
-fn put_call(file: &mut [u8], n: usize, t: &[u8]) -> usize
-    requires { (length file.old ≤ 32768) × (64 ≤ get_or t.now 0 0) × Held t.now }
-    ensures { Puts n (call_text t.now) file.old file.new result }
+fn add_call<S: Sink>(sink: &mut S, n: usize, t: &[u8]) -> usize
+    requires { (S.fits sink.old) × (64 ≤ get_or t.now 0 0) × Held t.now }
+    ensures { S.adds n (call_text t.now) sink.old sink.new result }
 {
     let code = t[0];
     let letter = t[1];
-    let a = put(file, n, first(code, letter, t[3]));
-    let b = put_middle(file, a, t);
-    put(file, b, last(code, letter))
+    let a = sink.add(n, first(code, letter, t[3]));
+    let b = add_middle(sink, a, t);
+    sink.add(b, last(code, letter))
 }
 
 fn call_byte(code: u8) -> u8
@@ -139,97 +139,46 @@ fn ending(code: u8, b: u8) -> Short
 }
 
 // A literal, `{n}` or a call.
-fn put_action(file: &mut [u8], n: usize, t: &[u8]) -> usize
-    requires { (length file.old ≤ 32768) × Held t.now }
-    ensures { Puts n (action_text t.now) file.old file.new result }
+fn add_action<S: Sink>(sink: &mut S, n: usize, t: &[u8]) -> usize
+    requires { (S.fits sink.old) × Held t.now }
+    ensures { S.adds n (action_text t.now) sink.old sink.new result }
 {
     let code = t[0];
     let b = t[1];
-    let m = put(file, n, opening(code, b));
+    let m = sink.add(n, opening(code, b));
     if code < 64 {
-        return put(file, m, ending(code, b));
+        return sink.add(m, ending(code, b));
     }
-    put_call(file, m, t)
+    add_call(sink, m, t)
 }
 
 // The actions of a replacement, the commands, or the calls before a pattern.
+fn add_actions<S: Sink>(sink: &mut S, start: usize, items: &[u8]) -> usize
+    requires { (S.fits sink.old) × Whole items.now }
+    ensures { S.adds start (actions_text 0 items.now) sink.old sink.new result }
+{
+    let mut n = start;
+    let mut rest = items;
+    while !rest.is_empty() {
+        n = add_action(sink, n, rest);
+        rest = &rest[action_size(rest)..];
+    }
+    n
+}
+
+// Puts the actions into the file.
 pub fn put_actions(file: &mut [u8], start: usize, items: &[u8]) -> usize
     requires { (length file.old ≤ 32768) × Whole items.now }
     ensures { Puts start (actions_text 0 items.now) file.old file.new result }
 {
-    let mut n = start;
-    let mut rest = items;
-    while !rest.is_empty() {
-        n = put_action(file, n, rest);
-        rest = &rest[action_size(rest)..];
-    }
-    n
+    let mut sink = InFile { file };
+    add_actions(&mut sink, start, items)
 }
 
-// COUNTING, without a file
-
-// Counts the bytes of a call's text.
-fn count_text(first: usize, text: &[u8]) -> usize
-    ensures { Counts first (write_text text.now) result }
-{
-    let mut n = first;
-    for b in text {
-        n = count(n, literal(*b));
-    }
-    n
-}
-
-// Counts what stands between the first and the last.
-fn count_middle(n: usize, t: &[u8]) -> usize
-    requires { (64 ≤ get_or t.now 0 0) × Held t.now }
-    ensures { Counts n (middle_text t.now) result }
-{
-    match t[0] {
-        ..72 => n,
-        72..80 => {
-            let end = 4 + usize::from(t[3]);
-            count_text(n, &t[4..end])
-        }
-        _ => count_number(n, number_at(t, 2)),
-    }
-}
-
-// Counts what stands behind the `(` of a call that stores, sets or divides.
-fn count_call(n: usize, t: &[u8]) -> usize
-    requires { (64 ≤ get_or t.now 0 0) × Held t.now }
-    ensures { Counts n (call_text t.now) result }
-{
-    let code = t[0];
-    let letter = t[1];
-    let a = count(n, first(code, letter, t[3]));
-    let b = count_middle(a, t);
-    count(b, last(code, letter))
-}
-
-// Counts a literal, `{n}` or a call.
-fn count_action(n: usize, t: &[u8]) -> usize
-    requires { Held t.now }
-    ensures { Counts n (action_text t.now) result }
-{
-    let code = t[0];
-    let b = t[1];
-    let m = count(n, opening(code, b));
-    if code < 64 {
-        return count(m, ending(code, b));
-    }
-    count_call(m, t)
-}
-
-// Counts the actions of a replacement, the commands, or the calls before a pattern.
+// Counts the bytes of the actions, without a file.
 pub fn count_actions(start: usize, items: &[u8]) -> usize
     requires { Whole items.now }
     ensures { Counts start (actions_text 0 items.now) result }
 {
-    let mut n = start;
-    let mut rest = items;
-    while !rest.is_empty() {
-        n = count_action(n, rest);
-        rest = &rest[action_size(rest)..];
-    }
-    n
+    add_actions(&mut Counter, start, items)
 }

@@ -2,9 +2,10 @@
 // A number of bytes past the file's end says that they do not all fit: it is handed on, and no more is put.
 #![tactic(auto)]
 
-ghost use Rattle.std.specs.Prelude.{◌≡◌, [], ◌∷◌, ◌++◌, ◌+◌, ◌≤◌, ◌<◌, length, take};
+ghost use Rattle.std.specs.Prelude.{◌≡◌, ℕ, List, [], ◌∷◌, ◌++◌, ◌+◌, ◌≤◌, ◌<◌, length, take};
 ghost use Rattle.macros.specs.Write.{byte, digits};
 ghost use Rattle.write_put.specs.Puts.{short_text, Ends, Puts, Counts};
+ghost use Rattle.write_put.specs.Sinks.{SinkLaws, room_fits, puts_into, file_laws, can_count, counts_from, counter_laws};
 
 // Up to four bytes.
 #[derive(Clone, Copy, Debug, PartialEq, Eq)]
@@ -102,19 +103,75 @@ fn figure(v: u32) -> u8
     b'0' + v as u8
 }
 
-// Puts a number without leading zeros: the digits before the last first, a call for each.
+// Where the bytes of a macro go: into the file, or only into their count.
+pub trait Sink {
+    // That bytes can be added.
+    ghost fits: { Self → Type 0 };
+
+    // The bytes are added behind the first n, and end at the last number.
+    ghost adds: { ℕ → List ℕ → Self → Self → ℕ → Type 0 };
+
+    fn add(&mut self, n: usize, s: Short) -> usize
+        requires { fits self.old }
+        ensures { adds n (short_text s) self.old self.new result };
+
+    ghost laws: { SinkLaws fits adds };
+}
+
+// The file that the bytes are put into, of at most 32,768 bytes.
+#[derive(Drop)]
+pub struct InFile<'a> {
+    pub file: &'a mut [u8],
+}
+
+impl Sink for InFile<'_> {
+    ghost fits = { room_fits };
+
+    ghost adds = { puts_into };
+
+    ghost laws = { file_laws };
+
+    fn add(&mut self, n: usize, s: Short) -> usize {
+        put(self.file, n, s)
+    }
+}
+
+// No file: more bytes than a macro may have are handed on as a number past 512.
+#[derive(Clone, Copy, Debug, PartialEq, Eq)]
+pub struct Counter;
+
+impl Sink for Counter {
+    ghost fits = { can_count };
+
+    ghost adds = { counts_from };
+
+    ghost laws = { counter_laws };
+
+    fn add(&mut self, n: usize, s: Short) -> usize {
+        count(n, s)
+    }
+}
+
+// Adds a number without leading zeros: the digits before the last first, a call for each.
+pub fn add_number<S: Sink>(sink: &mut S, n: usize, v: u32) -> usize
+    requires { S.fits sink.old }
+    ensures { S.adds n (digits v) sink.old sink.new result }
+{
+    if v < 10 {
+        return sink.add(n, Short::One(figure(v)));
+    }
+    let m = add_number(sink, n, v / 10);
+    sink.add(m, Short::One(figure(v % 10)))
+}
+
+// Puts a number into the file.
 pub fn put_number(file: &mut [u8], n: usize, v: u32) -> usize
     requires { length file.old ≤ 32768 }
     ensures { Puts n (digits v) file.old file.new result }
 {
-    if v < 10 {
-        return put(file, n, Short::One(figure(v)));
-    }
-    let m = put_number(file, n, v / 10);
-    put(file, m, Short::One(figure(v % 10)))
+    let mut sink = InFile { file };
+    add_number(&mut sink, n, v)
 }
-
-// COUNTING, without a file: more bytes than a macro may have are handed on as a number past 512
 
 // Counts bytes of a macro behind its first n.
 pub fn count(n: usize, s: Short) -> usize
@@ -127,9 +184,5 @@ pub fn count(n: usize, s: Short) -> usize
 pub fn count_number(n: usize, v: u32) -> usize
     ensures { Counts n (digits v) result }
 {
-    if v < 10 {
-        return count(n, Short::One(0));
-    }
-    let m = count_number(n, v / 10);
-    count(m, Short::One(0))
+    add_number(&mut Counter, n, v)
 }
