@@ -1,5 +1,5 @@
 -- What feeding a line says, taken to the result of m7_feed.
-use Prim.Native.Nat.{ℕ, ◌≤◌, ◌<◌}
+use Prim.Native.Nat.{ℕ}
 use mathlib.Core.Path.{◌≡◌, refl, sym, ap, ◌∙◌}
 use mathlib.Core.Bool.{Bool, true, false, ◌&&◌}
 use mathlib.Core.List.{List, []}
@@ -7,6 +7,7 @@ use native.Mathlib.Omega.{arith}
 use borrow.Author.Tests.{eq-eqb, ne_eqb, eqb-true}
 use lib.Dec.{eqb}
 use lib.ListN.{length}
+use Rattle.std.specs.Prelude.{Result, Ok, Err, Option, Some, None}
 use Rattle.macros.specs.Bounds.{most_line_bytes, most_trace_bytes}
 use Rattle.macros.specs.Refusals.{number, host_number}
 use Rattle.macros.specs.Macro.{Table, pick}
@@ -23,12 +24,13 @@ use Rattle.form_state.specs.Form.{state_bytes}
 use Rattle.form_state.specs.Check.{state_checks}
 use Rattle.form_state.proofs.Decode.{state_check_exact}
 use Rattle.form_state.proofs.Held.{passed_is, is_long_lem}
-use Rattle.line_memory.specs.Memory.{Memories, Feeding, IsTable}
+use Rattle.line_memory.specs.Memory.{Memories, IsTable}
 use Rattle.line_feed.specs.Contract.{Untraced, Lent, Answers}
 use Rattle.line_answer.specs.Fed.{kind_of, passes_of, size_of}
 use Rattle.line_feed.specs.Contract.{Feeds as FeedsLine}
 use Rattle.line_answer.specs.declared.Fed.{Fed}
-use Rattle.line_answer.specs.declared.Fed.TheVariants.{Out, Withheld, Control, Refused}
+use Rattle.line_answer.specs.declared.LineError.{LineError}
+use Rattle.line_answer.specs.declared.Fed.TheVariants.{Out, Withheld, Control}
 use Rattle.line_answer.specs.declared.Answer.{Answer}
 use Rattle.line_answer.specs.Replies.{reply, line_reply, told, Small}
 use Rattle.m7.specs.Feeding.{Call, answer_of, sized_to_feed, Feeds}
@@ -38,24 +40,24 @@ use Rattle.m7.proofs.FeedBounds.{feed_place, feed_passes}
 -- THE ANSWER IN NUMBERS
 
 -- the same whatever the output holds
-abbrev told_of : Fed → List ℕ → Answer
+abbrev told_of : Result Fed LineError → List ℕ → Answer
 told_of r o = line_reply (number_of (kind_of r o)) (place_of (kind_of r o)) (passes_of r) (kind_number (kind_of r o)) (size_of r)
 
-told_any : (r : Fed) (o : List ℕ) → told r ≡ told_of r o
+told_any : (r : Result Fed LineError) (o : List ℕ) → told r ≡ told_of r o
 unfolding told number_of place_of kind_number
-told_any (Out p n) o = refl
-told_any (Withheld p) o = refl
-told_any (Control p) o = refl
-told_any (Refused w p) o = refl
+told_any (Ok (Out p n)) o = refl
+told_any (Ok (Withheld p)) o = refl
+told_any (Ok (Control p)) o = refl
+told_any (Err w) o = refl
 
-place_any : (r : Fed) (o : List ℕ) → place_of (kind_of r []) ≡ place_of (kind_of r o)
+place_any : (r : Result Fed LineError) (o : List ℕ) → place_of (kind_of r []) ≡ place_of (kind_of r o)
 unfolding place_of
-place_any (Out p n) o = refl
-place_any (Withheld p) o = refl
-place_any (Control p) o = refl
-place_any (Refused w p) o = refl
+place_any (Ok (Out p n)) o = refl
+place_any (Ok (Withheld p)) o = refl
+place_any (Ok (Control p)) o = refl
+place_any (Err w) o = refl
 
-module _ {a : Answered} {m m' : Untraced} {r : Fed} (h : Answers a m m' r) where
+module _ {a : Answered} {m m' : Untraced} {r : Result Fed LineError} (h : Answers a m m' r) where
   told_is : told r ≡ answer_of a
   unfolding answer_of
   told_is =
@@ -140,7 +142,7 @@ module _ (sent : Sent) (m : Memories) where
         lends = record { own = record { table = some_table; state = passed_is m.state ob v; room = room }; room = trace_room }
 
   -- a line that is fed to a table and a state: none of the host's refusals is due
-  module _ (l : Lent m) {m' : Memories} {r : Fed} (w : FeedsLine (record { sent = sent; lent = m; left = m' }) r) where
+  module _ (l : Lent m) {m' : Memories} {r : Result Fed LineError} (w : FeedsLine (record { sent = sent; lent = m; left = m' }) r) where
     pub small : Octets sent.line → Small r
     small ol =
         let s = l.own.table in
@@ -172,35 +174,35 @@ module _ (sent : Sent) (m : Memories) where
         }
 
   -- which refusal is due
-  module _ {r : ℕ} (e : r ≡ host_refusal m) (ot : Octets m.table) (ob : Octets m.state) where
-    pub refused_first : 0 < r → {a : Answer} → a ≡ reply r 0 0 → Feeds (same a)
+  module _ (ot : Octets m.table) (ob : Octets m.state) where
+    pub refused_first : {r : ℕ} → Some r ≡ host_refusal m → {a : Answer} → a ≡ reply r 0 0 → Feeds (same a)
     unfolding host_refusal first_due pick
-    refused_first h {a} f = by (sized_to_feed m) refl (checks m.table) refl (state_checks m.state) refl
+    refused_first {r} e {a} f = by (sized_to_feed m) refl (checks m.table) refl (state_checks m.state) refl
       where
         told₂ : (k : ℕ) → r ≡ k → a ≡ reply k 0 0
         told₂ k q = f ∙ ap (λ (x : ℕ). reply x 0 0) q
 
         by : (x : Bool) → sized_to_feed m ≡ x → (y : Bool) → checks m.table ≡ y → (z : Bool) → state_checks m.state ≡ z → Feeds (same a)
-        by false p y q z s = other p (told₂ 3 (e ∙ rw p refl))
-        by true p false q z s = no_table_lem p ot q (told₂ 1 (e ∙ rw (p, q) refl))
-        by true p true q false s = no_state_lem p ot q ob s (told₂ 2 (e ∙ rw (p, q, s) refl))
-        by true p true q true s = absurd (let w : r ≡ 0 = e ∙ rw (p, q, s) refl in omega arith)
+        by false p y q z s = other p (told₂ 3 (let w : Some r ≡ Some 3 = e ∙ rw p refl in cc))
+        by true p false q z s = no_table_lem p ot q (told₂ 1 (let w : Some r ≡ Some 1 = e ∙ rw (p, q) refl in cc))
+        by true p true q false s = no_state_lem p ot q ob s (told₂ 2 (let w : Some r ≡ Some 2 = e ∙ rw (p, q, s) refl in cc))
+        by true p true q true s = let w : Some r ≡ None = e ∙ rw (p, q, s) refl in cc
 
-    module _ (h : r ≤ 0) where
+    module _ (e : None ≡ host_refusal m) where
       none_due : Tests m true true true
       unfolding host_refusal first_due pick
       none_due = by (sized_to_feed m) refl (checks m.table) refl (state_checks m.state) refl
         where
           by : (x : Bool) → sized_to_feed m ≡ x → (y : Bool) → checks m.table ≡ y → (z : Bool) → state_checks m.state ≡ z → Tests m true true true
-          by false p y q z s = absurd (let w : r ≡ 3 = e ∙ rw p refl in omega arith)
-          by true p false q z s = absurd (let w : r ≡ 1 = e ∙ rw (p, q) refl in omega arith)
-          by true p true q false s = absurd (let w : r ≡ 2 = e ∙ rw (p, q, s) refl in omega arith)
+          by false p y q z s = let w : ◌≡◌ {A = Option ℕ} None (Some 3) = e ∙ rw p refl in cc
+          by true p false q z s = let w : ◌≡◌ {A = Option ℕ} None (Some 1) = e ∙ rw (p, q) refl in cc
+          by true p true q false s = let w : ◌≡◌ {A = Option ℕ} None (Some 2) = e ∙ rw (p, q, s) refl in cc
           by true p true q true s = record { sizes = p; tables = q; states = s }
 
       pub lent : Lent m
       lent = let z = none_due in lends z.sizes ot z.tables ob z.states
 
-      module _ {m' : Memories} {f : Fed} (w : FeedsLine (record { sent = sent; lent = m; left = m' }) f) where
+      module _ {m' : Memories} {f : Result Fed LineError} (w : FeedsLine (record { sent = sent; lent = m; left = m' }) f) where
         pub is_small : Octets sent.line → Small f
         is_small ol = small lent w ol
 
@@ -231,25 +233,25 @@ module _ (m : Memories) where
 -- THE REFUSALS BEFORE A LINE
 
 module _ {sized : Bool} (table state : Bool) where
-  pub due_size : sized ≡ false → 3 ≡ first_due sized table state
+  pub due_size : sized ≡ false → Some 3 ≡ first_due sized table state
   unfolding first_due pick
   due_size e = rw e refl
 
 module _ {sized table : Bool} (state : Bool) (e : sized ≡ true) where
-  pub due_table : table ≡ false → 1 ≡ first_due sized table state
+  pub due_table : table ≡ false → Some 1 ≡ first_due sized table state
   unfolding first_due pick
   due_table f = rw (e, f) refl
 
 module _ {sized table state : Bool} (e : sized ≡ true) (f : table ≡ true) where
-  pub due_state : state ≡ false → 2 ≡ first_due sized table state
+  pub due_state : state ≡ false → Some 2 ≡ first_due sized table state
   unfolding first_due pick
   due_state g = rw (e, f, g) refl
 
-  pub due_none : state ≡ true → 0 ≡ first_due sized table state
+  pub due_none : state ≡ true → None ≡ first_due sized table state
   unfolding first_due pick
   due_none g = rw (e, f, g) refl
 
-pub hosts : (m : Memories) {sized table state : Bool} {r : ℕ}
+pub hosts : (m : Memories) {sized table state : Bool} {r : Option ℕ}
     → sized ≡ sized_to_feed m → table ≡ checks m.table → state ≡ state_checks m.state → r ≡ first_due sized table state → r ≡ host_refusal m
 unfolding host_refusal
 hosts m {sized} {table} {state} e f g h =

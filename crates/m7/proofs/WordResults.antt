@@ -1,6 +1,6 @@
 -- The answers of m7_words, by what looking up comes to.
 -- Assumes nothing.
-use mathlib.Core.Path.{◌≡◌, refl, sym, ap, ◌∙◌}
+use mathlib.Core.Path.{◌≡◌, refl, ap, ◌∙◌}
 use Prim.Native.Nat.{ℕ}
 use mathlib.Core.List.{List}
 use Rattle.std.specs.Prelude.{Result, Ok, Err}
@@ -24,9 +24,9 @@ module _ (t p : List ℕ) where
   fault_alone BadByte = refl
   fault_alone BadPattern = refl
 
-  pub words_refused : {w : WordFault} → looked_of (Err w) ≡ look_up t p → {n : ℕ} → n ≡ looked_number (looked_of (Err w)) → {r : Answer} → r ≡ reply n 0 0 → r ≡ looks_up t p
-  words_refused {w} e f g = g ∙ (ap (λ (k : ℕ). reply k 0 0) f ∙ (fault_alone w ∙ looked (Err w) e))
+  pub words_refused : (w : WordFault) → looked_of (Err w) ≡ look_up t p → {n : ℕ} → n ≡ looked_number (looked_of (Err w)) → {r : Answer} → r ≡ reply n 0 0 → r ≡ looks_up t p
+  words_refused w e f g = g ∙ (ap (λ (k : ℕ). reply k 0 0) f ∙ (fault_alone w ∙ looked (Err w) e))
 
-  pub words_found : {f : Found} → looked_of (Ok f) ≡ look_up t p → {r : Answer} → r ≡ reply 0 f.first f.words → r ≡ looks_up t p
+  pub words_found : (f : Found) → looked_of (Ok f) ≡ look_up t p → {r : Answer} → r ≡ reply 0 f.first f.words → r ≡ looks_up t p
   unfolding words_reply looked_number looked_words looked_place
-  words_found {f} e g = g ∙ looked (Ok f) e
+  words_found f e g = g ∙ looked (Ok f) e

@@ -19,8 +19,7 @@ pub fn m7_feed(
 ) -> Answer
     ensures { Feeds (record { feeding = record { sent = record { line = line.now; budget = budget }; lent = record { table = table.old; state = state.old; output = output.old; trace = trace.old }; left = record { table = table.new; state = state.new; output = output.new; trace = trace.new } }; answer = result }) }
 {
-    let number = host_refusal(table, state, output, trace);
-    if 0 < number {
+    if let Some(number) = host_refusal(table, state, output, trace) {
         return refusal(number, 0);
     }
     let fed = line_feed::feed(table, state, line, budget, output, trace);
@@ -43,24 +42,24 @@ fn are_sized(table: &[u8], state: &[u8], output: &[u8], trace: &[u8]) -> bool
     trace.len() == TRACE_BYTES
 }
 
-// "The host, first": 3, then 1, then 2; or 0 if none of these is due.
-fn first_due(sized: bool, table: bool, state: bool) -> u32
+// "The host, first": 3, then 1, then 2.
+fn first_due(sized: bool, table: bool, state: bool) -> Option<u32>
     ensures { result ≡ first_due sized table state }
 {
     if !sized {
-        return 3;
+        return Some(3);
     }
     if !table {
-        return 1;
+        return Some(1);
     }
     if !state {
-        return 2;
+        return Some(2);
     }
-    0
+    None
 }
 
-// The number with which the memories are refused before a line is fed, or 0.
-fn host_refusal(table: &[u8], state: &[u8], output: &[u8], trace: &[u8]) -> u32
+// The number with which the memories are refused before a line is fed.
+fn host_refusal(table: &[u8], state: &[u8], output: &[u8], trace: &[u8]) -> Option<u32>
     ensures { result ≡ host_refusal (record { table = table.now; state = state.now; output = output.now; trace = trace.now }) }
 {
     let sized = are_sized(table, state, output, trace);
