@@ -16,9 +16,8 @@ use Rattle.m7.specs.Contract.{Gives, reads}
 use Rattle.m7.specs.Feeding.{Feeds}
 use Rattle.m7.proofs.Results.{read_is_table}
 use Rattle.m7.proofs.FeedResults.{lent_sized}
-use Rattle.program.specs.declared.parts.Parts.{Parts}
-use Rattle.program.specs.declared.parts.Parts.TheVariants.{Table}
-use Rattle.program.specs.Parts.{parts_of}
+use Rattle.std.specs.Prelude.{Ok}
+use Rattle.program.specs.Parts.{Parts, parts_of}
 use Rattle.program.specs.Held.{Sound, Ready}
 
 -- the file
@@ -30,7 +29,7 @@ ready file old {new = new} {answer = answer} o l g = by answer.number refl
     by zero e = read_is_table file old o e l g
     by (suc n) e = tt
 
-pub is_ready : {parts : Parts} {table : List ℕ} → parts ≡ Table → Ready parts table → SomeTable table
+pub is_ready : {parts : Parts} {table : List ℕ} → parts ≡ Ok tt → Ready parts table → SomeTable table
 unfolding Ready
 is_ready {table = table} e r = subst (λ (p : Parts). Ready p table) e r
 

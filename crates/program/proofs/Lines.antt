@@ -13,9 +13,10 @@ use Rattle.form_state.specs.Form.{state_form}
 use Rattle.line_answer.specs.declared.Answer.{Answer}
 use Rattle.m7.specs.Contract.{Gives, freshens, takes}
 use Rattle.macros.specs.Macro.{pick}
-use Rattle.program.specs.declared.parts.Parts.{Parts}
-use Rattle.program.specs.declared.parts.Parts.TheVariants.{Table, Refused}
-use Rattle.program.specs.Parts.{FileRead, Refuses, PartsRead, parts_of}
+use Rattle.std.specs.Prelude.{Ok, Err}
+use Rattle.program.specs.declared.parts.PartsError.{PartsError}
+use Rattle.program.specs.declared.parts.PartsError.TheVariants.{Refused}
+use Rattle.program.specs.Parts.{Parts, FileRead, Refuses, PartsRead, parts_of, said_number}
 use Rattle.program.specs.Said.{RefusalSaid}
 use Rattle.program.specs.Lines.{Standing, Answered, Session, starting, LinesDone, FreshLines}
 use Rattle.program.specs.Lines.Session.{none, next}
@@ -69,12 +70,12 @@ unfolding parts_of PartsRead Refuses
 file_parts zero h = h
 file_parts (suc n) h = h
 
-pub parts_table : (n : ℕ) → n < 1 → Table ≡ parts_of n
+pub parts_table : (n : ℕ) → n < 1 → Ok tt ≡ parts_of n
 unfolding parts_of
 parts_table zero h = refl
 parts_table (suc n) h = absurd (omega arith)
 
-pub parts_refused : (n : ℕ) → 1 ≤ n → Refused n ≡ parts_of n
+pub parts_refused : (n : ℕ) → 1 ≤ n → Err (Refused n) ≡ parts_of n
 unfolding parts_of
 parts_refused zero h = absurd (omega arith)
 parts_refused (suc n) h = refl
@@ -98,10 +99,10 @@ fresh_lines {table = table} {table' = table'} {state' = state'} {block' = block'
 -- THE WHOLE RUN
 
 module _ {table between : List ℕ} {parts : Parts} (z : table ≡ replicate 98304 0) (h : PartsRead table parts between) where
-  pub ran_lines : {table' : List ℕ} → parts ≡ Table → FreshLines between table' → Ran table' []
+  pub ran_lines : {table' : List ℕ} → parts ≡ Ok tt → FreshLines between table' → Ran table' []
   unfolding Follows
   ran_lines e l = record { parts = parts; between = between; read = subst (λ (t : List ℕ). PartsRead t parts between) z h; follows = rw e (l, refl) }
 
-  pub ran_refused : {n l : ℕ} {said : List ℕ} → parts ≡ Refused n → RefusalSaid n l said → l ≡ 0 → Ran between said
+  pub ran_refused : {e : PartsError} {n l : ℕ} {said : List ℕ} → parts ≡ Err e → n ≡ said_number e → RefusalSaid n l said → l ≡ 0 → Ran between said
   unfolding Follows
-  ran_refused e s k = record { parts = parts; between = between; read = subst (λ (t : List ℕ). PartsRead t parts between) z h; follows = rw (e, ← k) (s, refl) }
+  ran_refused e g s k = record { parts = parts; between = between; read = subst (λ (t : List ℕ). PartsRead t parts between) z h; follows = rw (e, ← k, ← g) (s, refl) }

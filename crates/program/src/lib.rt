@@ -14,7 +14,7 @@ ghost use Rattle.program.specs.Held.{Sound};
 ghost use Rattle.program.specs.Run.{Ran};
 
 use line_answer::{Answer, answer_of};
-use parts::{Parts, read_parts};
+use parts::read_parts;
 use program_in::{next_line, start};
 use program_out::put_text;
 use said::{answer_said, refusal_said};
@@ -37,12 +37,13 @@ pub fn run<F: Files, R: Read, W: Write>(
     requires { (table.old ≡ replicate 98304 0) × (1100 ≡ length said.old) }
     ensures { Within result said.new × Ran table.new (take result said.new) }
 {
-    let parts = read_parts(files, table, name);
-    let Parts::Refused(number) = parts else {
-        answer_lines(input, output, table);
-        return 0;
-    };
-    refusal_said(number, 0, said)
+    match read_parts(files, table, name) {
+        Ok(()) => {
+            answer_lines(input, output, table);
+            0
+        }
+        Err(error) => refusal_said(u32::from(error), 0, said),
+    }
 }
 
 // "State fresh". The line's memory has one byte more than a line may have, so that a longer one shows.
@@ -76,8 +77,10 @@ fn each_line<R: Read, W: Write>(
     let mut trace: [u8; 65536] = [0; 65536];
     let mut reading = next_line(input, block, line, start());
     let mut used = 0;
-    let mut number: u64 = 1;
-    while number < u64::MAX && reading.begun {
+    for number in 1..u64::MAX {
+        if !reading.begun {
+            break;
+        }
         used = answer_line(
             output,
             table,
@@ -90,7 +93,6 @@ fn each_line<R: Read, W: Write>(
             &mut trace,
         );
         reading = next_line(input, block, line, reading);
-        number += 1;
     }
     write_held(output, out, used);
 }

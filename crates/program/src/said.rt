@@ -1,5 +1,5 @@
 // What the program says to a line.
-ghost use Rattle.std.specs.Prelude.{◌≡◌, ◌+◌, ◌≤◌, min, length, take};
+ghost use Rattle.std.specs.Prelude.{◌≡◌, ◌+◌, ◌≤◌, length, take};
 ghost use Rattle.program.specs.Said.{Within, RefusalSaid, OutSaid, Said, Numbered};
 
 use line_answer::Answer;
@@ -24,19 +24,9 @@ fn line_said(text: &[u8], size: usize, said: &mut [u8; 1100]) -> usize
     requires { length text.now ≡ 1054 }
     ensures { Within result said.new × OutSaid text.now size (take result said.new) }
 {
-    let n = least(size, text.len());
+    let n = size.min(text.len());
     let a = append(said, 0, &text[..n]);
     append(said, a, b"\n")
-}
-
-// The smaller of two numbers.
-fn least(a: usize, b: usize) -> usize
-    ensures { (result ≡ min a b) × (result ≤ b) }
-{
-    if a < b {
-        return a;
-    }
-    b
 }
 
 // `! N L` and a line feed.
@@ -44,7 +34,7 @@ pub(crate) fn refusal_said(number: u32, line: u64, said: &mut [u8; 1100]) -> usi
     ensures { Within result said.new × RefusalSaid number line (take result said.new) }
 {
     let a = append(said, 0, b"! ");
-    let b = number_said(said, a, number as u64, b' ');
+    let b = number_said(said, a, u64::from(number), b' ');
     number_said(said, b, line, b'\n')
 }
 

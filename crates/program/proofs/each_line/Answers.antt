@@ -5,7 +5,8 @@ use native.Mathlib.Omega.{arith}
 use lib.ListN.{length-replicate}
 use Rattle.program.proofs.Lines.{lines_first, lines_more, lines_done}
 use borrow.Author.Rules.{rules}
-use Rattle.program.proofs.each_line.Goals.{then-loop-number-test+else-reading, else-loop-number-test}
+use borrow.Author.Tests.{not-true, not-false}
+use Rattle.program.proofs.each_line.Goals.{then-loop-number-test+then-not-reading, else-loop-number-test}
 use Rattle.program.proofs.each_line.Goals as goal
 
 pub next_line-reading-requires : goal.next_line-reading-requires
@@ -31,12 +32,12 @@ loop-number-preserved g c =
       search rules,
       search rules,
       answered.auto.trace ∙ inv.4,
-      λ a l. lines_more (inv.5 a l) c.if-reading.true answered.ensures.answered c.next_line-reading-in-loop-number.ensures refl,
+      λ a l. lines_more (inv.5 a l) (not-false _ c.if-not-reading.false) answered.ensures.answered c.next_line-reading-in-loop-number.ensures refl,
       answered.ensures.sound,
     )
 
 pub returns : goal.returns
 returns g c =
     let ended : c.loop-number.number < 18446744073709551615 → c.loop-number.reading.begun ≡ false =
-    λ h. elim c.loop-number-test.branch [ then-loop-number-test+else-reading w ↦ w.if-reading.false | else-loop-number-test w ↦ absurd (omega (arith, h, w.loop-number-test.false)) ] in
+    λ h. elim c.loop-number-test.branch [ then-loop-number-test+then-not-reading w ↦ not-true _ w.if-not-reading.true | else-loop-number-test w ↦ absurd (omega (arith, h, w.loop-number-test.false)) ] in
     lines_done (c.loop-number.invariant.5 _ (lines_first refl refl c.start.ensures c.next_line-reading.ensures)) ended

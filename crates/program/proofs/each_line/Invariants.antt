@@ -15,6 +15,3 @@ invariant-loop-number g l =
     × (length l.trace ≡ 65536)
     × ((a : Standing) → Lines a l.initial.number l.initial.table l.initial.state l.initial.block l.initial.line l.initial.out l.initial.reading l.initial.used → Lines a l.number l.table l.state l.block l.line l.out l.reading l.used)
     × Sound l.table l.state
-
-abbrev pub decreases-loop-number : goal.decreases-loop-number
-decreases-loop-number g l = 18446744073709551615 - l.number
