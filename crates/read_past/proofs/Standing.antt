@@ -180,7 +180,7 @@ module _ (s : List ℕ) (at n k : ℕ) (tb fb : List ℕ) (x : Standing s at n k
             few = x.few;
             size = x.size;
             table = x.table ∙ sym e;
-                  many = length-append x.faults (fault_at (fault_of f) q ∷ []) ∙ omega (arith, x.many);
+            many = length-append x.faults (fault_at (fault_of f) q ∷ []) ∙ omega (arith, x.many);
             bound = omega arith;
             list = y;
             answer = by_listed (some (suc (q + length u))) p i h;
