@@ -21,7 +21,6 @@ use Rattle.faults.proofs.Exactly.{recovers_exactly}
 use Rattle.faults.proofs.Keeps.{kept_few, past_place}
 use Rattle.form_faults.specs.Form.{faults_bytes, faults_form}
 use Rattle.read_past.specs.Past.{ReadsPast}
-use Rattle.read_fault.specs.Noting.{past_number}
 use Rattle.read_fault.specs.declared.PastError.{PastError}
 use Rattle.std.specs.Prelude.{Ok, Err}
 use Rattle.line_answer.specs.declared.Answer.{Answer}
@@ -77,7 +76,7 @@ module _ (s made list : List ℕ) (bytes : Octets s) where
     pub recover_place_lem : e.place ≤ most_file_bytes
     recover_place_lem = omega (arith, refusal_place s there.0 bytes there.1, there.3)
 
-    pub recover_refused : (old : Mended) {a : Answer} {c : ℕ} → length old.table ≡ table_bytes → length old.faults ≡ faults_bytes → c ≡ past_number e.fault → a ≡ reply c e.place 0
+    pub recover_refused : (old : Mended) {a : Answer} {c : ℕ} → length old.table ≡ table_bytes → length old.faults ≡ faults_bytes → c ≡ e.number → a ≡ reply c e.place 0
         → Returned (recovers s old) a old
     unfolding of_recovering
     recover_refused old g h i f =

@@ -42,6 +42,6 @@ fn recover_new(
             faults.copy_from_slice(listed);
             taken(n)
         }
-        Err(e) => refusal(u32::from(e.fault), e.place),
+        Err(e) => refusal(e.number, e.place),
     }
 }

@@ -2,25 +2,19 @@
 use Rattle.std.specs.Prelude.{ℕ, ◌+◌, ◌≤◌, ◌<◌, ◌≡◌, true, false, List, [], ◌∷◌, ◌++◌, length, drop, Option, Some, None, Result, Ok, Err}
 use Rattle.std.proofs.Math.Option as maybe
 use Rattle.macros.specs.Refusals.{FileRefusal, file_number}
+use Rattle.macros.specs.Macro.{within}
 use Rattle.faults.specs.Refusal.{most_faults}
-use Rattle.faults.specs.Recover.{Fault, behind_first, is_fault}
+use Rattle.faults.specs.Recover.{Fault, behind_first}
 use Rattle.faults.specs.Recover.Fault.{fault_at}
 use Rattle.form_faults.specs.Form.{faults_form}
 use Rattle.read_scan.specs.Scan.{fault_of}
 use Rattle.read_scan.specs.declared.ReadError.{ReadError}
-use Rattle.read_fault.specs.declared.PastFault.{PastFault}
-use Rattle.read_fault.specs.declared.PastFault.TheVariants.{InFile, TooManyFaults}
 use Rattle.read_fault.specs.declared.PastError.{PastError}
 use Rattle.read_fault.specs.declared.Progress.{Progress}
 
--- the number of each refusal: 61 is "the 257th fault"
-abbrev pub past_number : PastFault → ℕ
-past_number (InFile f) = file_number (fault_of f)
-past_number TooManyFaults = 61
-
--- a refusal as before
+-- a refusal as before, with its number
 abbrev pub past_error : ReadError → PastError
-past_error e = record { fault = InFile e.fault; place = e.place }
+past_error e = record { number = file_number (fault_of e.fault); place = e.place }
 
 -- a place that may be missing, as the code has it
 abbrev pub as_option : maybe.Option ℕ → Option ℕ
@@ -42,12 +36,10 @@ Lists old out k c q =
     (fs : List Fault) (r : FileRefusal) → faults_form fs ≡ old → length fs ≡ k → file_number r ≡ c
     → faults_form (fs ++ (fault_at r q ∷ [])) ≡ out
 
--- what noting a refusal says, behind n macros and k faults
-pub data Notes (s old out : List ℕ) (e : ReadError) (n k : ℕ) : Result (Option Progress) PastError → Type 0 where
+-- what noting the refusal c at place q says, behind n macros and k faults
+pub data Notes (s old out : List ℕ) (c q n k : ℕ) : Result (Option Progress) PastError → Type 0 where
   -- it is no fault
-  unlisted : is_fault (fault_of e.fault) ≡ false → out ≡ old → Notes s old out e n k (Err (past_error e))
+  unlisted : within 12 18 c ≡ false → out ≡ old → Notes s old out c q n k (Err (record { number = c; place = q }))
   -- it is the 257th
-  one_too_many : is_fault (fault_of e.fault) ≡ true → most_faults ≤ k → out ≡ old
-      → Notes s old out e n k (Err (record { fault = TooManyFaults; place = 0 }))
-  listed : is_fault (fault_of e.fault) ≡ true → k < most_faults → Lists old out k (file_number (fault_of e.fault)) e.place
-      → Notes s old out e n k (Ok (resumes_at (behind_or_none s e.place) n (k + 1)))
+  one_too_many : within 12 18 c ≡ true → most_faults ≤ k → out ≡ old → Notes s old out c q n k (Err (record { number = 61; place = 0 }))
+  listed : within 12 18 c ≡ true → k < most_faults → Lists old out k c q → Notes s old out c q n k (Ok (resumes_at (behind_or_none s q) n (k + 1)))

@@ -3,45 +3,28 @@
 
 ghost use Rattle.std.specs.Prelude.{◌≡◌, ◌==◌, ◌≤◌, ◌<◌, length, position};
 ghost use Rattle.macros.specs.Bounds.{most_file_bytes};
+ghost use Rattle.macros.specs.Macro.{within};
 ghost use Rattle.faults.specs.Refusal.{most_faults};
-ghost use Rattle.faults.specs.Recover.{is_fault};
 ghost use Rattle.form_faults.specs.Form.{faults_bytes};
-ghost use Rattle.read_scan.specs.Scan.{fault_of};
-ghost use Rattle.read_fault.specs.Noting.{behind_or_none, past_number, past_error, Lists, Notes};
+ghost use Rattle.read_fault.specs.Noting.{behind_or_none, past_error, Lists, Notes};
 
 use form_bytes::put_number;
-use read_scan::{FileFault, ReadError};
+use read_scan::ReadError;
 
-// The faults that are listed.
+// The faults that are listed, and the number of one more.
 const MOST_FAULTS: usize = 256;
+
+const TOO_MANY_FAULTS: u32 = 61;
 
 // The bytes of a number, and of a fault: its number and its place.
 const NUMBER_BYTES: usize = 4;
 
 const FAULT_BYTES: usize = 8;
 
-// What refuses a file that is read past its faults: what refuses it as before, or one fault too many.
-#[derive(Clone, Copy, Debug, PartialEq, Eq)]
-pub enum PastFault {
-    InFile(FileFault),
-    TooManyFaults,
-}
-
-impl From<PastFault> for u32 {
-    ghost from_gives = { λ f n. n ≡ past_number f };
-
-    fn from(f: PastFault) -> u32 {
-        match f {
-            PastFault::InFile(f) => u32::from(f),
-            PastFault::TooManyFaults => 61,
-        }
-    }
-}
-
-// Such a refusal with its place.
+// A refusal of a file that is read past its faults: its number and its place.
 #[derive(Clone, Copy, Debug, PartialEq, Eq)]
 pub struct PastError {
-    pub fault: PastFault,
+    pub number: u32,
     pub place: usize,
 }
 
@@ -50,7 +33,7 @@ impl From<ReadError> for PastError {
 
     fn from(e: ReadError) -> PastError {
         PastError {
-            fault: PastFault::InFile(e.fault),
+            number: u32::from(e.fault),
             place: e.place,
         }
     }
@@ -80,11 +63,11 @@ fn behind(s: &[u8], q: usize) -> Option<usize>
     Some(q + k + 1)
 }
 
-// Whether a refusal is a fault.
-fn is_fault(f: FileFault) -> bool
-    ensures { result ≡ is_fault (fault_of f) }
+// Whether a refusal's number is that of a fault.
+fn is_fault(number: u32) -> bool
+    ensures { result ≡ within 12 18 number }
 {
-    (12..=18).contains(&u32::from(f))
+    (12..=18).contains(&number)
 }
 
 // Lists a fault behind k others: their count, and its number and place.
@@ -98,27 +81,28 @@ fn put_fault(faults: &mut [u8], k: usize, number: u32, q: usize)
     put_number(faults, 0, (k + 1) as u32);
 }
 
-// A refusal: a fault is listed, unless it is one too many, and reading goes on if a `;` follows.
+// A refusal at q: a fault is listed, unless it is one too many, and reading goes on if a `;` follows.
 pub fn note(
     s: &[u8],
     faults: &mut [u8],
-    error: ReadError,
+    number: u32,
+    q: usize,
     so_far: Progress,
 ) -> Result<Option<Progress>, PastError>
-    requires { (length faults.old ≡ faults_bytes) × (error.place ≤ length s.now) × (length s.now ≤ most_file_bytes) }
-    ensures { Notes s.now faults.old faults.new error so_far.macros so_far.faults result }
+    requires { (length faults.old ≡ faults_bytes) × (q ≤ length s.now) × (length s.now ≤ most_file_bytes) }
+    ensures { Notes s.now faults.old faults.new number q so_far.macros so_far.faults result }
 {
-    if !is_fault(error.fault) {
-        return Err(PastError::from(error));
+    if !is_fault(number) {
+        return Err(PastError { number, place: q });
     }
     if MOST_FAULTS <= so_far.faults {
         return Err(PastError {
-            fault: PastFault::TooManyFaults,
+            number: TOO_MANY_FAULTS,
             place: 0,
         });
     }
-    put_fault(faults, so_far.faults, u32::from(error.fault), error.place);
-    let next = behind(s, error.place);
+    put_fault(faults, so_far.faults, number, q);
+    let next = behind(s, q);
     Ok(next.map(|at| Progress {
         at,
         macros: so_far.macros,

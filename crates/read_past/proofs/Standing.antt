@@ -10,6 +10,7 @@ use lib.ListN.{length, take, drop, replicate, length-append, length-drop, length
 use lib.Seq.{take_at, drop-append-add}
 use Rattle.form_bytes.specs.Fours.{four}
 use Rattle.macros.specs.Bounds.{most_macros}
+use Rattle.macros.specs.Refusals.{file_number}
 use Rattle.macros.specs.Macro.{Macro, Table}
 use Rattle.form_table.specs.Form.{slot_bytes, table_bytes, slot, slots, form}
 use Rattle.form_items.specs.Items.{Wrote}
@@ -188,7 +189,8 @@ module _ (s : List ℕ) (at n k : ℕ) (tb fb : List ℕ) (x : Standing s at n k
         )
 
     -- a refusal that is noted
-    pub moved_refused : (fin : List ℕ) (r : Result (std.Option Progress) PastError) → Notes s fb fin w n k r → Moved s at n out fin r
+    pub moved_refused : (fin : List ℕ) (r : Result (std.Option Progress) PastError) → Notes s fb fin (file_number (fault_of f)) q n k r → Moved s at n out fin r
+    unfolding is_fault
     moved_refused fin r (unlisted i j) = (
       as_before (fault_of f) q,
       x.answer ∙ (ap (with_faults x.faults) (recover_refused s (most_faults - k) at x.macros (fault_of f) q i there_refused) ∙ with_refused x.faults (as_before (fault_of f) q)),

@@ -8,7 +8,6 @@ use Rattle.faults.specs.Refusal.{RecoverRefusal, most_faults, recover_number, re
 use Rattle.faults.specs.Recover.{Fault, Recovered, with_fault, recover_from, recover}
 use Rattle.faults.specs.Recover.Recovered.{kept, refused}
 use Rattle.form_faults.specs.Form.{faults_bytes, faults_form}
-use Rattle.read_fault.specs.Noting.{past_number}
 use Rattle.read_fault.specs.declared.PastError.{PastError}
 use Rattle.read_fault.specs.declared.Progress.{Progress}
 
@@ -39,7 +38,7 @@ Answered s tb fb (Ok n) =
     (ms : Table) × (fs : List Fault) × (recover_from most_faults s 0 [] ≡ kept ms fs)
     × (n ≡ length ms) × (form ms ≡ tb) × (faults_form fs ≡ fb)
 Answered s tb fb (Err e) =
-    (v : RecoverRefusal) × (recover_from most_faults s 0 [] ≡ refused v) × (past_number e.fault ≡ recover_number v) × (e.place ≡ recover_place v)
+    (v : RecoverRefusal) × (recover_from most_faults s 0 [] ≡ refused v) × (e.number ≡ recover_number v) × (e.place ≡ recover_place v)
 
 -- what one macro or fault more says, behind n macros kept
 abbrev pub Moved : List ℕ → (at n : ℕ) → (tb fb : List ℕ) → Result (Option Progress) PastError → Type 0
@@ -52,5 +51,5 @@ abbrev pub ReadsPast : List ℕ → (tb fb : List ℕ) → Result ℕ PastError 
 ReadsPast s tb fb (Ok n) =
     (ms : Table) × (fs : List Fault) × (recover s ≡ kept ms fs) × (n ≡ length ms) × (form ms ≡ tb) × (faults_form fs ≡ fb)
 ReadsPast s tb fb (Err e) =
-    (v : RecoverRefusal) × (recover s ≡ refused v) × (past_number e.fault ≡ recover_number v) × (e.place ≡ recover_place v)
+    (v : RecoverRefusal) × (recover s ≡ refused v) × (e.number ≡ recover_number v) × (e.place ≡ recover_place v)
     × (tb ≡ replicate table_bytes 0) × (fb ≡ replicate faults_bytes 0)

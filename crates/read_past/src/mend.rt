@@ -28,7 +28,7 @@ fn one_more(
             faults: so_far.faults,
         })),
         Ok(None) => Ok(None),
-        Err(e) => note(file, faults, e, so_far),
+        Err(e) => note(file, faults, u32::from(e.fault), e.place, so_far),
     }
 }
 

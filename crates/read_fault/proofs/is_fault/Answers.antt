@@ -1,9 +1,8 @@
 use Rattle.std.proofs.Common.{rules}
 use borrow.Author.Tests.{tests}
 use Rattle.macros.specs.Macro.{within}
-use Rattle.faults.specs.Recover.{is_fault}
 use Rattle.read_fault.proofs.is_fault.Goals as goal
 
 pub returns : goal.returns
-unfolding is_fault within
+unfolding within
 returns c = search (rules, tests)

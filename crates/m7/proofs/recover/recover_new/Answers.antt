@@ -1,3 +1,4 @@
+use mathlib.Core.Path.{refl}
 use native.Mathlib.Omega.{arith}
 use Rattle.m7.proofs.Results.{octets_given}
 use Rattle.m7.proofs.RecoverResults.{recover_few, recover_place_lem, recover_refused, recover_taken}
@@ -22,4 +23,4 @@ pub returns-in-Err : goal.returns-in-Err
 returns-in-Err c =
     let args = c.args in
     recover_refused args.file.now c.read_past.new.table c.read_past.new.faults (octets_given args.file.now c.type_inv.file) _ c.in-Err.ensures (record { table = args.table.now; faults = args.faults.now })
-    c.requires.2 c.requires.3 c.from.ensures c.refusal.ensures
+    c.requires.2 c.requires.3 refl c.refusal.ensures

@@ -26,4 +26,4 @@ pub returns-in-Err : goal.returns-in-Err
 returns-in-Err c =
     let args = c.args in
     let z = c.in-Err.ensures in
-    moved_refused args.file.now args.so_far.at args.so_far.macros args.so_far.faults args.table.now args.faults.now c.requires.1 _ z.0 c.in-Err.e z.1 _ _ c.note.ensures
+    moved_refused args.file.now args.so_far.at args.so_far.macros args.so_far.faults args.table.now args.faults.now c.requires.1 _ z.0 c.in-Err.e z.1 _ _ (rw c.from.ensures at c.note.ensures)
