@@ -9,7 +9,7 @@ ghost use Rattle.macros.specs.Bounds.{most_entries, most_counter};
 ghost use Rattle.macros.specs.Formed.{Between, Bytes, Letter};
 ghost use Rattle.lines.specs.Replacing.{moves, stores};
 ghost use Rattle.form_state.specs.Access.{IsState};
-ghost use Rattle.pass_call.specs.Moving.{moved_in, sign_in, move_in, moves_in, sets_in};
+ghost use Rattle.pass_call.specs.Moving.{Onward, moved_in, sign_in, move_in, moves_in, sets_in};
 ghost use Rattle.pass_steps.specs.Moments.{Changes};
 
 use form_state::{increment, pointer, value};
@@ -70,11 +70,18 @@ fn move_of(code: u8) -> u8
     }
 }
 
-// The move before the access, where first is 1, or after it, where first is 3.
-pub fn shift(state: &mut [u8], code: u8, i: u8, first: u8, size: usize) -> Result<usize, WorkError>
+// The move before the access, where first is 1, or after it, where first is 3. Behind a refusal nothing moves.
+pub fn shift(
+    state: &mut [u8],
+    code: u8,
+    i: u8,
+    first: u8,
+    done: Result<usize, WorkError>,
+) -> Result<usize, WorkError>
     requires { IsState state.old × (1 ≤ first) × (first ≤ 3) × (48 ≤ code → Letter i) }
-    ensures { Changes (moves_in first code i) state.old size state.new result }
+    ensures { Onward (moves_in first code i) state.old done state.new result }
 {
+    let size = done?;
     let m = move_of(code);
     let up = m == first;
     if !up && m != first + 1 {

@@ -80,9 +80,9 @@ fn action(
 {
     let code = t[0];
     let i = t[1];
-    let size = shift(state, code, i, 1, size)?;
+    let size = shift(state, code, i, 1, Ok(size))?;
     let size = access(line, span, t, state, out, size)?;
-    shift(state, code, i, 3, size)
+    shift(state, code, i, 3, Ok(size))
 }
 
 // The span of the tag that the action takes: `{n}` or `&(n,i)`; any other takes none.
