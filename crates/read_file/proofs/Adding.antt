@@ -124,9 +124,9 @@ module _ (s : List ℕ) (c : ℕ) (old out : List ℕ) (n at : ℕ) (x : Adds s 
   unfolding read_on
   adds_ended z = rw z.0 (adds_then next (λ l e. ap (read_on s l) (z.1 l e)))
 
-  pub adds_refused : (e : ReadError) → NextSlot s at n (n * 1024) out fin (Err e) → AddsFrom s c old fin (Err e)
+  pub adds_refused : (e : ReadError) → NextSlot s at n (n * 1024) out fin (Err e) → AddsFrom s c old fin (Err (record { error = e; macros = n }))
   unfolding read_on
-  adds_refused e z = rw z.0 (n, adds_then next (λ l e. ap (read_on s l) (z.1 l e)))
+  adds_refused e z = rw z.0 (adds_then next (λ l e. ap (read_on s l) (z.1 l e)))
 
   pub adds_more : {q : ℕ} → InSlot s at n (n * 1024) out fin q → Adds s c old fin (n + 1) (λ ms. read_from q (between false clear ms) (drop q s))
   unfolding read_on

@@ -1,12 +1,12 @@
 -- A file read onto a table: the new table's bytes, and the old table's after a refusal.
 -- Assumes nothing.
 use mathlib.Core.Path.{◌≡◌, refl, ap, sym, ◌∙◌}
-use mathlib.Core.Bool.{true, false}
-use mathlib.Core.List.{List, [], ◌++◌, reverse, append-nil, reverse-append, reverse-reverse}
+use mathlib.Core.Bool.{false}
+use mathlib.Core.List.{List, ◌++◌, reverse, append_assoc, reverse-append, reverse-reverse}
 use mathlib.Core.Option.{none, some}
 use Prim.Native.Nat.{ℕ, ◌+◌, ◌-◌, ◌*◌, ◌≤◌, ◌<◌}
 use native.Mathlib.Omega.{arith}
-use lib.ListN.{length, take, drop, drop_of_length-le, replicate, length-append, length-replicate, length-reverse, take-append-drop, replicate-append-replicate}
+use lib.ListN.{length, take, drop, replicate, length-append, length-replicate, length-reverse, take-append-drop, replicate-append-replicate}
 use lib.Seq.{take_at, drop_at, take-take, drop-drop}
 use borrow.Author.Tests.{lt-ltb, le-ltb}
 use Rattle.macros.specs.Refusals.{FileRefusal}
@@ -22,14 +22,14 @@ use Rattle.form_table.specs.Form.{slot_bytes, table_bytes, slots, form}
 use Rattle.form_table.proofs.Tables.{slots_size, form_size}
 use Rattle.read_scan.specs.Scan.{fault_of}
 use Rattle.form_items.specs.Items.{Wrote}
-use Rattle.form_items.proofs.Writing.{wrote_is}
 use Rattle.read_file.specs.File.{AddsFrom, Lent, Onto}
 use Rattle.read_start.specs.Start.{WholeFile}
 use Rattle.read_start.specs.Start.WholeFile.{plain, long, zeroed}
 use Rattle.read_scan.specs.declared.FileFault.{FileFault}
 use Rattle.read_scan.specs.declared.FileFault.TheVariants.{FileTooLong, ZeroByte}
 use Rattle.read_scan.specs.declared.ReadError.{ReadError}
-use Rattle.std.specs.Prelude.{Result, Ok, Err, is_ok}
+use Rattle.read_file.specs.declared.Stopped.{Stopped}
+use Rattle.std.specs.Prelude.{Result, Ok, Err}
 use Rattle.read_file.proofs.Adding.{slots_append}
 
 -- THE WHOLE FILE FIRST
@@ -118,20 +118,24 @@ module _ (ms : Table) (f : Accepted ms) (c : ℕ) (l : length ms ≡ c) where
           sym (take-take (slot_bytes * c) (slot_bytes * c + length (slots new)) out (omega arith))
           ∙ (ap (take (slot_bytes * c)) w.written ∙ take_at (take (slot_bytes * c) old) (slots new) (slot_bytes * c) (ap length front ∙ wide))
 
-      -- the slots added are zeros again, as are those behind them
-      restored : (fin : List ℕ) → length out ≡ 98304 → Wrote out fin (c * 1024) (replicate (98304 - c * 1024) 0) → fin ≡ old
-      restored fin i v =
+      -- the slots added are zeros again
+      restored : (fin : List ℕ) → Wrote out fin (c * 1024) (replicate ((n - c) * 1024) 0) → fin ≡ old
+      restored fin v =
+          let i : ℕ = length (slots new) in
           let p : c * 1024 ≡ slot_bytes * c = omega arith in
-          let q : 98304 - slot_bytes * c ≡ slot_bytes * (96 - c) = omega arith in
-          let u : Wrote out fin (slot_bytes * c) (replicate (slot_bytes * (96 - c)) 0) = rw (p, q) at v in
-          let z : drop (slot_bytes * c + length {A = ℕ} (replicate (slot_bytes * (96 - c)) 0)) out ≡ [] =
-          drop_of_length-le out (omega (arith, length-replicate {A = ℕ} (slot_bytes * (96 - c)) 0)) in
-          wrote_is u ∙ (rw (z, same_front, append-nil, ← rest) refl ∙ take-append-drop (slot_bytes * c) old)
+          let q : (n - c) * 1024 ≡ length (slots new) = omega arith in
+          let u : Wrote out fin (slot_bytes * c) (replicate (length (slots new)) 0) = rw (p, q) at v in
+          let m : length {A = ℕ} (replicate (length (slots new)) 0) ≡ length (slots new) = length-replicate (length (slots new)) 0 in
+          let s₁ : take (slot_bytes * c + length (slots new)) fin ≡ take (slot_bytes * c) old ++ replicate (length (slots new)) 0 = (rw m at u.written) ∙ ap (λ (x : List ℕ). x ++ replicate (length (slots new)) 0) same_front in
+          let s₂ : drop (slot_bytes * c + length (slots new)) fin ≡ replicate (slot_bytes * (96 - c) - length (slots new)) 0 = (rw m at u.kept) ∙ (w.kept ∙ further (length (slots new)) (omega arith)) in
+          sym (take-append-drop (slot_bytes * c + length (slots new)) fin)
+          ∙ (rw (s₁, s₂, append_assoc) (ap (λ (x : List ℕ). take (slot_bytes * c) old ++ x) (zeros_split (length (slots new)) (slot_bytes * (96 - c)) (omega arith) ∙ sym rest))
+          ∙ take-append-drop (slot_bytes * c) old)
 
 -- READING
 
 module _ (s : List ℕ) (c : ℕ) (old out : List ℕ) (h : length s ≤ 32768) (x : first_zero 0 s ≡ none) where
-  onto_table : {n : ℕ} → AddsFrom s c old out (Ok n) → Onto s c old out (Ok n)
+  pub onto_table : {n : ℕ} → AddsFrom s c old out (Ok n) → Onto s c old out (Ok n)
   onto_table {n} a ms f k l =
       let b : reverse (a.added ++ reverse ms) ≡ ms ++ reverse a.added = reverse-append a.added (reverse ms) ∙ ap (λ (t : Table). t ++ reverse a.added) (reverse-reverse ms) in
       let d : length (reverse a.added) ≡ length a.added = length-reverse a.added in (
@@ -141,23 +145,13 @@ module _ (s : List ℕ) (c : ℕ) (old out : List ℕ) (h : length s ≤ 32768) 
         joined ms f c l old k out (reverse a.added) n (omega (arith, a.size, d)) (omega (arith, a.counted, d)) a.few a.wrote,
       )
 
-  onto_fault : (e : ReadError) → AddsFrom s c old out (Err e) → (fin : List ℕ) → length out ≡ 98304 → Wrote out fin (c * 1024) (replicate (98304 - c * 1024) 0)
-      → Onto s c old fin (Err e)
-  onto_fault e y fin i v ms g k l =
-      let a = y.1 in
+  pub onto_refused : (e : Stopped) → AddsFrom s c old out (Err e) → (fin : List ℕ) → Wrote out fin (c * 1024) (replicate ((e.macros - c) * 1024) 0)
+      → Onto s c old fin (Err e.error)
+  onto_refused e a fin v ms g k l =
       let d : length (reverse a.added) ≡ length a.added = length-reverse a.added in (
         fresh ms s h x ∙ a.answer (reverse ms) (length-reverse ms ∙ l),
-        restored ms g c l old k out (reverse a.added) y.0 (omega (arith, a.size, d)) (omega (arith, a.counted, d)) a.few a.wrote fin i v,
+        restored ms g c l old k out (reverse a.added) e.macros (omega (arith, a.size, d)) (omega (arith, a.counted, d)) a.few a.wrote fin v,
       )
-
-  pub onto_added : (r : Result ℕ ReadError) → is_ok r ≡ true → AddsFrom s c old out r → Onto s c old out r
-  onto_added (Ok n) e a = onto_table a
-  onto_added (Err w) e a = cc
-
-  pub onto_refused : (r : Result ℕ ReadError) → is_ok r ≡ false → AddsFrom s c old out r → (fin : List ℕ) → length out ≡ 98304
-      → Wrote out fin (c * 1024) (replicate (98304 - c * 1024) 0) → Onto s c old fin r
-  onto_refused (Ok n) e a = cc
-  onto_refused (Err w) e a = onto_fault w a
 
 -- THE SAME, BY WHAT read_onto SAYS
 

@@ -16,6 +16,7 @@ use Rattle.read_start.specs.Next.{next_from}
 use Rattle.read_start.specs.Next.Coming.{macro_to as next_to, refused_at as next_refused_at, no_more}
 use Rattle.read_macro.specs.OneMacro.{head_bytes, used_bytes}
 use Rattle.read_macro.specs.declared.Head.{Head}
+use Rattle.read_file.specs.declared.Stopped.{Stopped}
 
 -- SLOTS
 
@@ -55,10 +56,10 @@ pub record Adds (s : List ℕ) (count : ℕ) (old out : List ℕ) (n : ℕ) (the
   pub wrote : Wrote old out (slot_bytes * count) (slots (reverse added))
   pub answer : (ms : List Macro) → length ms ≡ count → read_from 0 (between false clear ms) s ≡ then (added ++ ms)
 
--- what reading all macros of a file says; a refusal leaves some of them stored
-abbrev pub AddsFrom : List ℕ → ℕ → List ℕ → List ℕ → Result ℕ ReadError → Type 0
+-- what reading all macros of a file says; a refusal leaves those before it stored
+abbrev pub AddsFrom : List ℕ → ℕ → List ℕ → List ℕ → Result ℕ Stopped → Type 0
 AddsFrom s c old out (Ok n) = Adds s c old out n (λ ms. table (reverse ms))
-AddsFrom s c old out (Err e) = (n : ℕ) × Adds s c old out n (λ ms. refused_at (fault_of e.fault) e.place)
+AddsFrom s c old out (Err e) = Adds s c old out e.macros (λ ms. refused_at (fault_of e.error.fault) e.error.place)
 
 -- that the lent bytes are those of an accepted table of so many macros
 pub record Lent (old : List ℕ) (c : ℕ) : Type 0 where

@@ -5,7 +5,7 @@ ghost use Rattle.form_table.specs.Form.{table_bytes};
 ghost use Rattle.read_file.specs.File.{Room, NextSlot, AddsFrom, Lent, Onto};
 
 use crate::slots::store;
-use crate::{MOST_MACROS, SLOT_BYTES};
+use crate::{MOST_MACROS, SLOT_BYTES, Stopped};
 use read_macro::read_macro;
 use read_scan::{FileFault, ReadError};
 use read_start::start::{next_start, whole_file};
@@ -34,18 +34,23 @@ pub fn next_slot(
     Ok(Some(built.place))
 }
 
-// Stores each macro of a file behind the table's: how many it then has.
-fn add_macros(file: &[u8], table: &mut [u8], count: usize) -> Result<usize, ReadError>
+// Stores each macro of a file behind the table's: how many it then has, or by the refusal.
+fn add_macros(file: &[u8], table: &mut [u8], count: usize) -> Result<usize, Stopped>
     requires { (length table.old ≡ table_bytes) × (count ≤ most_macros) }
     ensures { AddsFrom file.now count table.old table.new result }
 {
     let mut at = 0;
     let mut n = count;
-    while let Some(next) = next_slot(file, table, n * SLOT_BYTES, at, n)? {
-        n += 1;
-        at = next;
+    loop {
+        match next_slot(file, table, n * SLOT_BYTES, at, n) {
+            Ok(Some(next)) => {
+                n += 1;
+                at = next;
+            }
+            Ok(None) => return Ok(n),
+            Err(error) => return Err(Stopped { error, macros: n }),
+        }
     }
-    Ok(n)
 }
 
 // Reads a file onto a table of so many macros: how many it then has. A refusal leaves the table as it was.
@@ -54,9 +59,11 @@ pub fn read_onto(file: &[u8], table: &mut [u8], count: usize) -> Result<usize, R
     ensures { Onto file.now count table.old table.new result }
 {
     whole_file(file)?;
-    let added = add_macros(file, table, count);
-    if added.is_err() {
-        table[count * SLOT_BYTES..].fill(0);
+    match add_macros(file, table, count) {
+        Ok(n) => Ok(n),
+        Err(stopped) => {
+            table[count * SLOT_BYTES..stopped.macros * SLOT_BYTES].fill(0);
+            Err(stopped.error)
+        }
     }
-    added
 }
