@@ -1,5 +1,5 @@
 // The macro file.
-ghost use Rattle.std.specs.Prelude.{◌≡◌, ◌≤◌, length, IfOk, IfSome};
+ghost use Rattle.std.specs.Prelude.{◌≡◌, ◌+◌, ◌≤◌, length, take, IfOk, IfSome};
 ghost use Rattle.program.specs.Parts.{PartsRead, parts_of, said_number};
 ghost use Rattle.program.specs.Held.{Ready};
 
@@ -81,11 +81,20 @@ fn read_file<R: Read>(opened: &mut R, file: &mut [u8]) -> io::Result<usize>
 {
     let mut done = 0;
     while done < file.len() {
-        let n = opened.read(&mut file[done..])?;
+        let n = read_once(opened, file, done)?;
         if n < 1 {
             break;
         }
         done += n;
     }
     Ok(done)
+}
+
+// One read behind the bytes held, which stay as they were: how many bytes it gives.
+fn read_once<R: Read>(opened: &mut R, file: &mut [u8], done: usize) -> io::Result<usize>
+    requires { done ≤ length file.old }
+    ensures size_in_bounds { IfOk result (λ size. done + size ≤ length file.old) }
+    ensures file_unchanged { take done file.new ≡ take done file.old }
+{
+    opened.read(&mut file[done..])
 }
