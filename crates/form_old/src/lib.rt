@@ -20,6 +20,16 @@ const OLD_ENTRY_BYTES: usize = 50;
 // The entries of all stacks.
 const ENTRIES: usize = 520;
 
+// The bytes of a text from a place on.
+fn copy(out: &mut [u8], at: usize, text: &[u8])
+    requires { at + length text.now ≤ length out.old }
+    ensures { out.new ≡ replaced out.old at text.now }
+{
+    for i in 0..text.len() {
+        out[at + i] = text[i];
+    }
+}
+
 // An entry of the old size, and zeros behind it up to the new size.
 fn put_wide(state: &mut [u8], at: usize, entry: &[u8])
     requires { (length entry.now ≡ old_entry_bytes) × (at + most_entry_bytes ≤ length state.old) }
@@ -49,7 +59,7 @@ pub fn widen(old: &[u8], state: &mut [u8])
     requires { (length old.now ≡ old_state_bytes) × (length state.old ≡ state_bytes) }
     ensures { state.new ≡ widened_bytes old.now }
 {
-    state[..ENTRIES_AT].copy_from_slice(&old[..ENTRIES_AT]);
+    copy(state, 0, &old[..ENTRIES_AT]);
     widen_entries(old, state);
 }
 
@@ -70,7 +80,7 @@ pub fn narrow(state: &[u8], old: &mut [u8])
     requires { (length state.now ≡ state_bytes) × (length old.old ≡ old_state_bytes) }
     ensures { old.new ≡ narrowed_bytes state.now }
 {
-    old[..ENTRIES_AT].copy_from_slice(&state[..ENTRIES_AT]);
+    copy(old, 0, &state[..ENTRIES_AT]);
     narrow_entries(state, old);
 }
 

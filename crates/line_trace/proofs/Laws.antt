@@ -5,9 +5,10 @@ use mathlib.Core.Path.{◌≡◌, refl, sym, ap, subst, ◌∙◌}
 use mathlib.Core.List.{List, [], ◌∷◌, ◌++◌, append_assoc}
 use native.Mathlib.Decide.{dec_le}
 use native.Mathlib.Omega.{arith}
+use native.Mathlib.Numerals.{add-one}
 use native.Mathlib.Nat.{add-zero}
-use lib.ListN.{length, take, drop, set, replicate, length-append, length-replicate, replicate-append-replicate, length-set}
-use lib.Seq.{paste, paste-zero, paste-suc, take-paste, drop-paste, take-length, drop_at, drop-drop}
+use lib.ListN.{length, take, drop, get_or, set, replicate, length-append, length-replicate, replicate-append-replicate, length-set}
+use lib.Seq.{paste, paste-zero, paste-suc, length-paste, take-paste, drop-paste, take-length, drop_at, drop-drop}
 use Rattle.macros.specs.Write.{digits}
 use Rattle.macros.specs.Quoted.{bytes}
 use Rattle.form_table.proofs.Digits.{digits_few, digits_two}
@@ -79,6 +80,18 @@ puts_then {old} {s} {mid} {t} {new} {at} {p} {r} x l y =
     joined =
         ap (λ (h : List ℕ). h ++ drop (at + length (s ++ t)) old)
         (ap (λ (h : List ℕ). take at old ++ s ++ h) (take-length t) ∙ append_assoc (take at old) s t ∙ ap (λ (h : List ℕ). take at old ++ h) (sym (take-length (s ++ t))))
+
+-- THE LOOP that copies a text
+
+module _ (old text : List ℕ) (at : ℕ) (fits : at + length text ≤ length old) where
+  pub copied_more : (new : List ℕ) (i : ℕ) → new ≡ paste old at text i → i < length text → set new (at + i) (get_or text i 0) ≡ paste old at text (i + 1)
+  copied_more new i e h = rw (e, add-one) (paste-suc old at text i 0 (omega arith) h)
+
+  pub copied_length : (new : List ℕ) (i : ℕ) → new ≡ paste old at text i → i ≤ length text → length new ≡ length old
+  copied_length new i e h = rw e (length-paste old at text i (omega arith) h)
+
+  pub copied_all : (new : List ℕ) (i r : ℕ) → new ≡ paste old at text i → i ≡ length text → r ≡ at + i → Puts old at text new r
+  copied_all new i r e h s = pasted old text new at r fits (rw h at e) (rw h at s)
 
 -- A MACRO'S NUMBER
 

@@ -13,9 +13,10 @@ fn put(trace: &mut [u8], at: usize, text: &[u8]) -> usize
     requires { at + length text.now ≤ length trace.old }
     ensures { Puts trace.old at text.now trace.new result }
 {
-    let end = at + text.len();
-    trace[at..end].copy_from_slice(text);
-    end
+    for i in 0..text.len() {
+        trace[at + i] = text[i];
+    }
+    at + text.len()
 }
 
 // A macro's number, of one or two digits.

@@ -7,6 +7,7 @@ ghost use Rattle.form_state.specs.Access.{Holds, IsState, OfWork};
 
 use form_bytes::put_number;
 use form_state::{entry_at, letter_number};
+use pass_steps::copy;
 
 // The pointer of the stack i.
 pub(crate) fn set_pointer(state: &mut [u8], i: u8, n: u8)
@@ -39,7 +40,6 @@ pub(crate) fn set_entry(state: &mut [u8], i: u8, text: &[u8])
     ensures { OfWork state.old (λ w. Holds state.new (with_entry i text.now w).state) }
 {
     let at = entry_at(state, i);
-    let end = at + text.len();
-    state[at..end].copy_from_slice(text);
-    state[end..at + 100].fill(0);
+    copy(state, at, text);
+    state[at + text.len()..at + 100].fill(0);
 }

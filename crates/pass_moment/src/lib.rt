@@ -30,7 +30,9 @@ pub fn start(line: &[u8], p: usize, out: &mut [u8]) -> Moment
     requires { (p ≤ length line.now) × (p ≤ length out.old) }
     ensures { Starts line.now out.old out.new p result }
 {
-    out[..p].copy_from_slice(&line[..p]);
+    for i in 0..p {
+        out[i] = line[i];
+    }
     Moment {
         place: p,
         last: 1055,

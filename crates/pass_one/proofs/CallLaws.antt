@@ -1,10 +1,11 @@
 -- The calls of a pattern, and the marks that hold as long as these stand for the same texts.
-use Prim.Native.Nat.{ℕ, ◌*◌, ◌≤◌, ◌<◌}
+use Prim.Native.Nat.{ℕ, ◌+◌, ◌*◌, ◌≤◌, ◌<◌}
 use mathlib.Core.Path.{◌≡◌, refl, sym, ap, ◌∙◌, subst}
 use mathlib.Core.Bool.{true, false}
 use mathlib.Core.List.{List, [], ◌∷◌, ◌++◌, reverse, reverse_aux}
+use native.Mathlib.Nat.{zero-add}
 use native.Mathlib.Omega.{arith}
-use lib.ListN.{length, get_or, drop}
+use lib.ListN.{length, get_or, take, drop, set}
 use Rattle.macros.specs.Macro.{Member, Piece}
 use Rattle.macros.specs.Macro.Member.{single, range}
 use Rattle.macros.specs.Macro.Mark.{stack, counter}
@@ -16,8 +17,9 @@ use Rattle.form_table.specs.Form.{unit_code, unit_operand, member_items, members
 use Rattle.form_table.proofs.Octet.{closure_code_lem}
 use Rattle.form_table.proofs.Order.{oldest}
 use Rattle.lines.specs.State.{State, contents}
-use Rattle.form_state.specs.Access.{IsState}
+use Rattle.form_state.specs.Access.{IsState, replaced}
 use Rattle.form_state.proofs.Decode.{one_state_form}
+use Rattle.form_state.proofs.Replaced.{text_more, text_end, replaced_whole}
 use Rattle.pass_marks.specs.Marks.{cleared}
 use Rattle.pass_marks.proofs.MarkLaws.{cleared_zero, cleared_rest}
 use Rattle.pass_one.specs.Marks.{Sound, Agree}
@@ -154,3 +156,11 @@ module _ (items b : List ℕ) (es : List Piece) (p : IsPattern items es) (s : Is
         sees = λ before y. seen_self items b seen' es p s (omega arith) e;
         outside = ap (drop (66 * length items)) f ∙ cleared_rest marks (66 * length items);
       }
+
+-- BYTES THAT ARE COPIED
+
+pub copy_more : (b s t : List ℕ) (i : ℕ) → i < length t → length t ≡ length b → s ≡ replaced b 0 (take i t) → set s i (get_or t i 0) ≡ replaced b 0 (take (i + 1) t)
+copy_more b s t i h l e = ap (λ (j : ℕ). set s j (get_or t i 0)) (sym (zero-add i)) ∙ text_more b s t 0 i h (omega arith) e
+
+pub copy_done : (b s t : List ℕ) (i : ℕ) → length t ≤ i → length t ≡ length b → s ≡ replaced b 0 (take i t) → s ≡ t
+copy_done b s t i h l e = text_end b s t 0 i h e ∙ replaced_whole b t (sym l)

@@ -56,6 +56,16 @@ fn same_calls(items: &[u8], seen: &[u8], state: &[u8]) -> bool
     true
 }
 
+// The state under which marks are made.
+fn copy_state(state: &[u8], seen: &mut [u8])
+    requires { length state.now ≡ length seen.old }
+    ensures { seen.new ≡ state.now }
+{
+    for i in 0..state.len() {
+        seen[i] = state[i];
+    }
+}
+
 // After an occurrence: marks that were made under other texts are cleared. Where the pattern has no call nothing is seen.
 pub(crate) fn renew(items: &[u8], state: &[u8], seen: &mut [u8], marks: &mut [u8])
     requires { Renewing items.now state.now seen.old marks.old }
@@ -65,5 +75,5 @@ pub(crate) fn renew(items: &[u8], state: &[u8], seen: &mut [u8], marks: &mut [u8
         return;
     }
     clear(marks, 66 * items.len());
-    seen.copy_from_slice(state);
+    copy_state(state, seen);
 }

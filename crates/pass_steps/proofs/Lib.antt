@@ -1,3 +1,4 @@
 pub mod Stepping
 pub mod Codes
+pub mod Copying
 pub mod Handing

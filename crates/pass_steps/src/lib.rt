@@ -1,9 +1,29 @@
-// The text of a tag or of an entry, for what an action does.
+// For what an action does: a text stored at a place, the text of a tag or of an entry, and whether a code is one of several.
 #![tactic(auto)]
 
+ghost use Rattle.std.specs.Prelude.{◌≡◌, ◌+◌, ◌≤◌, length};
+ghost use Rattle.std.proofs.Math.Seq.{paste};
+ghost use Rattle.macros.specs.Macro.{within};
 ghost use Rattle.pass_steps.specs.Texts.{Lends, Hands};
 
 use form_state::entry;
+
+// The bytes of a text from a place on.
+pub fn copy(out: &mut [u8], at: usize, bytes: &[u8])
+    requires { at + length bytes.now ≤ length out.old }
+    ensures { out.new ≡ paste out.old at bytes.now (length bytes.now) }
+{
+    for i in 0..bytes.len() {
+        out[at + i] = bytes[i];
+    }
+}
+
+// Whether a code is one of those from a to z.
+pub fn is_within(a: u8, z: u8, b: u8) -> bool
+    ensures { result ≡ within a z b }
+{
+    (a <= b) & (b <= z)
+}
 
 // A part of the line: from a place up to another.
 #[derive(Clone, Copy, Debug, PartialEq, Eq)]

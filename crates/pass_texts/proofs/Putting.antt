@@ -5,8 +5,6 @@ use mathlib.Core.List.{List, [], ◌∷◌, ◌++◌, append_assoc, append-nil}
 use native.Mathlib.Omega.{arith}
 use borrow.Author.Tests.{le-leb, lt-leb}
 use lib.ListN.{length, take, drop}
-use borrow.Rule.Slice.PartMut.{put_mid}
-use Rattle.std.proofs.lemmas.Slice.{put_mid-paste}
 use lib.Seq.{paste, take-paste, drop-paste, take-length}
 use Rattle.macros.specs.Bounds.{most_line_bytes}
 use Rattle.lines.specs.Replacing.{unless, onto, puts}
@@ -46,11 +44,9 @@ put_refused {bytes} {out} {k} r h =
           };
     }
 
-pub put_made : {bytes out y : List ℕ} {k j : ℕ} → Room out k → length bytes ≤ 1054 - k → y ≡ bytes → j ≡ length bytes → Inserts bytes out k (put_mid k j out y) (Ok (k + length bytes))
+pub put_made : {bytes out out₁ : List ℕ} {k : ℕ} → Room out k → length bytes ≤ 1054 - k → out₁ ≡ paste out k bytes (length bytes) → Inserts bytes out k out₁ (Ok (k + length bytes))
 unfolding puts unless text_of
-put_made {bytes} {out} {y} {k} {j} r h same n =
-    let out₁ : List ℕ = put_mid k j out y in
-    let e : out₁ ≡ paste out k bytes (length bytes) = put_mid-paste k j out y bytes (length bytes) same (sym n) refl in
+put_made {bytes} {out} {out₁} {k} r h e =
     let f = r.fits in
     let g = r.room in
     let taken : take (k + length bytes) out₁ ≡ take k out ++ bytes =

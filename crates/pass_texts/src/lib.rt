@@ -13,7 +13,7 @@ ghost use Rattle.pass_steps.specs.Moments.{Room, Inserts, Does};
 ghost use Rattle.pass_texts.specs.Digits.{Digits, Figures};
 
 use form_state::value;
-use pass_steps::{Span, Text, part};
+use pass_steps::{Span, Text, copy, part};
 use refusals::{WorkError, WorkFault};
 
 // A text joins the new line, which has size bytes. 32: "the new line's 1,055th byte".
@@ -28,9 +28,8 @@ fn put(out: &mut [u8], size: usize, bytes: &[u8]) -> Result<usize, WorkError>
             size,
         });
     }
-    let end = size + bytes.len();
-    out[size..end].copy_from_slice(bytes);
-    Ok(end)
+    copy(out, size, bytes);
+    Ok(size + bytes.len())
 }
 
 // The digit of a number below 10.
@@ -72,9 +71,8 @@ fn put_figures(text: &mut [u8], at: usize, v: u32) -> usize
 {
     let mut figures = [0u8; 9];
     let n = put_digits(&mut figures, v);
-    let end = at + n;
-    text[at..end].copy_from_slice(&figures[..n]);
-    end
+    copy(text, at, &figures[..n]);
+    at + n
 }
 
 // The quotient, a space and the remainder that `#(i:n)` stands for join the new line.

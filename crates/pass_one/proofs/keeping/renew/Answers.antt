@@ -23,12 +23,12 @@ returns-then-is_empty c =
           renew_same _ _ c.requires.pattern.0 c.requires.pattern.1 c.requires.state c.args.seen.now c.args.marks.now (omega arith) (w.same_calls.ensures w.if-same_calls.true)
     ]
 
-pub copy_from_slice-requires : goal.copy_from_slice-requires
-copy_from_slice-requires c =
+pub copy_state-requires : goal.copy_state-requires
+copy_state-requires c =
     let n = eqb-false (length c.args.seen.now) 0 (sym c.if-is_empty.ensures) in
-    is_long_lem _ (c.requires.old (omega arith)) ∙ sym (is_long_lem _ c.requires.state)
+    is_long_lem _ c.requires.state ∙ sym (is_long_lem _ (c.requires.old (omega arith)))
 
 pub returns : goal.returns
 returns c =
     let n = eqb-false (length c.args.seen.now) 0 (sym c.if-is_empty.ensures) in
-    renew_all _ _ c.requires.pattern.0 c.requires.pattern.1 c.requires.state c.args.seen.now _ c.args.marks.now _ (omega arith) c.copy_from_slice.ensures.len c.copy_from_slice.ensures.after c.clear.ensures
+    renew_all _ _ c.requires.pattern.0 c.requires.pattern.1 c.requires.state c.args.seen.now _ c.args.marks.now _ (omega arith) c.copy_state.auto.seen c.copy_state.ensures c.clear.ensures
