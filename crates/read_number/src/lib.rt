@@ -38,7 +38,11 @@ pub fn digits(s: &[u8], a: usize, first: usize, spaces: bool) -> Result<Number, 
     let mut at = first;
     let mut value = None;
     loop {
-        let (b, q) = next_byte(s, a, at)?;
+        // `?` would hand on the refusal out of reach of an edit of its fault or place.
+        let (b, q) = match next_byte(s, a, at) {
+            Ok(found) => found,
+            Err(e) => return Err(e),
+        };
         if is_digit(b) {
             value = Some(with_digit(value.unwrap_or(0), b));
         } else if b != b' ' || !spaces {

@@ -3,23 +3,23 @@ use mathlib.Core.Path.{refl, sym, ◌∙◌}
 use native.Mathlib.Omega.{arith}
 use Rattle.std.specs.Prelude.{◌≡◌}
 use Rattle.std.specs.Option.{unwrap_or}
-use Rattle.read_scan.proofs.Laws.{handed_on, reached_behind}
+use Rattle.read_scan.proofs.Laws.{reached_behind}
 use Rattle.read_number.proofs.Numbers.{digits_none, counts_fault, counts_end, byte_found, digits_space, digits_next}
 use Rattle.read_number.proofs.digits.Goals as goal
 use Rattle.read_number.proofs.digits.Goals.{then-b-ne32-via-then-b-ne32, then-b-ne32-via-else-b-ne32+then-not-spaces, then-is_digit, else-is_digit+else-b-ne32+else-not-spaces}
 
-pub loop-b-init : goal.loop-b-init
-loop-b-init c = (omega arith, (omega arith, omega arith, omega arith), tt, digits_none _ _ _ _)
+pub loop-found-init : goal.loop-found-init
+loop-found-init c = (omega arith, (omega arith, omega arith, omega arith), tt, digits_none _ _ _ _)
 
-pub returns-in_err-b : goal.returns-in_err-b
-returns-in_err-b c =
-    let loop = c.loop-b in
-    rw (handed_on c.from_residual.ensures) (counts_fault loop.invariant.3 loop.invariant.0 c.in_err-b.ensures refl)
+pub returns-in-Err : goal.returns-in-Err
+returns-in-Err c =
+    let loop = c.loop-found in
+    counts_fault loop.invariant.3 loop.invariant.0 c.in-Err.ensures refl
 
 pub returns-then-b-ne32 : goal.returns-then-b-ne32
 returns-then-b-ne32 c =
-    let loop = c.loop-b in
-    counts_end loop.invariant.3 loop.invariant.0 c.next_byte.ensures c.in_ok-b.was loop.invariant.2 (
+    let loop = c.loop-found in
+    counts_end loop.invariant.3 loop.invariant.0 c.next_byte.ensures c.in-Ok.is loop.invariant.2 (
       (sym c.is_digit.ensures ∙ c.if-is_digit.false),
       λ e f.
           elim c.then-b-ne32.branch [
@@ -28,10 +28,10 @@ returns-then-b-ne32 c =
           ],
     )
 
-pub loop-b-preserved : goal.loop-b-preserved
-loop-b-preserved c =
-    let loop = c.loop-b in
-    let h = (byte_found loop.invariant.3 loop.invariant.0 c.next_byte.ensures c.in_ok-b.was).found in
+pub loop-found-preserved : goal.loop-found-preserved
+loop-found-preserved c =
+    let loop = c.loop-found in
+    let h = (byte_found loop.invariant.3 loop.invariant.0 c.next_byte.ensures c.in-Ok.is).found in
     let x = h.1.stands in
     elim c.if-is_digit.branch [
       | then-is_digit w ↦
@@ -40,13 +40,13 @@ loop-b-preserved c =
             omega (arith, h.0, loop.invariant.0),
             reached_behind x,
             w.with_digit.ensures.1,
-            digits_next loop.invariant.3 loop.invariant.0 c.next_byte.ensures c.in_ok-b.was _ (sym c.is_digit.ensures ∙ w.if-is_digit.true) (rw e w.with_digit.ensures.0),
+            digits_next loop.invariant.3 loop.invariant.0 c.next_byte.ensures c.in-Ok.is _ (sym c.is_digit.ensures ∙ w.if-is_digit.true) (rw e w.with_digit.ensures.0),
           )
       | else-is_digit+else-b-ne32+else-not-spaces w ↦
           rw w.value-is (
             omega (arith, h.0, loop.invariant.0),
             reached_behind x,
             loop.invariant.2,
-            digits_space loop.invariant.3 loop.invariant.0 c.next_byte.ensures c.in_ok-b.was w.if-b-ne32.false w.if-not-spaces.false,
+            digits_space loop.invariant.3 loop.invariant.0 c.next_byte.ensures c.in-Ok.is w.if-b-ne32.false w.if-not-spaces.false,
           )
     ]
