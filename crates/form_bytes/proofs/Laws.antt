@@ -31,3 +31,8 @@ pub put_four : (out ys : List ℕ) (at k n : ℕ) → k ≡ 4 → n < 4294967296
     → put_mid at k out ys ≡ take at out ++ (four n ++ drop (at + 4) out)
 unfolding four
 put_four out ys at k n f h e = let last : n / 16777216 % 256 ≡ n / 16777216 = omega arith in rw (f, e, last, drop-drop 4 at out)
+
+-- and those of an equal number
+pub put_equal : (out ys : List ℕ) (at k m n : ℕ) → k ≡ 4 → ys ≡ m % 256 ∷ m / 256 % 256 ∷ m / 65536 % 256 ∷ m / 16777216 % 256 ∷ [] → m ≡ n → n < 4294967296
+    → put_mid at k out ys ≡ take at out ++ (four n ++ drop (at + 4) out)
+put_equal out ys at k m n f e g h = put_four out ys at k n f h (rw (← g) e)

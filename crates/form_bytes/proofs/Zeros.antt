@@ -37,6 +37,10 @@ more (y ∷ ys) x = ap (λ (t : Bool). eqb y 0 && t) (more ys x) ∙ and_swap (e
 pub zero_more : (s : List ℕ) (x a : ℕ) → eqb a 0 ≡ all_zero s → eqb (bit_or a x) 0 ≡ all_zero (s ++ (x ∷ []))
 zero_more s x a e = both a x (ℕ_discrete a 0) (ℕ_discrete x 0) ∙ ap (λ (t : Bool). t && eqb x 0) e ∙ sym (more s x)
 
+-- all that stands from the front on
+pub from_front : (s : List ℕ) (n k : ℕ) → k ≡ 0 → length s ≤ n → all_zero (take n (drop k s)) ≡ all_zero s
+from_front s n k e h = rw (e, take_all n s h) refl
+
 -- FOUR PARTS
 
 -- each byte of four parts is zero
