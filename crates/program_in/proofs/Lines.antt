@@ -64,6 +64,16 @@ module _ (line s : List ℕ) (held end : ℕ) (h : held ≤ length line) (e : en
   pub keeps_behind : Keeps line held s (take held line ++ (take (end - held) s ++ drop (end - held) (drop held line))) end
   keeps_behind = record { goes = kept_behind }
 
+  -- by its parts: before the bytes, the bytes, and behind them
+  pub keeps_parts : {t : List ℕ} → take held t ≡ take held line → take (end - held) (drop held t) ≡ take (end - held) s → drop end t ≡ drop end line → Keeps line held s t end
+  keeps_parts {t = t} f g b =
+      let n : held + (end - held) ≡ end = omega (arith, h, e) in
+      let d : drop (end - held) (drop held t) ≡ drop (end - held) (drop held line) = rw (drop-drop (end - held) held t, drop-drop (end - held) held line, n) b in
+      let a : t ≡ take held t ++ drop held t = sym (take-append-drop held t) in
+      let c : drop held t ≡ take (end - held) (drop held t) ++ drop (end - held) (drop held t) = sym (take-append-drop (end - held) (drop held t)) in
+      let r : t ≡ take held line ++ (take (end - held) s ++ drop (end - held) (drop held line)) = cc in
+      rw r keeps_behind
+
 pub keeps_none : {line : List ℕ} {held : ℕ} → Keeps line held [] line held
 keeps_none = record { goes = λ m t k. rw (append-nil t) k }
 
