@@ -97,7 +97,11 @@ fn text_items(
     ensures { StoreFrom s.now a at out.old out.new n i m result }
 {
     let (q, e) = put_text(s, out, a, at, n + 4)?;
-    let (b, z) = call_byte(s, a, q)?;
+    // `?` would hand on the refusal out of reach of an edit of its fault or place.
+    let (b, z) = match call_byte(s, a, q) {
+        Ok(found) => found,
+        Err(e) => return Err(e),
+    };
     if b != b')' {
         return Err(wrong_byte(b).at(z));
     }

@@ -46,6 +46,7 @@ fn add_text<S: Sink>(sink: &mut S, first: usize, text: &[u8]) -> usize
 }
 
 // What stands between a letter and its number.
+#[tactic(auto, unfolding(crate::specs::Items::number_sign, macros::specs::Macro::pick))]
 fn number_sign(code: u8) -> u8
     ensures { result ≡ number_sign code }
 {
