@@ -3,7 +3,10 @@
 use mathlib.Core.Path.{◌≡◌, refl, ap, ◌∙◌}
 use Prim.Native.Nat.{ℕ}
 use mathlib.Core.List.{List}
+use mathlib.Core.Logic.{◌⊎◌, inl, inr}
 use Rattle.std.specs.Prelude.{Result, Ok, Err}
+use Rattle.macros.specs.Refusals.{line_number}
+use Rattle.words.specs.Refusal.{word_number}
 use Rattle.words.specs.Look.{look_up, looked_number, looked_words, looked_place}
 use Rattle.word_find.specs.Contract.{looked_of}
 use Rattle.word_find.specs.declared.Found.{Found}
@@ -12,6 +15,13 @@ use Rattle.word_find.specs.declared.WordFault.TheVariants.{LineTooLong, BadByte,
 use Rattle.line_answer.specs.declared.Answer.{Answer}
 use Rattle.line_answer.specs.Replies.{reply}
 use Rattle.m7.specs.Words.{words_reply, looks_up}
+
+-- a fault's number is one of three
+pub fault_numbers : (w : WordFault) → (looked_number (looked_of (Err w)) ≡ 21) ⊎ ((looked_number (looked_of (Err w)) ≡ 22) ⊎ (looked_number (looked_of (Err w)) ≡ 41))
+unfolding looked_number line_number word_number
+fault_numbers LineTooLong = inl refl
+fault_numbers BadByte = inr (inl refl)
+fault_numbers BadPattern = inr (inr refl)
 
 module _ (t p : List ℕ) where
   looked : (x : Result Found WordFault) → looked_of x ≡ look_up t p → words_reply (looked_of x) ≡ looks_up t p
