@@ -3,5 +3,10 @@
 
 pub mod mend;
 
-// The bytes of a slot.
+// The memory of the faults: their count, then number and place of each.
+pub(crate) const FAULTS_BYTES: usize = 2052;
+
+// A table's memory, and the bytes of a slot.
+pub(crate) const TABLE_BYTES: usize = 98304;
+
 pub(crate) const SLOT_BYTES: usize = 1024;

@@ -5,7 +5,8 @@ ghost use Rattle.form_table.specs.Form.{table_bytes};
 ghost use Rattle.form_faults.specs.Form.{faults_bytes};
 ghost use Rattle.read_past.specs.Past.{Standing, Moved, Answered, ReadsPast};
 
-use crate::SLOT_BYTES;
+use crate::{FAULTS_BYTES, SLOT_BYTES, TABLE_BYTES};
+use form_items::clear;
 use read_fault::{PastError, Progress, note};
 use read_file::file::next_slot;
 use read_start::start::whole_file;
@@ -56,8 +57,8 @@ pub fn read_past(file: &[u8], table: &mut [u8], faults: &mut [u8]) -> Result<usi
     whole_file(file)?;
     let past = from_start(file, table, faults);
     if past.is_err() {
-        table.fill(0);
-        faults.fill(0);
+        clear(table, 0, TABLE_BYTES);
+        clear(faults, 0, FAULTS_BYTES);
     }
     past
 }

@@ -1,5 +1,7 @@
-use Rattle.std.proofs.Common.{refl, ap, ◌∙◌, length, ℕ}
+use native.Mathlib.Omega.{arith}
+use Rattle.std.proofs.Common.{ap, sym, ◌∙◌, length, ℕ}
 use lib.ListN.{length-replicate}
+use Rattle.form_items.proofs.Writing.{wrote_all}
 use Rattle.read_scan.proofs.Laws.{handed_on}
 use Rattle.read_file.proofs.Restoring.{plain_file}
 use Rattle.read_past.proofs.Closing.{past_kept, past_refused, past_unread}
@@ -12,12 +14,18 @@ returns-in_err-whole_file c =
 pub from_start-past-requires : goal.from_start-past-requires
 from_start-past-requires c = ((plain_file _ c.in_ok-whole_file.ensures).0, c.requires.0, c.requires.1)
 
+pub clear-requires : goal.clear-requires
+clear-requires c = omega (arith, c.from_start-past.auto.table, ap length c.requires.0, length-replicate {A = ℕ} 98304 0)
+
+pub clear-requires-then-is_err : goal.clear-requires-then-is_err
+clear-requires-then-is_err c = omega (arith, c.from_start-past.auto.faults, ap length c.requires.1, length-replicate {A = ℕ} 2052 0)
+
 pub returns-then-is_err : goal.returns-then-is_err
 returns-then-is_err c =
     let p = plain_file _ c.in_ok-whole_file.ensures in
     past_refused _ p.0 p.1 _ _ _ _ c.from_start-past.result c.if-is_err.ensures.negation c.from_start-past.ensures
-    (c.fill.ensures.after (λ y e. e) ∙ rw (c.from_start-past.auto.table ∙ (ap length c.requires.0 ∙ length-replicate {A = ℕ} 98304 0)) refl)
-    (c.fill-then-is_err.ensures.after (λ y e. e) ∙ rw (c.from_start-past.auto.faults ∙ (ap length c.requires.1 ∙ length-replicate {A = ℕ} 2052 0)) refl)
+    (wrote_all c.clear.ensures (length-replicate {A = ℕ} 98304 0 ∙ sym (c.clear.auto.out ∙ (c.from_start-past.auto.table ∙ (ap length c.requires.0 ∙ length-replicate {A = ℕ} 98304 0)))))
+    (wrote_all c.clear-then-is_err.ensures (length-replicate {A = ℕ} 2052 0 ∙ sym (c.clear-then-is_err.auto.out ∙ (c.from_start-past.auto.faults ∙ (ap length c.requires.1 ∙ length-replicate {A = ℕ} 2052 0)))))
 
 pub returns-else-is_err : goal.returns-else-is_err
 returns-else-is_err c =
